@@ -1,0 +1,3 @@
+pub mod Cause
+pub mod Told
+pub mod Written

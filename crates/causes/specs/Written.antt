@@ -1,0 +1,15 @@
+-- What one who tells the bytes that he holds has after a write, or after several.
+use Rattle.std.specs.Prelude.{ℕ, ◌≡◌, List, ◌++◌}
+use Rattle.std.specs.declared.option.Option.{Option}
+use Rattle.std.specs.Io.KnownBytes.{Appends}
+
+-- Of all that is to be written this is left.
+pub record Leaves (old new : Option (List ℕ)) (all left : List ℕ) : Type 0 where
+  pub written : List ℕ
+  pub appended : Appends old new written
+  pub whole : written ++ left ≡ all
+
+-- a front of the bytes was written
+pub record WritesPart (old new : Option (List ℕ)) (all : List ℕ) : Type 0 where
+  pub left : List ℕ
+  pub leaves : Leaves old new all left
