@@ -1,0 +1,9 @@
+pub mod SlotReading
+pub mod SlotText
+pub mod Temperature
+pub mod EmptySlot
+pub mod Output
+pub mod PageText
+pub mod Report
+pub mod Command
+pub mod Run
