@@ -1,0 +1,116 @@
+ghost use Rattle.std.specs.Prelude.{◌≡◌, ◌<◌, ℕ, IfSome};
+ghost use Rattle.std.specs.Option.{SomeIff};
+ghost use Rattle.station_base.specs.Fields.{name_of, unit_of};
+
+use std::marker::Model;
+
+/// How many fields an archive record of revision B has.
+pub const FIELD_COUNT: usize = 37;
+
+// The name and the unit of each field, in the order of their numbers.
+static TEXTS: [(&str, &str); FIELD_COUNT] = [
+    ("outTemp", "0.1 F"),
+    ("highOutTemp", "0.1 F"),
+    ("lowOutTemp", "0.1 F"),
+    ("rain", "clicks"),
+    ("highRainRate", "clicks per hour"),
+    ("barometer", "0.001 inHg"),
+    ("radiation", "W/m2"),
+    ("windSamples", "count"),
+    ("inTemp", "0.1 F"),
+    ("inHumidity", "percent"),
+    ("outHumidity", "percent"),
+    ("windSpeed", "mph"),
+    ("windGust", "mph"),
+    ("windGustDir", "code"),
+    ("windDir", "code"),
+    ("UV", "0.1 index"),
+    ("ET", "0.001 inch"),
+    ("highRadiation", "W/m2"),
+    ("highUV", "0.1 index"),
+    ("forecastRule", "code"),
+    ("leafTemp1", "F"),
+    ("leafTemp2", "F"),
+    ("leafWet1", "scale"),
+    ("leafWet2", "scale"),
+    ("soilTemp1", "F"),
+    ("soilTemp2", "F"),
+    ("soilTemp3", "F"),
+    ("soilTemp4", "F"),
+    ("extraHumid1", "percent"),
+    ("extraHumid2", "percent"),
+    ("extraTemp1", "F"),
+    ("extraTemp2", "F"),
+    ("extraTemp3", "F"),
+    ("soilMoist1", "centibar"),
+    ("soilMoist2", "centibar"),
+    ("soilMoist3", "centibar"),
+    ("soilMoist4", "centibar"),
+];
+
+/// A field of an archive record, by its number from 0 to 36 in the order of this project's table.
+#[derive(Clone, Copy, Debug, PartialEq, Eq, PartialOrd, Ord, Hash)]
+pub struct FieldId {
+    index: usize,
+}
+
+impl Model for FieldId {
+    ghost use Rattle.std.specs.Prelude.{ℕ, ◌<◌};
+
+    ghost Value = { ℕ };
+
+    ghost view = { λ f. f.index };
+
+    ghost invariant = { λ f. f.index < 37 };
+
+    ghost inverse = { λ index. record { index = index } };
+}
+
+impl FieldId {
+    /// The field of that number, where it is below 37.
+    pub fn from_index(index: usize) -> Option<FieldId>
+        ensures { SomeIff result (index < 37) index }
+    {
+        if index < FIELD_COUNT {
+            Some(FieldId { index })
+        } else {
+            None
+        }
+    }
+
+    /// The field that is called so, in exactly this spelling.
+    pub fn by_name(text: &str) -> Option<FieldId>
+        ensures found { IfSome result (λ field. name_of field ≡ text.now) }
+        ensures only { (field : ℕ) → field < 37 → name_of field ≡ text.now → result ≡ Some field }
+    {
+        for index in 0..FIELD_COUNT {
+            let field = FieldId { index };
+            if field.name() == text {
+                return Some(field);
+            }
+        }
+        None
+    }
+
+    /// The number of the field.
+    pub fn index(&self) -> usize
+        ensures index { result ≡ self.now }
+        ensures range { result < 37 }
+    {
+        self.index
+    }
+
+    /// What the field is called in schedules, settings and printed rows.
+    pub fn name(&self) -> &'static str
+        ensures { result.now ≡ name_of self.now }
+    {
+        TEXTS[self.index].0
+    }
+
+    /// In what the field is counted.
+    pub fn unit(&self) -> &'static str
+        ensures { result.now ≡ unit_of self.now }
+    {
+        TEXTS[self.index].1
+    }
+}
