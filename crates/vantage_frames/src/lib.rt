@@ -1,6 +1,21 @@
-//! The frames of the Davis console protocol: pages, and the slots in them.
+//! The frames and command lines of the Davis console protocol.
 #![tactic(auto)]
 
+mod command;
+mod header;
+mod names;
+mod numeral;
 mod page;
+mod reading;
+mod stamp;
+#[cfg(test)]
+mod tests;
+mod words;
+mod writing;
 
+pub use command::{Command, EEPROM_SIZE, MOST_PACKETS};
+pub use header::{HEADER_SIZE, HeaderRead, LAST_PLACE, MOST_PAGES, read_header, write_header};
 pub use page::{PAGE_SIZE, Page, PageRead, SLOT_SIZE, SLOTS, read_page};
+pub use reading::read_command;
+pub use stamp::{STAMP_FRAME_SIZE, stamp_frame};
+pub use writing::{LINE_ROOM, write_command};

@@ -1,0 +1,5 @@
+pub mod Digits
+pub mod Passing
+pub mod Spans
+pub mod Lines
+pub mod Written

@@ -1,0 +1,75 @@
+-- The command that a line is read as.
+use Rattle.std.specs.Prelude.{ℕ, ◌+◌, ◌==◌, Bool, nat_le, nat_lt, ◌&&◌, not, if◌then◌else◌, Some, None, List, [], ◌∷◌, ◌++◌, codes, length, take, drop, slice_index, option_map, position}
+use Rattle.std.specs.declared.option.Option.{Option}
+use Rattle.std.specs.Str.{bytes_eq}
+use Rattle.std.specs.Option.{option_or}
+use Rattle.station_base.specs.Period.{is_period}
+use Rattle.vantage_frames.specs.declared.command.Command.{Command}
+use Rattle.vantage_frames.specs.declared.command.Command.TheVariants.{Test, Kind, LoopFor, DumpAfter, EepromRead, EepromWrite, EepromAll, TimeGet, TimeSet, SetPeriod, ClearLog}
+use Rattle.vantage_frames.specs.declared.command.TheConstants.{EEPROM_SIZE}
+use Rattle.vantage_frames.specs.Numeral.{number_in}
+use Rattle.vantage_frames.specs.Line.{IsLineOf}
+
+-- a line is read as the command of which it is a line, or as nothing where it is a line of none
+abbrev pub ReadsAs : List ℕ → Option Command → Type 0
+ReadsAs line (Some command) = IsLineOf command line
+ReadsAs line None = (command : Command) → IsLineOf command line → ⊥
+
+infixl 10 ◌>>=◌
+-- what is made of the value, where there is one
+abbrev pub ◌>>=◌ : {A B : Type 0} → Option A → (A → Option B) → Option B
+None >>= f = None
+(Some x) >>= f = f x
+
+-- the value, where it passes
+abbrev pub only_if : {A : Type 0} → Bool → A → Option A
+only_if passes value = if passes then Some value else None
+
+-- the line begins with these bytes
+abbrev pub begins_with : List ℕ → List ℕ → Bool
+begins_with line name = bytes_eq (take (length name) line) name
+
+-- the command whose name stands alone
+unfoldable pub plain_command_of : List ℕ → Option Command
+plain_command_of line =
+    if bytes_eq line (codes "TEST") then Some Test
+    else if bytes_eq line (codes "WRD" ++ 0x12 ∷ 0x4D ∷ []) then Some Kind
+    else if bytes_eq line (codes "DMPAFT") then Some DumpAfter
+    else if bytes_eq line (codes "GETEE") then Some EepromAll
+    else if bytes_eq line (codes "GETTIME") then Some TimeGet
+    else if bytes_eq line (codes "SETTIME") then Some TimeSet
+    else if bytes_eq line (codes "CLRLOG") then Some ClearLog
+    else None
+
+-- so many packets, behind the name
+unfoldable pub packets_in : List ℕ → Option ℕ
+packets_in digits = do
+  packets ← number_in 10 4 digits
+  only_if (nat_lt 0 packets) packets
+
+-- place and count, behind the name
+unfoldable pub bytes_in : List ℕ → Option (ℕ × ℕ)
+bytes_in text = do
+  space ← position (λ byte. byte == 32) text
+  at ← number_in 16 3 (take space text)
+  count ← number_in 16 2 (drop (space + 1) text)
+  only_if (nat_lt 0 count && nat_le (at + count) EEPROM_SIZE) (at, count)
+
+-- a period, behind the name
+unfoldable pub period_in : List ℕ → Option ℕ
+period_in digits = do
+  minutes ← number_in 10 3 digits
+  only_if (not (slice_index digits 0 == 48) && is_period minutes) minutes
+
+-- the command whose name has numbers behind it
+unfoldable pub numbered_command_of : List ℕ → Option Command
+numbered_command_of line =
+    if begins_with line (codes "LOOP ") then option_map LoopFor (packets_in (drop 5 line))
+    else if begins_with line (codes "EEBRD ") then option_map (λ bytes. EepromRead bytes.0 bytes.1) (bytes_in (drop 6 line))
+    else if begins_with line (codes "EEBWR ") then option_map (λ bytes. EepromWrite bytes.0 bytes.1) (bytes_in (drop 6 line))
+    else if begins_with line (codes "SETPER ") then option_map SetPeriod (period_in (drop 7 line))
+    else None
+
+-- the one command of which the line is one, as `IsLineOf` says
+unfoldable pub command_of : List ℕ → Option Command
+command_of line = option_or (plain_command_of line) (numbered_command_of line)

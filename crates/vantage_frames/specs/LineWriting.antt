@@ -1,0 +1,50 @@
+-- The line that is written for a command.
+use Rattle.std.specs.Prelude.{ℕ, ◌+◌, ◌/◌, ◌%◌, ◌≤◌, true, nat_lt, if◌then◌else◌, List, [], ◌∷◌, ◌++◌, codes}
+use Rattle.std.specs.Fmt.{decimal, digit_glyph}
+use Rattle.vantage_frames.specs.declared.command.Command.{Command}
+use Rattle.vantage_frames.specs.declared.command.Command.TheVariants.{Test, Kind, LoopFor, DumpAfter, EepromRead, EepromWrite, EepromAll, TimeGet, TimeSet, SetPeriod, ClearLog}
+use Rattle.vantage_frames.specs.declared.command.TheConstants.{EEPROM_SIZE, MOST_PACKETS}
+
+-- a place and a count of bytes within the EEPROM
+abbrev pub AreBytes : ℕ → ℕ → Type 0
+AreBytes place count = (1 ≤ count) × (place + count ≤ EEPROM_SIZE)
+
+-- a line can say the numbers of the command
+abbrev pub CanBeSaid : Command → Type 0
+CanBeSaid Test = Unit {0}
+CanBeSaid Kind = Unit {0}
+CanBeSaid (LoopFor packets) = (1 ≤ packets) × (packets ≤ MOST_PACKETS)
+CanBeSaid DumpAfter = Unit {0}
+CanBeSaid (EepromRead at count) = AreBytes at count
+CanBeSaid (EepromWrite at count) = AreBytes at count
+CanBeSaid EepromAll = Unit {0}
+CanBeSaid TimeGet = Unit {0}
+CanBeSaid TimeSet = Unit {0}
+CanBeSaid (SetPeriod minutes) = Unit {0}
+CanBeSaid ClearLog = Unit {0}
+
+-- two upper-case hexadecimal digits
+abbrev pub two_digits : ℕ → List ℕ
+two_digits n = digit_glyph true (n / 16) ∷ digit_glyph true (n % 16) ∷ []
+
+-- two such digits, or three where a place needs them
+abbrev pub place_text : ℕ → List ℕ
+place_text place = if nat_lt place 256 then two_digits place else digit_glyph true (place / 256) ∷ two_digits (place % 256)
+
+-- a place and a count, one space between them
+unfoldable pub bytes_text : ℕ → ℕ → List ℕ
+bytes_text place count = place_text place ++ 32 ∷ two_digits count
+
+-- the line of a command, without the LF that ends it
+unfoldable pub line_of : Command → List ℕ
+line_of Test = codes "TEST"
+line_of Kind = codes "WRD" ++ 0x12 ∷ 0x4D ∷ []
+line_of (LoopFor packets) = codes "LOOP " ++ decimal packets
+line_of DumpAfter = codes "DMPAFT"
+line_of (EepromRead at count) = codes "EEBRD " ++ bytes_text at count
+line_of (EepromWrite at count) = codes "EEBWR " ++ bytes_text at count
+line_of EepromAll = codes "GETEE"
+line_of TimeGet = codes "GETTIME"
+line_of TimeSet = codes "SETTIME"
+line_of (SetPeriod minutes) = codes "SETPER " ++ decimal minutes
+line_of ClearLog = codes "CLRLOG"
