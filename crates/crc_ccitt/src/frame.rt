@@ -1,0 +1,39 @@
+ghost use Rattle.std.specs.Prelude.{◌≡◌, ◌≤◌, ◌-◌, ◌↔◌, IsTrue, length, take};
+ghost use Rattle.crc_ccitt.specs.Check.{check, sealed};
+
+use crate::sliced::crc;
+
+/// Whether the bytes end with the check of those before, the high byte first.
+pub fn is_good(frame: &[u8]) -> bool
+    ensures { IsTrue result ↔ (check frame.now ≡ 0) }
+{
+    crc(frame) == 0
+}
+
+/// Makes the last two bytes the check of those before, the high byte first. Nothing else changes.
+pub fn seal(frame: &mut [u8])
+    requires { 2 ≤ length frame.old }
+    ensures sealed { frame.new ≡ sealed (take (length frame.old - 2) frame.old) }
+    ensures good { check frame.new ≡ 0 }
+{
+    let (body, check) = frame.split_at_mut(frame.len() - 2);
+    check.copy_from_slice(&crc(body).to_be_bytes());
+}
+
+#[cfg(test)]
+mod tests {
+    use super::*;
+
+    #[test]
+    fn known_checks_are_computed_and_sealed(rt: HostRuntime) {
+        assert_eq!(rt; crc(b""), 0);
+        assert_eq!(rt; crc(b"123456789"), 0x31C3);
+        assert_eq!(rt; crc(&[0xC6, 0xCE, 0xA2, 0x03]), 0xE2B4);
+        assert_eq!(rt; crc(&[0x05]), 0x50A5);
+        let mut frame = [0x05, 0, 0];
+        seal(&mut frame);
+        assert_eq!(rt; frame, [0x05, 0x50, 0xA5]);
+        assert!(rt; is_good(&frame));
+        assert!(rt; !is_good(b"5"));
+    }
+}

@@ -1,0 +1,73 @@
+ghost use Rattle.std.specs.Prelude.{◌≡◌, ℕ, ◌<◌, fold};
+ghost use Rattle.std.specs.List.{concat};
+ghost use Rattle.crc_ccitt.specs.Tables.{entry};
+ghost use Rattle.crc_ccitt.specs.Check.{check, bits, IsRemainder, message_bits, divided};
+
+use crate::table::TABLES;
+
+/// The check of the bytes: CRC-CCITT of polynomial 0x1021, start value 0, most significant bit first and no final
+/// change (Davis serial manual, "CRC calculation").
+pub fn crc(bytes: &[u8]) -> u16
+    ensures check { result ≡ check bytes.now }
+    ensures remainder { IsRemainder (message_bits bytes.now) result }
+    ensures only { (rest : ℕ) → IsRemainder (message_bits bytes.now) rest → rest ≡ result }
+{
+    let (chunks, bytes) = bytes.as_chunks::<8>();
+    after_bytes(after_chunks(chunks), bytes)
+}
+
+// The remainder after chunks of eight bytes.
+fn after_chunks(chunks: &[[u8; 8]]) -> u16
+    ensures { result ≡ fold divided 0 (message_bits (concat chunks.now)) }
+{
+    let mut rest = 0;
+    for chunk in chunks {
+        rest = after_chunk(rest, chunk);
+    }
+    rest
+}
+
+// The remainder after more bytes.
+fn after_bytes(start: u16, bytes: &[u8]) -> u16
+    ensures { result ≡ fold divided start (message_bits bytes.now) }
+{
+    let mut rest = start;
+    for byte in bytes {
+        rest = after_byte(rest, *byte);
+    }
+    rest
+}
+
+// The remainder after one more byte.
+fn after_byte(rest: u16, byte: u8) -> u16
+    ensures { result ≡ fold divided rest (bits 8 byte) }
+{
+    let high = (rest >> 8) as u8;
+    (rest << 8) ^ table_entry(0, high ^ byte)
+}
+
+// The remainder after eight more bytes, each of which has a table of its own.
+fn after_chunk(rest: u16, chunk: &[u8; 8]) -> u16
+    ensures { result ≡ fold divided rest (message_bits chunk.now) }
+{
+    let high = (rest >> 8) as u8;
+    let low = (rest % 256) as u8;
+    table_entry(7, chunk[0] ^ high)
+        ^ table_entry(6, chunk[1] ^ low)
+        ^ table_entry(5, chunk[2])
+        ^ table_entry(4, chunk[3])
+        ^ table_entry(3, chunk[4])
+        ^ table_entry(2, chunk[5])
+        ^ table_entry(1, chunk[6])
+        ^ table_entry(0, chunk[7])
+}
+
+// The check of a byte with so many bytes of zeros behind it.
+#[inline]
+#[tactic(auto, unfolding(crate::specs::Tables::entry))]
+fn table_entry(zeros: usize, byte: u8) -> u16
+    requires { zeros < 8 }
+    ensures { result ≡ entry zeros byte }
+{
+    TABLES[zeros][byte as usize]
+}
