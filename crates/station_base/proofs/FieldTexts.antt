@@ -1,5 +1,6 @@
 -- The texts of the fields, as the code has them.
-use Rattle.std.proofs.Common.{◌≡◌, ℕ, ◌<◌, List, [], map, length, get_or, Bor, refl, sym, ◌∙◌, ap, arith, Option, Some, None, bytes_eq, position}
+use Rattle.std.proofs.Common.{◌≡◌, ℕ, ◌<◌, List, [], map, length, get_or, Bor, refl, sym, ◌∙◌, ap, arith, Option, Some, None, bytes_eq, position, nat_le, true, ◌≤◌}
+use Rattle.std.proofs.lemmas.Bool.Decides.{nat_tests}
 use Rattle.std.specs.List.{range_with_len}
 use Rattle.std.proofs.lemmas.List.FromFn.{get_or-map-range_with_len}
 use Rattle.std.proofs.lemmas.List.{get_or-map}
@@ -41,3 +42,16 @@ name_place i small =
 -- so no two fields have one name
 pub names_differ : (i j : ℕ) → i < 37 → j < 37 → name_of i ≡ name_of j → Some i ≡ Some j
 names_differ i j i_small j_small same = sym (name_place i i_small) ∙ ap place same ∙ name_place j j_small
+
+-- a name has at most thirteen letters
+names_short : map (λ index. nat_le (length (name_of index)) 13) (range_with_len 0 37) ≡ map (λ _. true) (range_with_len 0 37)
+unfolding fields
+names_short = refl
+
+pub name_width : (i : ℕ) → i < 37 → length (name_of i) ≤ 13
+name_width i small =
+    let test : nat_le (length (name_of i)) 13 ≡ true =
+    sym (get_or-map-range_with_len (λ index. nat_le (length (name_of index)) 13) 0 37 i i true small (omega arith))
+    ∙ ap (λ all. get_or all i true) names_short
+    ∙ get_or-map-range_with_len (λ _. true) 0 37 i i true small (omega arith) in
+    grind (arith, nat_tests)

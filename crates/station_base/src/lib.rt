@@ -1,11 +1,22 @@
-//! What all crates of the station share: civil minutes, periods, fields.
+//! What all crates of the station share: civil minutes, days, periods, fields, rows and their text.
 #![tactic(auto)]
 
+mod calendar;
+mod day;
+mod digits;
 mod field;
 mod period;
+mod row;
 mod stamp;
+mod text;
 
 pub use causes::OutOfMemory;
+pub use day::DayNumber;
 pub use field::{FIELD_COUNT, FieldId};
 pub use period::Period;
+pub use row::{LINE_ROOM, Row};
 pub use stamp::Stamp;
+pub use text::{push_bytes, push_number, push_signed};
+
+#[cfg(test)]
+mod tests;

@@ -35,6 +35,13 @@ impl Period {
         }
     }
 
+    /// One minute.
+    pub fn shortest() -> Period
+        ensures { result ≡ 1 }
+    {
+        Period { minutes: 1 }
+    }
+
     /// In minutes.
     pub fn minutes(&self) -> u16
         ensures minutes { result ≡ self.now }

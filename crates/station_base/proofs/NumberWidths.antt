@@ -1,0 +1,38 @@
+-- Numbers in text: their digits, and how long they are.
+use Rattle.std.proofs.Common.{◌≡◌, ℕ, suc, ℤ, pos, negsuc, ◌+◌, ◌/◌, ◌%◌, ◌^◌, ◌<◌, ◌≤◌, [], ◌∷◌, ◌++◌, length, arith, length-append, lit<, to_z, of_z, w32}
+use Rattle.std.proofs.lemmas.Fmt.{decimal_digit, decimal_step, length-decimal-le}
+use Rattle.jiff.specs.Words.{IsWithin}
+use Rattle.jiff_core.proofs.SignedLemmas.{signed_arith, back_small}
+use Rattle.station_base.specs.NumberText.{number_text, signed_text}
+
+pub number_text_digit : (n : ℕ) → n < 10 → number_text n ≡ (48 + n) ∷ []
+unfolding number_text
+number_text_digit n small = decimal_digit n small
+
+pub number_text_step : (n : ℕ) → 10 ≤ n → n < 2 ^ 32 → number_text n ≡ number_text (n / 10) ++ (48 + n % 10) ∷ []
+unfolding number_text
+number_text_step n large small = decimal_step n large (omega arith)
+
+pub number_text_longer : (n : ℕ) → 10 ≤ n → n < 2 ^ 32 → length (number_text n) ≡ length (number_text (n / 10)) + 1
+number_text_longer n large small = rw (number_text_step n large small) (length-append (number_text (n / 10)) ((48 + n % 10) ∷ []))
+
+-- a number of 32 bits has at most ten digits
+pub number_text_width : (n : ℕ) → n < 2 ^ 32 → length (number_text n) ≤ 10
+unfolding number_text
+number_text_width n small = length-decimal-le 10 n (lit< tt) (omega arith) (omega arith)
+
+-- a number below 1,000 has at most three digits
+pub number_text_short : (n : ℕ) → n < 1000 → length (number_text n) ≤ 3
+unfolding number_text
+number_text_short n small = length-decimal-le 3 n (lit< tt) small (omega arith)
+
+-- one up to two million has at most seven, and eight with its sign
+pub signed_text_width : (z : ℤ) → IsWithin 2000000 z → length (signed_text z) ≤ 8
+unfolding number_text
+signed_text_width (pos n) within = omega (arith, length-decimal-le 7 n (lit< tt) (omega (arith, signed_arith)) (omega (arith, signed_arith)))
+signed_text_width (negsuc n) within = omega (arith, length-decimal-le 7 (suc n) (lit< tt) (omega (arith, signed_arith)) (omega (arith, signed_arith)))
+
+-- a number that a row line has room for is stored in 32 bits
+pub printable_back : (z : ℤ) → IsWithin 2000000 z → to_z w32 (of_z w32 z) ≡ z
+printable_back (pos n) within = back_small w32 (pos n) (omega (arith, signed_arith))
+printable_back (negsuc n) within = back_small w32 (negsuc n) (omega (arith, signed_arith))

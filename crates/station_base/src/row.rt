@@ -1,0 +1,86 @@
+ghost use Rattle.std.specs.Prelude.{◌≡◌, ◌+◌, ◌*◌, ◌<◌, ◌≤◌, ◌++◌, All};
+ghost use Rattle.arrayvec.specs.ArrayVec.{array_vec_len};
+ghost use Rattle.station_base.specs.RowLine.{IsPrintable, value_text, values_text};
+
+use crate::field::{FIELD_COUNT, FieldId};
+use crate::period::Period;
+use crate::stamp::Stamp;
+use crate::text::{push_bytes, push_number, push_signed};
+use arrayvec::ArrayVec;
+
+/// The most bytes that the line of a row is given room for.
+pub const LINE_ROOM: usize = 1024;
+
+/// What a station measured in the interval that ends with the stamp.
+#[derive(Clone, Copy, Debug, PartialEq, Eq)]
+pub struct Row {
+    /// The last minute of the interval.
+    pub stamp: Stamp,
+    /// How long the interval is.
+    pub interval: Period,
+    /// The value of each field by its number, in the field's unit, and none where a sensor told none.
+    pub values: [Option<i32>; FIELD_COUNT],
+}
+
+impl Row {
+    ghost use Rattle.station_base.specs.RowLine.{row_line};
+
+    /// The line `row YYYY-MM-DD HH:MM I`, where I is the interval in minutes, and then ` NAME=VALUE` for each field that
+    /// has a value. It ends with a line feed. Values are to lie within 2,000,000 either way.
+    pub fn line(&self) -> ArrayVec<u8, LINE_ROOM>
+        requires { All IsPrintable self.now.values }
+        ensures { result.items ≡ row_line self.now }
+    {
+        let mut line = ArrayVec::new();
+        push_bytes(&mut line, b"row ");
+        push_bytes(&mut line, &self.stamp.text());
+        push_bytes(&mut line, b" ");
+        push_number(&mut line, u32::from(self.interval.minutes()));
+        push_values(&mut line, &self.values);
+        push_bytes(&mut line, b"\n");
+        line
+    }
+}
+
+impl Default for Row {
+    ghost use Rattle.station_base.specs.RowLine.{blank_row};
+
+    ghost is_default = { λ row. row ≡ blank_row };
+
+    /// The row of the first stamp, with the shortest interval and no values, which `ArrayVec` fills its places with.
+    fn default() -> Row {
+        Row {
+            stamp: Stamp::first(),
+            interval: Period::shortest(),
+            values: [None; FIELD_COUNT],
+        }
+    }
+}
+
+// Appends each value with the name of its field.
+fn push_values(line: &mut ArrayVec<u8, LINE_ROOM>, values: &[Option<i32>; FIELD_COUNT])
+    requires room { array_vec_len line.old ≤ 24 }
+    requires printable { All IsPrintable values.now }
+    ensures text { line.new.items ≡ line.old.items ++ values_text 0 values.now }
+    ensures length { array_vec_len line.new ≤ array_vec_len line.old + 23 * FIELD_COUNT }
+{
+    for (index, value) in values.iter().enumerate() {
+        push_value(line, FieldId::from_index(index).unwrap(), *value);
+    }
+}
+
+// Appends a value with the name of its field, if there is one.
+fn push_value(line: &mut ArrayVec<u8, LINE_ROOM>, field: FieldId, value: Option<i32>)
+    requires room { array_vec_len line.old + 23 ≤ LINE_ROOM }
+    requires field { field < 37 }
+    requires printable { IsPrintable value }
+    ensures text { line.new.items ≡ line.old.items ++ value_text field value }
+    ensures length { array_vec_len line.new ≤ array_vec_len line.old + 23 }
+{
+    if let Some(value) = value {
+        push_bytes(line, b" ");
+        push_bytes(line, field.name().as_bytes());
+        push_bytes(line, b"=");
+        push_signed(line, value);
+    }
+}
