@@ -1,0 +1,5 @@
+pub mod Lists
+pub mod Naming
+pub mod Widths
+pub mod Documents
+pub mod Walking

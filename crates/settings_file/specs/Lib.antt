@@ -1,0 +1,10 @@
+pub mod Calibration
+pub mod Limits
+pub mod StationSettings
+pub mod KeyPlace
+pub mod Values
+pub mod Walk
+pub mod Fields
+pub mod Sections
+pub mod Reading
+pub mod FaultLine
