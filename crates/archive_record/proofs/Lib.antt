@@ -1,0 +1,9 @@
+pub mod Tiles
+pub mod Values
+pub mod Rows
+pub mod Once
+pub mod Cover
+pub mod Put
+pub mod Back
+pub mod Written
+pub mod Unmeasured

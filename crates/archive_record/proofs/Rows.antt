@@ -1,0 +1,88 @@
+-- Which bytes read as a row, and as which.
+use Rattle.std.proofs.Common.{◌≡◌, ℕ, ℤ, ◌==◌, Bool, true, false, cond, List, length, slice_index, Option, Some, None, IsSome, refl, ap, arith}
+use Rattle.std.proofs.lemmas.List.Folds.{list_all_at}
+use Rattle.station_base.specs.CivilMinute.{CivilMinute}
+use Rattle.station_base.specs.declared.row.Row.{Row}
+use Rattle.archive_record.specs.declared.record_read.RecordRead.{RecordRead}
+use Rattle.archive_record.specs.declared.record_read.RecordRead.TheVariants.{Row as ReadRow, Empty, OtherRevision}
+use Rattle.archive_record.specs.Reading.{is_unwritten, stamp_in, values_in, dated, reading}
+use Rattle.archive_record.specs.Record.{IsRow, ReadsAsRow}
+
+-- a reading by its tests
+chosen : Bool → Bool → Option CivilMinute → List ℕ → ℕ → RecordRead
+chosen unwritten known stamp bytes interval = cond unwritten Empty (cond known (dated bytes interval stamp) (OtherRevision (slice_index bytes 42)))
+
+-- what makes the bytes read as that row
+pub record HasParts (bytes : List ℕ) (row : Row) : Type 0 where
+  pub known : (slice_index bytes 42 == 0) ≡ true
+  pub stamp : stamp_in bytes ≡ Some row.stamp
+  pub values : values_in bytes ≡ row.values
+
+parts_by : (unwritten known : Bool) (stamp : Option CivilMinute) (bytes : List ℕ) (row : Row) → chosen unwritten known stamp bytes row.interval ≡ ReadRow row →
+    (known ≡ true) × (stamp ≡ Some row.stamp) × (values_in bytes ≡ row.values)
+unfolding chosen
+parts_by true known stamp bytes row is = cc
+parts_by false false stamp bytes row is = cc
+parts_by false true None bytes row is = cc
+parts_by false true (Some stamp) bytes row is =
+    let made : Row = record { stamp = stamp; interval = row.interval; values = values_in bytes } in
+    let same : made ≡ row = cc in
+    (refl, ap (λ r. Some r.stamp) same, ap (λ r. r.values) same)
+
+pub row_parts : (bytes : List ℕ) (row : Row) → reading bytes row.interval ≡ ReadRow row → HasParts bytes row
+unfolding chosen reading
+row_parts bytes row is =
+    let parts = parts_by (is_unwritten bytes) (slice_index bytes 42 == 0) (stamp_in bytes) bytes row is in
+    record { known = parts.0; stamp = parts.1; values = parts.2 }
+
+-- a slot that was never written has no record of revision B
+written : (bytes : List ℕ) → length bytes ≡ 52 → slice_index bytes 42 ≡ 0 → is_unwritten bytes ≡ false
+written bytes long revision =
+    list_all_at (λ byte. byte == 255) bytes 42 0 (omega arith) (ap (λ byte. byte == 255) revision)
+
+made : CivilMinute → ℕ → List (Option ℤ) → Row
+made stamp interval values = record { stamp = stamp; interval = interval; values = values }
+
+same_row : (stamp : CivilMinute) (interval : ℕ) (values : List (Option ℤ)) (row : Row) → stamp ≡ row.stamp → interval ≡ row.interval → values ≡ row.values →
+    made stamp interval values ≡ row
+unfolding made
+same_row stamp interval values row s i v =
+    let same : made stamp interval values ≡ made row.stamp row.interval row.values = rw (s, i, v) refl in same
+
+chosen_row : (unwritten known : Bool) (stamp : Option CivilMinute) (bytes : List ℕ) (row : Row) → unwritten ≡ false → known ≡ true →
+    stamp ≡ Some row.stamp → values_in bytes ≡ row.values → chosen unwritten known stamp bytes row.interval ≡ ReadRow row
+unfolding chosen made
+chosen_row unwritten known stamp bytes row u k s v =
+    rw (u, k, s) (ap (λ r. ReadRow r) (same_row row.stamp row.interval (values_in bytes) row refl refl v))
+
+-- bytes with the parts of a row read as that row
+pub parts_row : (bytes : List ℕ) (row : Row) → length bytes ≡ 52 → slice_index bytes 42 ≡ 0 → stamp_in bytes ≡ Some row.stamp → values_in bytes ≡ row.values →
+    reading bytes row.interval ≡ ReadRow row
+unfolding chosen reading made
+parts_row bytes row long revision stamp values =
+    chosen_row (is_unwritten bytes) (slice_index bytes 42 == 0) (stamp_in bytes) bytes row (written bytes long revision) (ap (λ byte. byte == 0) revision) stamp values
+
+-- what reads as a row has a stamp
+some_by : (unwritten known : Bool) (stamp : Option CivilMinute) (bytes : List ℕ) → IsRow (chosen unwritten known stamp bytes 1) → IsSome stamp
+unfolding chosen
+some_by true known stamp bytes row = absurd row
+some_by false false stamp bytes row = absurd row
+some_by false true None bytes row = absurd row
+some_by false true (Some stamp) bytes row = refl
+
+pub stamp_some : (bytes : List ℕ) → ReadsAsRow bytes → IsSome (stamp_in bytes)
+unfolding chosen reading
+stamp_some bytes row = some_by (is_unwritten bytes) (slice_index bytes 42 == 0) (stamp_in bytes) bytes row
+
+-- a reading as a row is one at whatever interval
+row_by : (unwritten known : Bool) (stamp : Option CivilMinute) (bytes : List ℕ) (row : Row) → chosen unwritten known stamp bytes row.interval ≡ ReadRow row →
+    IsRow (chosen unwritten known stamp bytes 1)
+unfolding chosen
+row_by true known stamp bytes row is = cc
+row_by false false stamp bytes row is = cc
+row_by false true None bytes row is = cc
+row_by false true (Some stamp) bytes row is = tt
+
+pub reads_as_row : (bytes : List ℕ) (row : Row) → reading bytes row.interval ≡ ReadRow row → ReadsAsRow bytes
+unfolding chosen reading
+reads_as_row bytes row is = row_by (is_unwritten bytes) (slice_index bytes 42 == 0) (stamp_in bytes) bytes row is

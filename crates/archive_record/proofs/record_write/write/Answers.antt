@@ -1,0 +1,43 @@
+use Rattle.std.proofs.Common.{◌≡◌, Some, slice_index, ◌∙◌, ap, inr, arith}
+use Rattle.std.proofs.lemmas.Bool.{false≢true}
+use Rattle.archive_record.specs.Writing.{Tells}
+use Rattle.archive_record.proofs.Back.{told_can_all}
+use Rattle.archive_record.proofs.Rows.{reads_as_row}
+use Rattle.archive_record.proofs.Written.{tells_made, tells_read, read_tells, tells_once}
+use Rattle.archive_record.proofs.record_write.write.Goals as goal
+
+pub returns-in_err-put_values-clause-written_back : goal.returns-in_err-put_values-clause-written_back
+returns-in_err-put_values-clause-written_back c bytes is_record read =
+    let yes = c.put_values.ensures.can.1 (told_can_all bytes c.args.row.now.values is_record (read_tells bytes c.args.row.now read).values) in
+    let no = rw c.in_err-put_values.was at yes in
+    absurd (false≢true no)
+
+pub new-requires : goal.new-requires
+new-requires c =
+    let row = c.args.row.now in
+    let revision : slice_index c.put_word.new.bytes 42 ≡ 0 = c.put_word.ensures.others 42 (inr (omega arith)) in
+    let tells : Tells c.put_values.new.bytes row =
+    tells_made c.put_word.new.bytes c.put_word-2.new.bytes c.put_values.new.bytes row c.date_word.result c.time_word.result
+    c.date_word.ensures.word c.time_word.ensures revision c.put_word.ensures.word c.put_word-2.ensures.word c.put_word-2.ensures.others
+    c.in_ok-put_values.ensures.others c.in_ok-put_values.ensures.values in
+    reads_as_row c.put_values.new.bytes row (tells_read c.put_values.new.bytes row c.put_values.array_long c.date_word.ensures.civil tells)
+
+pub returns-clause-read_back : goal.returns-clause-read_back
+returns-clause-read_back c =
+    let row = c.args.row.now in
+    let revision : slice_index c.put_word.new.bytes 42 ≡ 0 = c.put_word.ensures.others 42 (inr (omega arith)) in
+    let tells : Tells c.put_values.new.bytes row =
+    tells_made c.put_word.new.bytes c.put_word-2.new.bytes c.put_values.new.bytes row c.date_word.result c.time_word.result
+    c.date_word.ensures.word c.time_word.ensures revision c.put_word.ensures.word c.put_word-2.ensures.word c.put_word-2.ensures.others
+    c.in_ok-put_values.ensures.others c.in_ok-put_values.ensures.values in
+    rw c.new.ensures.bytes (tells_read c.put_values.new.bytes row c.put_values.array_long c.date_word.ensures.civil tells)
+
+pub returns-clause-written_back : goal.returns-clause-written_back
+returns-clause-written_back c bytes is_record read =
+    let row = c.args.row.now in
+    let revision : slice_index c.put_word.new.bytes 42 ≡ 0 = c.put_word.ensures.others 42 (inr (omega arith)) in
+    let tells : Tells c.put_values.new.bytes row =
+    tells_made c.put_word.new.bytes c.put_word-2.new.bytes c.put_values.new.bytes row c.date_word.result c.time_word.result
+    c.date_word.ensures.word c.time_word.ensures revision c.put_word.ensures.word c.put_word-2.ensures.word c.put_word-2.ensures.others
+    c.in_ok-put_values.ensures.others c.in_ok-put_values.ensures.values in
+    ap Some (c.new.ensures.bytes ∙ tells_once c.put_values.new.bytes bytes row c.new.ensures.size is_record tells (read_tells bytes row read))

@@ -1,0 +1,6 @@
+pub mod Kind
+pub mod Place
+pub mod Table
+pub mod Reading
+pub mod Record
+pub mod Writing

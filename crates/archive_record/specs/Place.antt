@@ -1,0 +1,31 @@
+-- Where a field stands in a record, and what its number tells.
+use Rattle.std.specs.Prelude.{ℕ, ℤ, ◌≢◌, ◌+◌, ◌≤◌, ◌==◌, Bool, false, if◌then◌else◌, IsSome, List, Some, None}
+use Rattle.std.specs.Option.{ForSome}
+use Rattle.std.specs.declared.option.Option.{Option}
+use Rattle.archive_record.specs.declared.place.Place.{Place}
+use Rattle.archive_record.specs.Kind.{width_of, IsRaw, value_of, HasValue, raw_at}
+
+-- the number is the mark of a missing value
+abbrev pub is_mark : Option ℕ → ℕ → Bool
+is_mark None raw = false
+is_mark (Some mark) raw = raw == mark
+
+-- what a number tells at a place: nothing where it is the mark, and else its value
+abbrev pub told : Place → ℕ → Option ℤ
+told place raw = if is_mark place.mark raw then None else Some (value_of place.kind raw)
+
+-- what a record tells at a place
+abbrev pub value_in : List ℕ → Place → Option ℤ
+value_in bytes place = told place (raw_at bytes place.kind place.offset)
+
+-- a place can hold a value that its kind has and that is not its mark, and nothing only where it has a mark
+abbrev pub CanHold : Place → Option ℤ → Type 0
+CanHold place None = IsSome place.mark
+CanHold place (Some value) =
+    HasValue place.kind value × ForSome place.mark (λ mark. value ≢ value_of place.kind mark)
+
+-- a place within a record, behind the stamp, whose mark has room in it
+pub record IsPlace (place : Place) : Type 0 where
+  pub from : 4 ≤ place.offset
+  pub to : place.offset + width_of place.kind ≤ 52
+  pub mark : ForSome place.mark (IsRaw place.kind)

@@ -1,0 +1,34 @@
+-- What a record says.
+use Rattle.std.specs.Prelude.{ℕ, ℤ, ◌==◌, Bool, if◌then◌else◌, List, map, slice_index, Some, None}
+use Rattle.std.specs.List.{list_all}
+use Rattle.std.specs.declared.option.Option.{Option}
+use Rattle.station_base.specs.CivilMinute.{CivilMinute}
+use Rattle.station_base.specs.Stamp.{stamp_of_words}
+use Rattle.archive_record.specs.declared.record_read.RecordRead.{RecordRead}
+use Rattle.archive_record.specs.declared.record_read.RecordRead.TheVariants.{Row as ReadRow, Empty, OtherRevision, BadStamp}
+use Rattle.archive_record.specs.Kind.{word_at}
+use Rattle.archive_record.specs.Place.{value_in}
+use Rattle.archive_record.specs.Table.{places}
+
+-- a slot that was never written
+abbrev pub is_unwritten : List ℕ → Bool
+is_unwritten bytes = list_all (λ byte. byte == 255) bytes
+
+-- the stamp that the first two words name, if they name one
+abbrev pub stamp_in : List ℕ → Option CivilMinute
+stamp_in bytes = stamp_of_words (word_at bytes 0) (word_at bytes 2)
+
+-- what a record tells of each field
+abbrev pub values_in : List ℕ → List (Option ℤ)
+values_in bytes = map (value_in bytes) places
+
+-- a record of revision B, whose words may name no stamp
+abbrev pub dated : List ℕ → ℕ → Option CivilMinute → RecordRead
+dated bytes interval None = BadStamp (word_at bytes 0) (word_at bytes 2)
+dated bytes interval (Some stamp) = ReadRow (record { stamp = stamp; interval = interval; values = values_in bytes })
+
+-- what the 52 bytes of a slot say, where records are written at that interval (Davis serial manual)
+unfoldable pub reading : List ℕ → ℕ → RecordRead
+reading bytes interval =
+    if is_unwritten bytes then Empty
+    else (if slice_index bytes 42 == 0 then dated bytes interval (stamp_in bytes) else OtherRevision (slice_index bytes 42))

@@ -1,0 +1,33 @@
+-- Records that read as rows.
+use Rattle.std.specs.Prelude.{ℕ, ℤ, pos, ◌≡◌, ◌<◌, List, length, slice_index, map, Some, None}
+use Rattle.std.specs.declared.option.Option.{Option}
+use Rattle.station_base.specs.declared.row.Row.{Row}
+use Rattle.station_base.specs.CivilMinute.{first_minute}
+use Rattle.archive_record.specs.Table.{places}
+use Rattle.archive_record.specs.declared.record_read.RecordRead.{RecordRead}
+use Rattle.archive_record.specs.declared.record_read.RecordRead.TheVariants.{Row as ReadRow, Empty, OtherRevision, BadStamp}
+use Rattle.archive_record.specs.Reading.{reading}
+
+abbrev pub IsRow : RecordRead → Type 0
+IsRow (ReadRow row) = Unit {0}
+IsRow Empty = ⊥
+IsRow (OtherRevision revision) = ⊥
+IsRow (BadStamp date time) = ⊥
+
+-- the bytes read as a row, at whatever interval
+abbrev pub ReadsAsRow : List ℕ → Type 0
+ReadsAsRow bytes = IsRow (reading bytes 1)
+
+-- no value, where a place has a mark to tell that, and else 0
+abbrev pub unmeasured : Option ℕ → Option ℤ
+unmeasured None = Some (pos 0)
+unmeasured (Some mark) = None
+
+-- the row of the first minute with as few values as a record can tell
+abbrev pub unmeasured_row : Row
+unmeasured_row = record { stamp = first_minute; interval = 1; values = map (λ place. unmeasured place.mark) places }
+
+-- fifty-two bytes
+pub record IsRecord (bytes : List ℕ) : Type 0 where
+  pub long : length bytes ≡ 52
+  pub small : (i : ℕ) → slice_index bytes i < 256

@@ -1,0 +1,20 @@
+-- Rows that can be written as records.
+use Rattle.std.specs.Prelude.{ℕ, ℤ, ◌≡◌, ◌<◌, List, slice_index, slice_index_or, None}
+use Rattle.std.specs.declared.option.Option.{Option}
+use Rattle.station_base.specs.declared.row.Row.{Row}
+use Rattle.station_base.specs.Stamp.{date_word_of, time_word_of}
+use Rattle.archive_record.specs.Kind.{word_at}
+use Rattle.archive_record.specs.Place.{CanHold}
+use Rattle.archive_record.specs.Reading.{values_in}
+use Rattle.archive_record.specs.Table.{place_of}
+
+-- each field's place can hold its value
+abbrev pub CanHoldAll : List (Option ℤ) → Type 0
+CanHoldAll values = (field : ℕ) → field < 37 → CanHold (place_of field) (slice_index_or values field None)
+
+-- the bytes tell the stamp and the values of the row, in revision B
+pub record Tells (bytes : List ℕ) (row : Row) : Type 0 where
+  pub date : word_at bytes 0 ≡ date_word_of row.stamp
+  pub time : word_at bytes 2 ≡ time_word_of row.stamp
+  pub revision : slice_index bytes 42 ≡ 0
+  pub values : values_in bytes ≡ row.values

@@ -1,0 +1,17 @@
+//! Archive records of revision B: rows in 52 bytes, read and written.
+#![tactic(auto)]
+
+mod kind;
+mod place;
+mod record;
+mod record_read;
+mod record_write;
+mod table;
+
+pub use place::RECORD_BYTES;
+pub use record::Rec52;
+pub use record_read::{RecordRead, read};
+pub use record_write::write;
+
+#[cfg(test)]
+mod tests;

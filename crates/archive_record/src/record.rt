@@ -1,0 +1,87 @@
+ghost use Rattle.std.specs.Prelude.{◌≡◌, Some};
+ghost use Rattle.std.specs.Option.{SomeIff};
+ghost use Rattle.archive_record.specs.Reading.{stamp_in};
+ghost use Rattle.archive_record.specs.Record.{IsRecord, ReadsAsRow};
+
+use crate::place::{RECORD_BYTES, word_at};
+use crate::record_read::{DATE, RecordRead, TIME, read};
+use station_base::{Period, Stamp};
+use std::marker::Model;
+
+// The bytes of 2000-01-01 00:00, of each missing mark, and of 0 where a field has none.
+const UNMEASURED: [u8; RECORD_BYTES] = [
+    0x21, 0x00, 0x00, 0x00, 0xFF, 0x7F, 0x00, 0x80, 0xFF, 0x7F, 0x00, 0x00, 0x00, 0x00, 0x00, 0x00,
+    0xFF, 0x7F, 0x00, 0x00, 0xFF, 0x7F, 0xFF, 0xFF, 0xFF, 0x00, 0xFF, 0xFF, 0xFF, 0x00, 0xFF, 0x7F,
+    0xFF, 0xC1, 0xFF, 0xFF, 0xFF, 0xFF, 0xFF, 0xFF, 0xFF, 0xFF, 0x00, 0xFF, 0xFF, 0xFF, 0xFF, 0xFF,
+    0xFF, 0xFF, 0xFF, 0xFF,
+];
+
+/// The 52 bytes of an archive record of revision B that reads as a row.
+#[derive(Clone, Copy, Debug)]
+pub struct Rec52 {
+    bytes: [u8; RECORD_BYTES],
+}
+
+impl Model for Rec52 {
+    ghost use Rattle.std.specs.Prelude.{ℕ, List};
+    ghost use Rattle.archive_record.specs.Record.{IsRecord, ReadsAsRow};
+
+    ghost Value = { List ℕ };
+
+    ghost view = { λ r. r.bytes };
+
+    ghost invariant = { λ r. IsRecord r.bytes × ReadsAsRow r.bytes };
+
+    ghost inverse = { λ bytes. record { bytes = bytes } };
+}
+
+impl Rec52 {
+    /// The record in these bytes, if they read as a row.
+    pub fn of(bytes: [u8; RECORD_BYTES]) -> Option<Rec52>
+        ensures { SomeIff result (ReadsAsRow bytes) bytes }
+    {
+        match read(&bytes, Period::shortest()) {
+            RecordRead::Row(_) => Some(Rec52::new(bytes)),
+            _ => None,
+        }
+    }
+
+    /// The record in these bytes, which read as a row.
+    pub(crate) fn new(bytes: [u8; RECORD_BYTES]) -> Rec52
+        requires { ReadsAsRow bytes }
+        ensures bytes { result ≡ bytes }
+        ensures size { IsRecord bytes }
+    {
+        Rec52 { bytes }
+    }
+
+    /// The bytes, as a console stores and sends them.
+    pub fn bytes(&self) -> &[u8; RECORD_BYTES]
+        ensures bytes { result.now ≡ self.now }
+        ensures size { IsRecord self.now }
+        ensures row { ReadsAsRow self.now }
+    {
+        &self.bytes
+    }
+
+    /// The stamp of the record.
+    pub fn stamp(&self) -> Stamp
+        ensures { stamp_in self.now ≡ Some result }
+    {
+        Stamp::from_words(word_at(&self.bytes, DATE), word_at(&self.bytes, TIME)).unwrap()
+    }
+}
+
+impl Default for Rec52 {
+    ghost use Rattle.archive_record.specs.declared.record_read.RecordRead.{RecordRead};
+    ghost use Rattle.archive_record.specs.Reading.{reading};
+    ghost use Rattle.archive_record.specs.Record.{unmeasured_row};
+
+    ghost is_default = { λ blank. reading blank 1 ≡ RecordRead.Row unmeasured_row };
+
+    /// The record of the first stamp with no value in each field that has a mark, and 0 in the others, which `ArrayVec`
+    /// fills its places with.
+    fn default() -> Rec52 {
+        Rec52 { bytes: UNMEASURED }
+    }
+}

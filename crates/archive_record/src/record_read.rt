@@ -1,0 +1,71 @@
+ghost use Rattle.std.specs.Prelude.{◌≡◌, map};
+ghost use Rattle.archive_record.specs.Place.{value_in};
+ghost use Rattle.archive_record.specs.Table.{places};
+
+use crate::place::{RECORD_BYTES, word_at};
+use crate::table::places;
+use station_base::{FIELD_COUNT, Period, Row, Stamp};
+
+/// The offset of the date word.
+pub const DATE: usize = 0;
+
+/// The offset of the time word.
+pub const TIME: usize = 2;
+
+/// The offset of the byte that tells the revision, which is 0 for revision B.
+pub const REVISION: usize = 42;
+
+/// What the 52 bytes of an archive slot say.
+#[derive(Clone, Copy, Debug, PartialEq, Eq)]
+pub enum RecordRead {
+    /// A record of revision B.
+    Row(Row),
+    /// A slot that was never written, which is all 0xFF.
+    Empty,
+    /// A record of another revision, with the byte that tells it.
+    OtherRevision(u8),
+    /// A record whose date word and time word name no minute.
+    BadStamp { date: u16, time: u16 },
+}
+
+ghost use Rattle.archive_record.specs.Reading.{reading, is_unwritten};
+
+/// Reads a slot of a console that writes records at this interval (Davis serial manual, revision B).
+#[tactic(auto, unfolding(crate::specs::Reading::reading))]
+pub fn read(bytes: &[u8; RECORD_BYTES], interval: Period) -> RecordRead
+    ensures { result ≡ reading bytes.now interval }
+{
+    if is_unwritten(bytes) {
+        return RecordRead::Empty;
+    }
+    if bytes[REVISION] != 0 {
+        return RecordRead::OtherRevision(bytes[REVISION]);
+    }
+    let (date, time) = (word_at(bytes, DATE), word_at(bytes, TIME));
+    match Stamp::from_words(date, time) {
+        None => RecordRead::BadStamp { date, time },
+        Some(stamp) => RecordRead::Row(Row {
+            stamp,
+            interval,
+            values: values_in(bytes),
+        }),
+    }
+}
+
+// Whether the bytes are those of a slot that was never written.
+fn is_unwritten(bytes: &[u8; RECORD_BYTES]) -> bool
+    ensures { result ≡ is_unwritten bytes.now }
+{
+    bytes.iter().all(|byte| *byte == 0xFF)
+}
+
+// What the record tells of each field.
+fn values_in(bytes: &[u8; RECORD_BYTES]) -> [Option<i32>; FIELD_COUNT]
+    ensures { result ≡ map (value_in bytes.now) places }
+{
+    let mut values = [None; FIELD_COUNT];
+    for (field, place) in places().iter().enumerate() {
+        values[field] = place.value_in(bytes);
+    }
+    values
+}
