@@ -1,0 +1,99 @@
+ghost use Rattle.std.specs.Prelude.{◌≡◌, ◌+ℤ◌, ◌*ℤ◌, ◌≤ℤ◌, ◌<ℤ◌, pos, All};
+ghost use Rattle.std.specs.Int.{int_div_euclid};
+ghost use Rattle.jiff.specs.Words.{IsWithin};
+ghost use Rattle.station_base.specs.RowLine.{IsPrintable};
+ghost use Rattle.settings_file.specs.Calibration.{IsCalibration};
+ghost use Rattle.quality.specs.Corrected.{IsReading, calibrated, scaled, is_kept, corrected_value, corrected_values, corrected_row};
+
+use settings_file::{Calibration, Limits, Settings};
+use station_base::{FIELD_COUNT, FieldId, Row};
+
+/// The row as it is kept: each value is calibrated, and is missing then where it is below the least or above the greatest
+/// value of its field. A missing value stays missing. Values are to lie within 65,535 either way, as those of an archive
+/// record do.
+pub fn corrected(settings: &Settings, row: &Row) -> Row
+    requires { All IsReading row.now.values }
+    ensures exact { result ≡ corrected_row settings.now row.now }
+    ensures printable { All IsPrintable result.values }
+{
+    Row {
+        stamp: row.stamp,
+        interval: row.interval,
+        values: corrected_values(settings, &row.values),
+    }
+}
+
+// The values of all fields, each by its own calibration and limits.
+fn corrected_values(
+    settings: &Settings,
+    values: &[Option<i32>; FIELD_COUNT],
+) -> [Option<i32>; FIELD_COUNT]
+    requires { All IsReading values.now }
+    ensures exact { result ≡ corrected_values settings.now 0 values.now }
+    ensures printable { All IsPrintable result }
+{
+    let mut corrected = [None; FIELD_COUNT];
+    for (index, value) in values.iter().enumerate() {
+        let field = FieldId::from_index(index).unwrap();
+        corrected[index] = corrected_value(
+            settings.calibration(field),
+            settings.limits(field),
+            *value,
+        );
+    }
+    corrected
+}
+
+// A value calibrated, or none where its limits refuse that.
+fn corrected_value(calibration: Calibration, limits: Limits, value: Option<i32>) -> Option<i32>
+    requires calibration { IsCalibration calibration }
+    requires reading { IsReading value }
+    ensures exact { result ≡ corrected_value calibration limits value }
+    ensures printable { IsPrintable result }
+{
+    let value = value?;
+    let calibrated = calibrate(calibration, value);
+    is_kept(limits, calibrated).then_some(calibrated)
+}
+
+// The value scaled, and `add` more.
+#[tactic(auto, using(jiff_core::proofs::SignedLemmas::signed_arith))]
+fn calibrate(calibration: Calibration, value: i32) -> i32
+    requires calibration { IsCalibration calibration }
+    requires reading { IsWithin 65535 value }
+    ensures exact { result ≡ calibrated calibration value }
+    ensures printable { IsWithin 2000000 result }
+{
+    scale(calibration, value) + calibration.add
+}
+
+// The value times `num`, divided by `den`.
+fn scale(calibration: Calibration, value: i32) -> i32
+    requires calibration { IsCalibration calibration }
+    requires reading { IsWithin 65535 value }
+    ensures exact { result ≡ scaled calibration value }
+    ensures range { IsWithin 1048560 result }
+{
+    floor_div(value * calibration.num, calibration.den)
+}
+
+// The greatest number whose product with the divisor is at most the dividend.
+fn floor_div(dividend: i32, divisor: i32) -> i32
+    requires { pos 0 <ℤ divisor }
+    ensures exact { result ≡ int_div_euclid dividend divisor }
+    ensures at_most { (result *ℤ divisor) ≤ℤ dividend }
+    ensures greatest { dividend <ℤ ((result *ℤ divisor) +ℤ divisor) }
+{
+    dividend.div_euclid(divisor)
+}
+
+// Whether a value lies within the limits.
+fn is_kept(limits: Limits, value: i32) -> bool
+    ensures { result ≡ is_kept limits value }
+{
+    limits.least.is_none_or(|least| least <= value)
+        && limits.greatest.is_none_or(|greatest| value <= greatest)
+}
+
+#[cfg(test)]
+mod tests;

@@ -1,0 +1,52 @@
+ghost use Rattle.std.specs.Prelude.{All, IfSome};
+ghost use Rattle.quality.specs.Corrected.{IsReading};
+
+use super::*;
+use station_base::{Period, Stamp};
+use std::alloc::Global;
+use std::test::Fail;
+
+// A row of 2024-07-01 00:05 with an outside temperature alone.
+fn row(tenths: i16) -> Option<Row>
+    ensures { IfSome result (λ row. All IsReading row.values) }
+{
+    let mut values = [None; FIELD_COUNT];
+    values[0] = Some(i32::from(tenths));
+    Some(Row {
+        stamp: Stamp::from_words(0x30E1, 5)?,
+        interval: Period::from_minutes(10)?,
+        values,
+    })
+}
+
+fn settings_of(alloc: Global, text: &[u8]) -> Option<Settings> {
+    match Settings::read(alloc, text) {
+        Ok(settings) => Some(settings),
+        Err(_) => None,
+    }
+}
+
+#[test]
+fn a_value_is_calibrated_and_then_held_against_its_limits(rt: HostRuntime) -> Result<(), Fail> {
+    let limited = b"[limits.outTemp]\ngreatest = 1300";
+    let halved = b"[calibration.outTemp]\nnum = 1\nden = 2";
+    let raised = b"[calibration.outTemp]\nadd = 100\n[limits.outTemp]\nleast = 100\ngreatest = 100";
+    let cases: [(&[u8], i16, Option<i32>); 6] = [
+        (limited, 1300, Some(1300)),
+        (limited, 1301, None),
+        (halved, -1, Some(-1)),
+        (halved, 1, Some(0)),
+        (raised, 0, Some(100)),
+        (raised, 100, None),
+    ];
+    for (text, tenths, kept) in cases {
+        let settings = settings_of(rt.alloc(), text).ok_or("refused")?;
+        let before = row(tenths).ok_or("no row")?;
+        let after = corrected(&settings, &before);
+        assert_eq!(rt; after.values[0], kept);
+        assert_eq!(rt; after.values[1], None);
+        assert_eq!(rt; after.stamp, before.stamp);
+        assert_eq!(rt; after.interval, before.interval);
+    }
+    Ok(())
+}
