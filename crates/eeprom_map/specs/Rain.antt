@@ -1,0 +1,17 @@
+-- What one tip of the rain collector stands for.
+use Rattle.std.specs.Prelude.{ℕ, ◌/◌, ◌%◌, ◌==◌, if◌then◌else◌, Some, None}
+use Rattle.std.specs.declared.option.Option.{Option}
+use Rattle.eeprom_map.specs.declared.rain.RainUnit.{RainUnit}
+use Rattle.eeprom_map.specs.declared.rain.RainUnit.TheVariants.{Hundredths, Fifths, Tenths}
+
+-- bits 4 and 5 of the setup bits
+abbrev pub collector : ℕ → ℕ
+collector setup = setup / 16 % 4
+
+-- the unit that these setup bits name (Davis serial manual, "EEPROM Configuration Settings")
+abbrev pub unit_of : ℕ → Option RainUnit
+unit_of setup =
+    if collector setup == 0 then Some Hundredths
+    else if collector setup == 1 then Some Fifths
+    else if collector setup == 2 then Some Tenths
+    else None
