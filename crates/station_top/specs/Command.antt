@@ -8,6 +8,7 @@ use Rattle.station_top.specs.declared.command.Command.TheVariants as read
 -- a command, with the names that its words give
 pub data CommandLine : Type 0 where
   pages : List ℕ → CommandLine
+  corrected_pages : List ℕ → List ℕ → CommandLine
 
 -- the words, each as its bytes
 abbrev pub texts : List (Bor (List ℕ)) → List (List ℕ)
@@ -18,9 +19,12 @@ abbrev pub command_of : List (List ℕ) → Option CommandLine
 command_of [] = None
 command_of (command ∷ []) = None
 command_of (command ∷ file ∷ []) = if bytes_eq command (codes "pages") then Some (pages file) else None
-command_of (command ∷ file ∷ more ∷ words) = None
+command_of (command ∷ settings ∷ file ∷ []) =
+    if bytes_eq command (codes "pages") then Some (corrected_pages settings file) else None
+command_of (command ∷ settings ∷ file ∷ more ∷ words) = None
 
 -- what was read, with the texts that it lends
 abbrev pub line_of : Option Command → Option CommandLine
 line_of None = None
 line_of (Some (read.Pages file)) = Some (pages file.now)
+line_of (Some (read.CorrectedPages settings file)) = Some (corrected_pages settings.now file.now)

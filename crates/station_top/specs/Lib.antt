@@ -1,9 +1,11 @@
-pub mod SlotReading
+pub mod Style
+pub mod StyleRead
 pub mod SlotText
-pub mod Temperature
-pub mod EmptySlot
 pub mod Output
 pub mod PageText
 pub mod Report
 pub mod Command
+pub mod GoodFile
+pub mod Judged
+pub mod JudgedRead
 pub mod Run

@@ -3,8 +3,15 @@ ghost use Rattle.std.specs.Prelude.{◌≡◌};
 /// What the words of the command line ask for.
 #[derive(Clone, Copy, Debug, PartialEq, Eq)]
 pub enum Command<'a> {
-    /// `pages FILE`: the lines of a file of pages.
+    /// `pages FILE`: stamp and outside temperature of each record of a file of pages.
     Pages(&'a str),
+    /// `pages SETTINGS FILE`: the row of each record, corrected by the settings.
+    CorrectedPages {
+        /// The name of the settings file.
+        settings: &'a str,
+        /// The name of the file of pages.
+        file: &'a str,
+    },
 }
 
 impl<'a> Command<'a> {
@@ -16,6 +23,10 @@ impl<'a> Command<'a> {
     {
         match *words {
             [command, file] if command == "pages" => Some(Command::Pages(file)),
+            [command, settings, file] if command == "pages" => Some(Command::CorrectedPages {
+                settings,
+                file,
+            }),
             _ => None,
         }
     }

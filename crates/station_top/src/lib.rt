@@ -2,10 +2,11 @@
 #![tactic(auto)]
 
 mod command;
+mod judging;
 mod pages;
 mod program;
-mod slot;
 mod status;
+mod style;
 mod text;
 
 pub use program::run;

@@ -1,13 +1,20 @@
-ghost use Rattle.std.specs.Prelude.{◌≡◌, ◌≤◌, length, IfSome, IfNone};
-ghost use Rattle.causes.specs.Cause.{Cause};
+ghost use Rattle.std.specs.Prelude.{◌≡◌, ◌⊎◌, ◌≤◌, List, ℕ, length, IfSome, IfNone, IsSomeAnd};
+ghost use Rattle.causes.specs.Cause.{Cause, Rose};
 ghost use Rattle.station_io.specs.declared.files.TheConstants.{LONGEST};
 ghost use Rattle.station_top.specs.Output.{Ends};
 ghost use Rattle.station_top.specs.Command.{command_of, texts};
-ghost use Rattle.station_top.specs.Run.{IsUsage, Performs, PrintsFile, code, output_of};
+ghost use Rattle.station_top.specs.GoodFile.{IsGoodFile};
+ghost use Rattle.station_top.specs.Judged.{IsEnding, IsReadFault, MayGoOn};
+ghost use Rattle.station_top.specs.JudgedRead.{judged_of};
+ghost use Rattle.station_top.specs.Run.{GoesOn, HasGoodInput, IsAccepted, IsUsage, Performs, PrintsCorrected, PrintsFile, code, output_of};
+ghost use Rattle.station_top.specs.StyleRead.{style_of};
 
 use crate::command::Command;
+use crate::judging::{Ending, judge};
 use crate::pages::{finish, print_pages};
 use crate::status::Status;
+use crate::style::Style;
+use settings_file::Settings;
 use station_io::{Files, Sink, TextRead};
 use std::alloc::Global;
 
@@ -17,41 +24,101 @@ pub fn run<F: Files, K: Sink>(alloc: Global, words: &[&str], files: &mut F, out:
     ensures usage { IfNone (command_of (texts words.now))
         (IsUsage files.old files.new (K.taken out.old) (K.taken out.new) result) }
 
-    // One reading of the file that the words name decides what is written and how the program ends.
+    // The files that the words name are each read once, in the order of the words, and decide what is written and how the
+    // program ends.
     ensures command { IfSome (command_of (texts words.now)) (λ command.
         Performs F.loaded F.file_bytes command files.old files.new (K.taken out.old) (K.taken out.new) result) }
 
     // The faults of the outside have a cause.
     ensures read_fault { Cause (F.faults files.old) (F.faults files.new) (result ≡ 8) }
     ensures write_fault { Cause (K.faults out.old) (K.faults out.new) (result ≡ 9) }
+
+    // Over good input, and where no count of faults rose, only want of memory keeps the command from being done.
+    ensures complete { IfSome (command_of (texts words.now)) (λ command. HasGoodInput F.file_bytes command files.old
+        → ¬ Rose (F.faults files.old) (F.faults files.new) → ¬ Rose (K.faults out.old) (K.faults out.new)
+        → (result ≡ 0) ⊎ (result ≡ 12)) }
 {
     let status = match Command::read(words) {
-        Some(Command::Pages(name)) => pages(alloc, name, files, out),
+        Some(Command::Pages(file)) => pages(alloc, file, &Style::Short, files, out),
+        Some(Command::CorrectedPages { settings, file }) => {
+            corrected_pages(alloc, settings, file, files, out)
+        }
         None => finish(b"usage\n", Status::Usage, out),
     };
     status as u8
 }
 
-// Prints the pages of the file.
-fn pages<F: Files, K: Sink>(alloc: Global, name: &str, files: &mut F, out: &mut K) -> Status
-    ensures pages { PrintsFile F.loaded F.file_bytes name.now files.old files.new (K.taken out.old) (K.taken out.new) (code result) }
+// Prints the pages of the file, with each row corrected by the settings.
+fn corrected_pages<F: Files, K: Sink>(
+    alloc: Global,
+    settings: &str,
+    file: &str,
+    files: &mut F,
+    out: &mut K,
+) -> Status
+    ensures pages { PrintsCorrected F.loaded F.file_bytes settings.now file.now files.old files.new (K.taken out.old) (K.taken out.new) (code result) }
     ensures read_fault { Cause (F.faults files.old) (F.faults files.new) (result ≡ Status.ReadFault) }
     ensures write_fault { Cause (K.faults out.old) (K.faults out.new) (result ≡ Status.WriteFault) }
+    ensures complete { IsSomeAnd (F.file_bytes files.old settings.now) IsAccepted → IsSomeAnd (F.file_bytes files.old file.now) IsGoodFile
+        → ¬ Rose (F.faults files.old) (F.faults files.new) → ¬ Rose (K.faults out.old) (K.faults out.new)
+        → (result ≡ Status.Done) ⊎ (result ≡ Status.OutOfMemory) }
+{
+    let mut text = Vec::new(alloc);
+    let read = files.text(alloc, settings, &mut text);
+    go_on(alloc, judge(alloc, read, &text), file, files, out)
+}
+
+// Prints the pages of the file with each row corrected by the settings, where these were accepted.
+fn go_on<F: Files, K: Sink>(
+    alloc: Global,
+    judged: Result<Settings, Ending>,
+    file: &str,
+    files: &mut F,
+    out: &mut K,
+) -> Status
+    requires { IsEnding (judged_of judged) }
+    ensures goes_on { GoesOn F.loaded F.file_bytes (judged_of judged) file.now files.old files.new (K.taken out.old) (K.taken out.new) (code result) }
+    ensures read_fault { result ≡ Status.ReadFault → IsReadFault (judged_of judged) ⊎ Rose (F.faults files.old) (F.faults files.new) }
+    ensures never_falls { F.faults files.old ≤ F.faults files.new }
+    ensures write_fault { Cause (K.faults out.old) (K.faults out.new) (result ≡ Status.WriteFault) }
+    ensures complete { MayGoOn (judged_of judged) → IsSomeAnd (F.file_bytes files.old file.now) IsGoodFile
+        → ¬ Rose (F.faults files.old) (F.faults files.new) → ¬ Rose (K.faults out.old) (K.faults out.new)
+        → (result ≡ Status.Done) ⊎ (result ≡ Status.OutOfMemory) }
+{
+    match judged {
+        Ok(settings) => pages(alloc, file, &Style::Corrected(&settings), files, out),
+        Err(ending) => finish(&ending.line, ending.status, out),
+    }
+}
+
+// Prints the pages of the file.
+fn pages<F: Files, K: Sink>(
+    alloc: Global,
+    name: &str,
+    style: &Style<'_>,
+    files: &mut F,
+    out: &mut K,
+) -> Status
+    ensures pages { PrintsFile F.loaded F.file_bytes (style_of style.now) name.now files.old files.new (K.taken out.old) (K.taken out.new) (code result) }
+    ensures read_fault { Cause (F.faults files.old) (F.faults files.new) (result ≡ Status.ReadFault) }
+    ensures write_fault { Cause (K.faults out.old) (K.faults out.new) (result ≡ Status.WriteFault) }
+    ensures complete { IsSomeAnd (F.file_bytes files.old name.now) IsGoodFile → ¬ Rose (F.faults files.old) (F.faults files.new)
+        → ¬ Rose (K.faults out.old) (K.faults out.new) → (result ≡ Status.Done) ⊎ (result ≡ Status.OutOfMemory) }
 {
     let mut bytes = Vec::new(alloc);
     let read = files.text(alloc, name, &mut bytes);
-    print_reading(read, &bytes, out)
+    print_reading(read, &bytes, style, out)
 }
 
 // Writes what came of the reading of a file.
-fn print_reading<K: Sink>(read: TextRead, bytes: &[u8], out: &mut K) -> Status
+fn print_reading<K: Sink>(read: TextRead, bytes: &[u8], style: &Style<'_>, out: &mut K) -> Status
     requires { length bytes.now ≤ LONGEST }
-    ensures ends { Ends (K.taken out.old) (K.taken out.new) (output_of read bytes.now) result }
+    ensures ends { Ends (K.taken out.old) (K.taken out.new) (output_of (style_of style.now) read bytes.now) result }
     ensures read_fault { result ≡ Status.ReadFault → read ≡ TextRead.Failed }
     ensures write_fault { Cause (K.faults out.old) (K.faults out.new) (result ≡ Status.WriteFault) }
 {
     match read {
-        TextRead::Done => print_pages(bytes, out),
+        TextRead::Done => print_pages(bytes, style, out),
         TextRead::TooLong => finish(b"file too long\n", Status::TooLong, out),
         TextRead::Failed => finish(b"read fault\n", Status::ReadFault, out),
         TextRead::OutOfMemory => Status::OutOfMemory,

@@ -49,16 +49,25 @@ fn ones(alloc: Global, count: usize) -> Result<Vec<u8>, AllocError> {
     vec![in alloc; 1u8; count]
 }
 
-// What the words do over one file `dump`, with a sink of that capacity.
+// A file of that name.
+fn named(alloc: Global, name: &str, bytes: Vec<u8>) -> Result<MemFile, AllocError> {
+    let name = String::from_str(alloc, name)?;
+    Ok(MemFile { name, bytes })
+}
+
+// What the words do over the files `dump` and `settings`, with a sink of that capacity.
 fn printed(
     alloc: Global,
     words: &[&str],
     bytes: Vec<u8>,
+    settings: &str,
     failing: &[u64],
     capacity: usize,
 ) -> Result<(u8, Vec<u8>), Fail> {
-    let name = String::from_str(alloc, "dump")?;
-    let listed = Vec::from_array(alloc, [MemFile { name, bytes }])?;
+    let dump = named(alloc, "dump", bytes)?;
+    let settings = Vec::from_slice(alloc, settings.as_bytes())?;
+    let settings = named(alloc, "settings", settings)?;
+    let listed = Vec::from_array(alloc, [dump, settings])?;
     let mut files = MemFiles::new(listed, Vec::from_slice(alloc, failing)?);
     let mut sink = MemSink::new(alloc, capacity)?;
     let status = run(alloc, words, &mut files, &mut sink);
@@ -105,7 +114,7 @@ fn pages_are_printed_up_to_the_first_bad_one(rt: HostRuntime) -> Result<(), Fail
         ),
     ];
     for (bytes, want, rows, end) in cases {
-        let (status, text) = printed(alloc, &["pages", "dump"], bytes, &[], 200)?;
+        let (status, text) = printed(alloc, &["pages", "dump"], bytes, "", &[], 200)?;
         assert_eq!(rt; status, want);
         assert_eq!(rt;
             text.as_slice(),
@@ -119,21 +128,61 @@ fn pages_are_printed_up_to_the_first_bad_one(rt: HostRuntime) -> Result<(), Fail
 fn each_trouble_has_its_status(rt: HostRuntime) -> Result<(), Fail> {
     let alloc = rt.alloc();
     let good = page(&[RECORD], [0x00, 0xA9]);
-    let (status, text) = printed(alloc, &["replay", "a"], Vec::new(alloc), &[], 100)?;
+    let (status, text) = printed(alloc, &["replay", "a"], Vec::new(alloc), "", &[], 100)?;
     assert_eq!(rt; (status, text.as_slice()), (1, b"usage\n".as_slice()));
-    let (status, text) = printed(alloc, &["pages", "dump"], Vec::new(alloc), &[1], 100)?;
+    let (status, text) = printed(alloc, &["pages", "dump"], Vec::new(alloc), "", &[1], 100)?;
     assert_eq!(rt; (status, text.as_slice()), (8, b"read fault\n".as_slice()));
     for (count, status, line) in [
         (16_777_216, 14, "bad page 0\n"),
         (16_777_217, 15, "file too long\n"),
     ] {
-        let (ended, text) = printed(alloc, &["pages", "dump"], ones(alloc, count)?, &[], 100)?;
+        let (ended, text) = printed(alloc, &["pages", "dump"], ones(alloc, count)?, "", &[], 100)?;
         assert_eq!(rt; (ended, text.as_slice()), (status, line.as_bytes()));
     }
     for capacity in 0..21 {
         let bytes = Vec::from_slice(alloc, &good)?;
-        let (status, _) = printed(alloc, &["pages", "dump"], bytes, &[], capacity)?;
+        let (status, _) = printed(alloc, &["pages", "dump"], bytes, "", &[], capacity)?;
         assert_eq!(rt; status, 9, "at {capacity}");
+    }
+    Ok(())
+}
+
+#[test]
+fn settings_are_judged_before_the_pages_and_correct_their_rows(
+    rt: HostRuntime,
+) -> Result<(), Fail> {
+    let alloc = rt.alloc();
+    let words = ["pages", "settings", "dump"];
+    let row =
+        "row 2024-07-01 00:05 5 outTemp=650 rain=0 highRainRate=0 windSamples=0 windGust=0 ET=0\n";
+    let kept = "row 2024-07-01 00:05 10 rain=0 highRainRate=0 windSamples=0 windGust=0 ET=0\n";
+    let cases = [
+        ("period = 5", 0, row),
+        (
+            "period = 10\n[calibration.outTemp]\nadd = 1\n[limits.outTemp]\ngreatest = 650",
+            0,
+            kept,
+        ),
+        ("perod = 5", 2, "settings unknown key top - 0\n"),
+        ("period = 7", 2, "settings bad period\n"),
+        ("period", 2, "settings syntax\n"),
+    ];
+    for (settings, want, lines) in cases {
+        let bytes = file(alloc, &[page(&[RECORD], [0x00, 0xA9])], PAGE_SIZE)?;
+        let (status, text) = printed(alloc, &words, bytes, settings, &[], 200)?;
+        assert_eq!(rt;
+            (status, text.as_slice()),
+            (want, lines.as_bytes()),
+            "{settings}"
+        );
+    }
+    for (failing, want) in [(1, "read fault\n"), (2, "read fault\n")] {
+        let (status, text) = printed(alloc, &words, ones(alloc, 267)?, "", &[failing], 200)?;
+        assert_eq!(rt;
+            (status, text.as_slice()),
+            (8, want.as_bytes()),
+            "{failing}"
+        );
     }
     Ok(())
 }

@@ -1,0 +1,54 @@
+-- What comes of the reading of a settings file: settings, or a line and a status that end the run.
+use Rattle.std.specs.Prelude.{ℕ, ◌≡◌, ◌≢◌, ◌⊎◌, List, [], Ok, Err, codes}
+use Rattle.settings_file.specs.FaultLine.{fault_line}
+use Rattle.settings_file.specs.Reading.{settings_of}
+use Rattle.settings_file.specs.StationSettings.{StationSettings}
+use Rattle.settings_file.specs.declared.fault.SettingsFault.{SettingsFault}
+use Rattle.station_io.specs.declared.files.TextRead.{TextRead}
+use Rattle.station_io.specs.declared.files.TextRead.TheVariants as reads
+use Rattle.station_top.specs.declared.status.Status.TheVariants as ends
+use Rattle.station_top.specs.Output.{Output}
+
+abbrev pub read_fault : Output
+read_fault = record { text = codes "read fault\n"; status = ends.ReadFault }
+
+abbrev pub too_long : Output
+too_long = record { text = codes "file too long\n"; status = ends.TooLong }
+
+abbrev pub no_memory : Output
+no_memory = record { text = []; status = ends.OutOfMemory }
+
+-- the line of a fault
+abbrev pub bad_settings : SettingsFault → Output
+bad_settings fault = record { text = fault_line fault; status = ends.BadSettings }
+
+pub data Judged : Type 0 where
+  refused : Output → Judged
+  accepted : StationSettings → Judged
+
+-- what may come of a text: its settings or its first fault, or want of memory
+abbrev pub JudgesText : List ℕ → Judged → Type 0
+JudgesText text (accepted settings) = settings_of text ≡ Ok settings
+JudgesText text (refused output) = (output ≡ no_memory) ⊎ ((fault : SettingsFault) × (settings_of text ≡ Err fault) × (output ≡ bad_settings fault))
+
+-- what may come of a reading, by its answer and the text that was read
+abbrev pub Judges : TextRead → List ℕ → Judged → Type 0
+Judges reads.Done text judged = JudgesText text judged
+Judges reads.Failed text judged = judged ≡ refused read_fault
+Judges reads.TooLong text judged = judged ≡ refused too_long
+Judges reads.OutOfMemory text judged = judged ≡ refused no_memory
+
+-- the settings file could not be read
+abbrev pub IsReadFault : Judged → Type 0
+IsReadFault (refused output) = output.status ≡ ends.ReadFault
+IsReadFault (accepted settings) = ⊥
+
+-- the run goes on, or ends for want of memory
+abbrev pub MayGoOn : Judged → Type 0
+MayGoOn (refused output) = output.status ≡ ends.OutOfMemory
+MayGoOn (accepted settings) = Unit {0}
+
+-- no write has failed yet
+abbrev pub IsEnding : Judged → Type 0
+IsEnding (refused output) = output.status ≢ ends.WriteFault
+IsEnding (accepted settings) = Unit {0}
