@@ -18,7 +18,7 @@ use Rattle.archive_record.proofs.Once.{raw_small, value_once}
 use Rattle.archive_record.proofs.Tiles.{place_is}
 
 -- a number means a value of its kind
-has_value : (kind : Kind) (raw : ℕ) → IsRaw kind raw → HasValue kind (value_of kind raw)
+pub has_value : (kind : Kind) (raw : ℕ) → IsRaw kind raw → HasValue kind (value_of kind raw)
 has_value SignedWord raw small = (omega (arith, ints), omega (arith, ints))
 has_value Word raw small = (omega (arith, ints), omega (arith, ints))
 has_value Byte raw small = (omega (arith, ints), omega (arith, ints))

@@ -7,3 +7,4 @@ pub mod Put
 pub mod Back
 pub mod Written
 pub mod Unmeasured
+pub mod Bounds

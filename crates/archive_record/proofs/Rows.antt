@@ -86,3 +86,15 @@ row_by false true (Some stamp) bytes row is = tt
 pub reads_as_row : (bytes : List ℕ) (row : Row) → reading bytes row.interval ≡ ReadRow row → ReadsAsRow bytes
 unfolding chosen reading
 reads_as_row bytes row is = row_by (is_unwritten bytes) (slice_index bytes 42 == 0) (stamp_in bytes) bytes row is
+
+-- what reads as a row at one interval does at any
+row_at_by : (unwritten known : Bool) (stamp : Option CivilMinute) (bytes : List ℕ) (interval : ℕ) → IsRow (chosen unwritten known stamp bytes 1) → IsRow (chosen unwritten known stamp bytes interval)
+unfolding chosen
+row_at_by true known stamp bytes interval row = row
+row_at_by false false stamp bytes interval row = row
+row_at_by false true None bytes interval row = row
+row_at_by false true (Some stamp) bytes interval row = tt
+
+pub row_at : (bytes : List ℕ) (interval : ℕ) → ReadsAsRow bytes → IsRow (reading bytes interval)
+unfolding chosen reading
+row_at bytes interval row = row_at_by (is_unwritten bytes) (slice_index bytes 42 == 0) (stamp_in bytes) bytes interval row

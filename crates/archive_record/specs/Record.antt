@@ -14,6 +14,13 @@ IsRow Empty = ⊥
 IsRow (OtherRevision revision) = ⊥
 IsRow (BadStamp date time) = ⊥
 
+-- a fact of the row that was read, if one was
+abbrev pub IfRow : RecordRead → (Row → Type 0) → Type 0
+IfRow (ReadRow row) P = P row
+IfRow Empty P = Unit {0}
+IfRow (OtherRevision revision) P = Unit {0}
+IfRow (BadStamp date time) P = Unit {0}
+
 -- the bytes read as a row, at whatever interval
 abbrev pub ReadsAsRow : List ℕ → Type 0
 ReadsAsRow bytes = IsRow (reading bytes 1)

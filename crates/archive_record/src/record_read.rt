@@ -1,5 +1,8 @@
-ghost use Rattle.std.specs.Prelude.{◌≡◌, map};
+ghost use Rattle.std.specs.Prelude.{◌≡◌, All, map};
+ghost use Rattle.station_base.specs.RowLine.{IsValueWithin};
 ghost use Rattle.archive_record.specs.Place.{value_in};
+ghost use Rattle.archive_record.specs.Reading.{reading, is_unwritten};
+ghost use Rattle.archive_record.specs.Record.{IfRow};
 ghost use Rattle.archive_record.specs.Table.{places};
 
 use crate::place::{RECORD_BYTES, word_at};
@@ -28,12 +31,11 @@ pub enum RecordRead {
     BadStamp { date: u16, time: u16 },
 }
 
-ghost use Rattle.archive_record.specs.Reading.{reading, is_unwritten};
-
 /// Reads a slot of a console that writes records at this interval (Davis serial manual, revision B).
 #[tactic(auto, unfolding(crate::specs::Reading::reading))]
 pub fn read(bytes: &[u8; RECORD_BYTES], interval: Period) -> RecordRead
-    ensures { result ≡ reading bytes.now interval }
+    ensures reading { result ≡ reading bytes.now interval }
+    ensures within { IfRow result (λ row. All (IsValueWithin 65_535) row.values) }
 {
     if is_unwritten(bytes) {
         return RecordRead::Empty;

@@ -13,9 +13,13 @@ use Rattle.station_base.specs.Stamp.{stamp_text}
 abbrev pub blank_row : Row
 blank_row = record { stamp = first_minute; interval = 1; values = replicate 37 None }
 
+-- no value, or one within a bound either way
+abbrev pub IsValueWithin : ℕ → Option ℤ → Type 0
+IsValueWithin bound value = ForSome value (IsWithin bound)
+
 -- a number that a row line has room for
 abbrev pub IsPrintable : Option ℤ → Type 0
-IsPrintable value = ForSome value (IsWithin 2000000)
+IsPrintable = IsValueWithin 2000000
 
 -- a field that has a value
 abbrev pub value_text : ℕ → Option ℤ → List ℕ
