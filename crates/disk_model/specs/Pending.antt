@@ -32,7 +32,18 @@ all_fit capacity [] = true
 all_fit capacity (Wrote number at len ∷ more) = nat_le (at + len) capacity && all_fit capacity more
 all_fit capacity (Synced number ∷ more) = all_fit capacity more
 
--- the picked byte of a place, with the writes since the last sync
+-- the picked byte of a place of a range, and else the byte that is there
+abbrev pub picked_within : ℕ → List ℕ → ℕ → ℕ → ℕ → ℕ → ℕ
+picked_within pick old at len p byte =
+    if nat_le at p && nat_lt p (at + len) then picked_byte pick p (slice_index old p) byte else byte
+
+-- the same, for each of these writes
+abbrev pub picked_by : ℕ → List ℕ → List Change → ℕ → ℕ → ℕ
+picked_by pick old [] p byte = byte
+picked_by pick old (Wrote number at len ∷ more) p byte = picked_by pick old more p (picked_within pick old at len p byte)
+picked_by pick old (Synced number ∷ more) p byte = picked_by pick old more p byte
+
+-- the picked byte of a place that one of these writes has, or past the old end, and else the byte that is there
 abbrev pub picked_one : ℕ → List ℕ → List Change → ℕ → ℕ → ℕ
-picked_one pick old changes p new =
-    if nat_le (length old) p || covers p changes then picked_byte pick p (slice_index old p) new else slice_index old p
+picked_one pick old changes p byte =
+    if covers p changes || nat_le (length old) p then picked_byte pick p (slice_index old p) byte else byte

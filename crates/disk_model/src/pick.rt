@@ -1,7 +1,7 @@
 // The image that a restart picks, made in place of what was last written.
 ghost use Rattle.std.specs.Prelude.{◌≡◌, ◌≤◌, ◌<◌, ◌+◌, ◌-◌, ◌*◌, ◌%◌, ◌/◌, ◌^◌, ◌++◌, [], ◌∷◌, ◌==◌, ◌||◌, List, Option, Some, None, ℕ, min, max, length, take, drop, true, false, vec_len, vec_capacity, slice_index};
 ghost use Rattle.disk_model.specs.Picked.{picked_length, by_number, picked_byte};
-ghost use Rattle.disk_model.specs.Pending.{covers, synced_count, replayed, all_fit, picked_one};
+ghost use Rattle.disk_model.specs.Pending.{synced_count, replayed, all_fit, picked_within, picked_by, picked_one};
 ghost use Rattle.disk_model.specs.Record.{total};
 
 use crate::change::Change;
@@ -46,20 +46,6 @@ fn choose_by(number: u64, old: u8, new: u8) -> u8
     }
 }
 
-// Whether a write of these has the place.
-fn is_covered(changes: &[Change], place: usize) -> bool
-    ensures { result ≡ covers place changes.now }
-{
-    for change in changes {
-        if let Change::Wrote { at, len, .. } = change {
-            if *at <= place && place - *at < *len {
-                return true;
-            }
-        }
-    }
-    false
-}
-
 // How many changes there are up to the last sync.
 pub(crate) fn count_synced(changes: &[Change]) -> usize
     ensures counts { result ≡ synced_count changes.now }
@@ -91,28 +77,42 @@ pub(crate) fn replay(first: &mut Vec<u8>, changes: &[Change], written: &[u8], ca
     }
 }
 
-// The picked byte of a place.
-fn pick_one(old: &[u8], changes: &[Change], pick: u64, place: usize, new: u8) -> u8
-    ensures { result ≡ picked_one pick old.now changes.now place new }
+// The byte that was there at the last sync, or 0 past the end.
+fn byte_at(old: &[u8], place: usize) -> u8
+    ensures { result ≡ slice_index old.now place }
 {
-    if place >= old.len() {
-        return choose(pick, place as u64, 0, new);
-    }
-    if is_covered(changes, place) {
-        return choose(pick, place as u64, old[place], new);
-    }
-    old[place]
+    if place < old.len() { old[place] } else { 0 }
 }
 
-// Puts the picked byte in each place.
+// Puts the picked byte in each place of a range that is there.
+fn pick_range(bytes: &mut [u8], old: &[u8], pick: u64, at: usize, len: usize)
+    ensures { (p : ℕ) → p < length bytes.old → slice_index bytes.new p ≡ picked_within pick old.now at len p (slice_index bytes.old p) }
+{
+    let mut p = at;
+    while p < bytes.len() && p - at < len {
+        bytes[p] = choose(pick, p as u64, byte_at(old, p), bytes[p]);
+        p += 1;
+    }
+}
+
+// Puts the picked byte in each place that one of these writes covers.
+fn pick_written(bytes: &mut [u8], old: &[u8], changes: &[Change], pick: u64)
+    ensures { (p : ℕ) → p < length bytes.old → slice_index bytes.new p ≡ picked_by pick old.now changes.now p (slice_index bytes.old p) }
+{
+    for change in changes {
+        if let Change::Wrote { at, len, .. } = change {
+            pick_range(bytes, old, pick, *at, *len);
+        }
+    }
+}
+
+// Puts the picked byte in each place that these writes cover, and in all from the old end on.
 pub(crate) fn pick_places(bytes: &mut [u8], old: &[u8], changes: &[Change], pick: u64)
     ensures { (p : ℕ) → p < length bytes.old → slice_index bytes.new p ≡ picked_one pick old.now changes.now p (slice_index bytes.old p) }
 {
-    let mut p = 0;
-    while p < bytes.len() {
-        bytes[p] = pick_one(old, changes, pick, p, bytes[p]);
-        p += 1;
-    }
+    pick_written(bytes, old, changes, pick);
+    let len = bytes.len();
+    pick_range(bytes, old, pick, old.len(), len);
 }
 
 // The length of the picked image.
