@@ -1,5 +1,5 @@
 -- What the calls of a disk do to what a read gives, and to what a crash may leave.
-use Rattle.std.specs.Prelude.{◌≡◌, ◌⊎◌, ℕ, ◌+◌, ◌-◌, ◌<◌, ◌≤◌, max, List, ◌++◌, length, take, drop, slice_index, Option}
+use Rattle.std.specs.Prelude.{◌≡◌, ◌⊎◌, ℕ, ◌+◌, ◌-◌, ◌<◌, ◌≤◌, max, List, ◌++◌, length, take, drop, slice_index, Option, Some}
 use Rattle.std.proofs.Common.{refl, sym, subst, inl, inr, ⊎_elim, ◌∙◌}
 use Rattle.std.proofs.Math.ListN.{replicate}
 use Rattle.disk_model.specs.declared.disk.Disked.{Disked}
@@ -35,6 +35,10 @@ Follows step old new = (c : List ℕ) → new c → (d : List ℕ) × old d × s
 -- each old image, after the step, is a new one
 abbrev pub Leads : (List ℕ → List ℕ → Type 0) → (List ℕ → Type 0) → (List ℕ → Type 0) → Type 0
 Leads step old new = (d c : List ℕ) → old d → step d c → new c
+
+-- a crash now leaves what a read gives
+abbrev pub IsDurable : {D : Type 0} → (D → Option (List ℕ)) → (D → ℕ) → (D → ℕ → List ℕ → Type 0) → D → Type 0
+IsDurable seen moment left disk = (c : List ℕ) → left disk (moment disk) c → seen disk ≡ Some c
 
 -- a crash leaves just these bytes, whenever it comes
 pub record LeavesJust (left : ℕ → List ℕ → Type 0) (bytes : List ℕ) : Type 0 where

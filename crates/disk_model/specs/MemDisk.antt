@@ -1,5 +1,5 @@
 -- A disk in memory, as its contracts see it.
-use Rattle.std.specs.Prelude.{ℕ, ◌-◌, List, [], length}
+use Rattle.std.specs.Prelude.{◌≡◌, ℕ, ◌-◌, List, [], length}
 use Rattle.disk_model.specs.declared.mem_disk.MemDisk.{MemDisk}
 use Rattle.disk_model.specs.DiskState.{Limits, DiskState, disk_state, singles_after}
 use Rattle.disk_model.specs.Medium.{Step, Medium, fresh, take_steps}
@@ -20,3 +20,8 @@ abbrev pub state_of : MemDisk → DiskState
 state_of d =
     disk_state d.fails_at (length d.bytes.items) (limits_of d)
     (d.change_room - length d.changes.items) (d.byte_room - length d.written.items) (singles_after [] (steps_on d))
+
+-- the file and the record stay
+abbrev pub KeepsRecord : MemDisk → MemDisk → Type 0
+KeepsRecord old new =
+    (new.bytes.items ≡ old.bytes.items) × (new.changes.items ≡ old.changes.items) × (new.written.items ≡ old.written.items)

@@ -2,7 +2,7 @@
 use Rattle.std.proofs.Common.{ap, ◌∙◌}
 use Rattle.std.specs.Prelude.{◌≡◌, ℕ, ◌-◌, Bool, true, false, ◌&&◌, ◌==◌, List, [], ◌∷◌, ◌++◌, refl, Option, Some, None, if◌then◌else◌}
 use Rattle.disk_model.specs.Calls.{DiskCall, synced, answered_failed, is_change}
-use Rattle.disk_model.specs.DiskState.{DiskState, counted, next, after_call}
+use Rattle.disk_model.specs.DiskState.{DiskState, anew, counted, next, after_call}
 
 pub record StoppingState : Type 0 where
   pub inner : DiskState
@@ -11,6 +11,10 @@ pub record StoppingState : Type 0 where
   -- which of the images a restart takes
   pub pick : ℕ
   pub stopped : Bool
+
+-- after a restart with a file of this length
+abbrev pub begun_again : ℕ → StoppingState → StoppingState
+begun_again size s = record s { inner = anew size s.inner; armed = 0; stopped = false }
 
 -- What the stopped change makes of the disk: a write is there where it would have been done, a sync does nothing.
 abbrev pub within_stop : DiskState → DiskCall → DiskState

@@ -2,7 +2,7 @@ ghost use Rattle.std.specs.Prelude.{◌≡◌, ◌≤◌, ◌<◌, ◌+◌, ◌-
 ghost use Rattle.causes.specs.Cause.{Cause};
 ghost use Rattle.causes.specs.Told.{WhereTold, map_told};
 ghost use Rattle.disk_model.specs.Calls.{DiskCall, attached, measured, was_read, wrote_bytes, synced};
-ghost use Rattle.disk_model.specs.Disk.{OnDone, OnKnown, written, Torn, Follows, Leads, Elapses, Stays};
+ghost use Rattle.disk_model.specs.Disk.{OnDone, OnKnown, written, Torn, Follows, Leads, Elapses, Stays, IsDurable};
 
 /// How a call of a disk ended.
 #[derive(Clone, Copy, Debug, PartialEq, Eq)]
@@ -75,8 +75,10 @@ pub trait Disk {
         requires room { moment self.old < 2 ^ 64 - 1 }
         requires some_bytes { 0 < length bytes.now }
         ensures seen { OnDone result (seen self.new ≡ map_told (written at bytes.now) (seen self.old)) }
-        ensures crash { Follows (Torn at (length bytes.now)) (left self.old (moment self.old)) (left self.new (moment self.new)) }
-        ensures not_before_a_sync { OnDone result (Leads (Torn at (length bytes.now)) (left self.old (moment self.old)) (left self.new (moment self.new))) }
+        ensures crash { Follows (Torn at (length bytes.now))
+            (left self.old (moment self.old)) (left self.new (moment self.new)) }
+        ensures not_before_a_sync { OnDone result (Leads (Torn at (length bytes.now))
+            (left self.old (moment self.old)) (left self.new (moment self.new))) }
         ensures time { Elapses moment left self.old self.new }
         ensures cause { Cause (faults self.old) (faults self.new) (result ≡ Disked.Failed) }
         ensures went { went self.old (wrote_bytes at bytes.now result ∷ []) self.new };
@@ -85,7 +87,7 @@ pub trait Disk {
     fn sync(&mut self) -> Disked
         requires { moment self.old < 2 ^ 64 - 1 }
         ensures seen { OnDone result (seen self.new ≡ seen self.old) }
-        ensures durable { OnDone result ((c : List ℕ) → left self.new (moment self.new) c → seen self.new ≡ Some c) }
+        ensures durable { OnDone result (IsDurable seen moment left self.new) }
         ensures crash { (c : List ℕ) → left self.new (moment self.new) c → left self.old (moment self.old) c }
         ensures time { Elapses moment left self.old self.new }
         ensures cause { Cause (faults self.old) (faults self.new) (result ≡ Disked.Failed) }
@@ -105,5 +107,6 @@ pub trait Disk {
     ghost went_none: { (d : Self) → went d [] d };
 
     /// Calls after one another join.
-    ghost went_joins: { (d e f : Self) (first then : List DiskCall) → went d first e → went e then f → went d (first ++ then) f };
+    ghost went_joins: { (d e f : Self) (first then : List DiskCall)
+        → went d first e → went e then f → went d (first ++ then) f };
 }

@@ -50,7 +50,7 @@ pub struct MemDisk {
 }
 
 impl MemDisk {
-    ghost use Rattle.disk_model.specs.MemDisk.{state_of, medium_of, limits_of};
+    ghost use Rattle.disk_model.specs.MemDisk.{state_of, medium_of, limits_of, KeepsRecord};
 
     /// An empty disk with no faults. Room for twice `capacity` bytes, for `changes` changes and for
     /// `written` bytes of writes is taken here, and no memory later.
@@ -64,7 +64,8 @@ impl MemDisk {
         ensures images { IfOk result (λ d. LeavesJust (⟦<MemDisk as Disk>⟧.left d) []) }
         ensures begun { IfOk result (λ d. ⟦<MemDisk as Disk>⟧.moment d ≡ 0) }
         ensures no_faults { IfOk result (λ d. ⟦<MemDisk as Disk>⟧.faults d ≡ 0) }
-        ensures state { IfOk result (λ d. state_of d ≡ new_state (record { capacity = capacity; changes = changes; bytes = written })) }
+        ensures state { IfOk result (λ d. state_of d
+            ≡ new_state (record { capacity = capacity; changes = changes; bytes = written })) }
     {
         Ok(MemDisk {
             bytes: Vec::with_capacity(alloc, capacity)?,
@@ -85,7 +86,8 @@ impl MemDisk {
     pub fn fail_at(&mut self, call: u64)
         requires { 1 ≤ call }
         ensures state { state_of self.new ≡ record (state_of self.old) { fails_at = call } }
-        ensures stays { Stays ⟦<MemDisk as Disk>⟧.seen ⟦<MemDisk as Disk>⟧.moment ⟦<MemDisk as Disk>⟧.left self.old self.new }
+        ensures stays { Stays ⟦<MemDisk as Disk>⟧.seen ⟦<MemDisk as Disk>⟧.moment ⟦<MemDisk as Disk>⟧.left
+            self.old self.new }
         ensures faults { ⟦<MemDisk as Disk>⟧.faults self.new ≡ ⟦<MemDisk as Disk>⟧.faults self.old }
         ensures medium { medium_of self.new ≡ medium_of self.old }
     {
@@ -123,10 +125,11 @@ impl MemDisk {
 
     // Counts a call that fails for a cause from without.
     pub(crate) fn refuse(&mut self)
-        ensures stays { Stays ⟦<MemDisk as Disk>⟧.seen ⟦<MemDisk as Disk>⟧.moment ⟦<MemDisk as Disk>⟧.left self.old self.new }
+        ensures stays { Stays ⟦<MemDisk as Disk>⟧.seen ⟦<MemDisk as Disk>⟧.moment ⟦<MemDisk as Disk>⟧.left
+            self.old self.new }
         ensures cause { Cause self.old.faults self.new.faults (Disked.Failed ≡ Disked.Failed) }
-        ensures state { (self.new.fails_at ≡ self.old.fails_at - 1) × (self.new.capacity ≡ self.old.capacity) × (self.new.change_room ≡ self.old.change_room) × (self.new.byte_room ≡ self.old.byte_room) }
-        ensures same { (self.new.bytes.items ≡ self.old.bytes.items) × (self.new.changes.items ≡ self.old.changes.items) × (self.new.written.items ≡ self.old.written.items) }
+        ensures state { (self.new.fails_at ≡ self.old.fails_at - 1) × (limits_of self.new ≡ limits_of self.old) }
+        ensures same { KeepsRecord self.old self.new }
     {
         let _due = comes_due(&mut self.fails_at);
         self.faults = raised(self.faults);
@@ -136,10 +139,11 @@ impl MemDisk {
     pub(crate) fn refuse_change(&mut self)
         requires { self.old.moment < 2 ^ 64 - 1 }
         ensures time { Elapses ⟦<MemDisk as Disk>⟧.moment ⟦<MemDisk as Disk>⟧.left self.old self.new }
-        ensures crash { (c : List ℕ) → ⟦<MemDisk as Disk>⟧.left self.new self.new.moment c → ⟦<MemDisk as Disk>⟧.left self.old self.old.moment c }
+        ensures crash { (c : List ℕ) → ⟦<MemDisk as Disk>⟧.left self.new self.new.moment c
+            → ⟦<MemDisk as Disk>⟧.left self.old self.old.moment c }
         ensures cause { Cause self.old.faults self.new.faults (Disked.Failed ≡ Disked.Failed) }
-        ensures state { (self.new.fails_at ≡ self.old.fails_at - 1) × (self.new.capacity ≡ self.old.capacity) × (self.new.change_room ≡ self.old.change_room) × (self.new.byte_room ≡ self.old.byte_room) }
-        ensures same { (self.new.bytes.items ≡ self.old.bytes.items) × (self.new.changes.items ≡ self.old.changes.items) × (self.new.written.items ≡ self.old.written.items) }
+        ensures state { (self.new.fails_at ≡ self.old.fails_at - 1) × (limits_of self.new ≡ limits_of self.old) }
+        ensures same { KeepsRecord self.old self.new }
     {
         let _due = comes_due(&mut self.fails_at);
         self.moment += 1;
@@ -148,17 +152,19 @@ impl MemDisk {
 
     // Counts a fault.
     pub(crate) fn note_fault(&mut self)
-        ensures stays { Stays ⟦<MemDisk as Disk>⟧.seen ⟦<MemDisk as Disk>⟧.moment ⟦<MemDisk as Disk>⟧.left self.old self.new }
+        ensures stays { Stays ⟦<MemDisk as Disk>⟧.seen ⟦<MemDisk as Disk>⟧.moment ⟦<MemDisk as Disk>⟧.left
+            self.old self.new }
         ensures cause { Cause self.old.faults self.new.faults (Disked.Failed ≡ Disked.Failed) }
-        ensures state { (self.new.fails_at ≡ self.old.fails_at) × (self.new.capacity ≡ self.old.capacity) × (self.new.change_room ≡ self.old.change_room) × (self.new.byte_room ≡ self.old.byte_room) }
-        ensures same { (self.new.bytes.items ≡ self.old.bytes.items) × (self.new.changes.items ≡ self.old.changes.items) × (self.new.written.items ≡ self.old.written.items) }
+        ensures state { (self.new.fails_at ≡ self.old.fails_at) × (limits_of self.new ≡ limits_of self.old) }
+        ensures same { KeepsRecord self.old self.new }
     {
         self.faults = raised(self.faults);
     }
 
     // Whether a write does not fit, or the record has no room for it.
     fn lacks_room(&self, at: u64, len: usize) -> bool
-        ensures { result ≡ misfit_write self.now.capacity (self.now.change_room - length self.now.changes.items) (self.now.byte_room - length self.now.written.items) at len }
+        ensures { result ≡ misfit_write self.now.capacity
+            (self.now.change_room - length self.now.changes.items) (self.now.byte_room - length self.now.written.items) at len }
     {
         if self.capacity < len || at > (self.capacity - len) as u64 {
             return true;

@@ -2,8 +2,7 @@ ghost use Rattle.std.specs.Prelude.{◌≡◌, ◌≤◌, ◌<◌, ◌+◌, ◌-
 ghost use Rattle.std.proofs.Common.{arith, refl};
 ghost use Rattle.disk_model.specs.Disk.{Stays, Elapses, LeavesJust};
 ghost use Rattle.disk_model.specs.Medium.{LeftBy};
-ghost use Rattle.disk_model.specs.DiskState.{anew};
-ghost use Rattle.disk_model.specs.StoppingState.{StopWentBy, stop_went_joins};
+ghost use Rattle.disk_model.specs.StoppingState.{StopWentBy, stop_went_joins, begun_again};
 ghost use Rattle.disk_model.specs.TimeLaws.{reads_image};
 
 use crate::countdown::comes_due;
@@ -29,7 +28,8 @@ impl Stopping<MemDisk> {
     /// This disk, with no stop armed. Takes no memory.
     pub fn new(disk: MemDisk) -> Self
         ensures reads { ⟦<Stopping<MemDisk> as Disk>⟧.seen result ≡ ⟦<MemDisk as Disk>⟧.seen disk }
-        ensures images { (t : ℕ) (c : List ℕ) → ⟦<Stopping<MemDisk> as Disk>⟧.left result t c ↔ ⟦<MemDisk as Disk>⟧.left disk t c }
+        ensures images { (t : ℕ) (c : List ℕ)
+            → ⟦<Stopping<MemDisk> as Disk>⟧.left result t c ↔ ⟦<MemDisk as Disk>⟧.left disk t c }
         ensures moment { ⟦<Stopping<MemDisk> as Disk>⟧.moment result ≡ ⟦<MemDisk as Disk>⟧.moment disk }
         ensures faults { ⟦<Stopping<MemDisk> as Disk>⟧.faults result ≡ ⟦<MemDisk as Disk>⟧.faults disk }
         ensures state { stopping_state_of result ≡ record { inner = state_of disk; armed = 0; pick = 0; stopped = false } }
@@ -50,8 +50,10 @@ impl Stopping<MemDisk> {
         requires at_least { 1 ≤ k }
         requires goes { (stopping_state_of self.old).stopped ≡ false }
         ensures state { stopping_state_of self.new ≡ record (stopping_state_of self.old) { armed = k; pick = pick } }
-        ensures stays { Stays ⟦<Stopping<MemDisk> as Disk>⟧.seen ⟦<Stopping<MemDisk> as Disk>⟧.moment ⟦<Stopping<MemDisk> as Disk>⟧.left self.old self.new }
-        ensures faults { ⟦<Stopping<MemDisk> as Disk>⟧.faults self.new ≡ ⟦<Stopping<MemDisk> as Disk>⟧.faults self.old }
+        ensures stays { Stays ⟦<Stopping<MemDisk> as Disk>⟧.seen ⟦<Stopping<MemDisk> as Disk>⟧.moment
+            ⟦<Stopping<MemDisk> as Disk>⟧.left self.old self.new }
+        ensures faults { ⟦<Stopping<MemDisk> as Disk>⟧.faults self.new
+            ≡ ⟦<Stopping<MemDisk> as Disk>⟧.faults self.old }
         ensures medium { medium_within self.new ≡ medium_within self.old }
     {
         self.armed = k;
@@ -62,8 +64,10 @@ impl Stopping<MemDisk> {
     pub fn disarm(&mut self)
         requires { (stopping_state_of self.old).stopped ≡ false }
         ensures state { stopping_state_of self.new ≡ record (stopping_state_of self.old) { armed = 0 } }
-        ensures stays { Stays ⟦<Stopping<MemDisk> as Disk>⟧.seen ⟦<Stopping<MemDisk> as Disk>⟧.moment ⟦<Stopping<MemDisk> as Disk>⟧.left self.old self.new }
-        ensures faults { ⟦<Stopping<MemDisk> as Disk>⟧.faults self.new ≡ ⟦<Stopping<MemDisk> as Disk>⟧.faults self.old }
+        ensures stays { Stays ⟦<Stopping<MemDisk> as Disk>⟧.seen ⟦<Stopping<MemDisk> as Disk>⟧.moment
+            ⟦<Stopping<MemDisk> as Disk>⟧.left self.old self.new }
+        ensures faults { ⟦<Stopping<MemDisk> as Disk>⟧.faults self.new
+            ≡ ⟦<Stopping<MemDisk> as Disk>⟧.faults self.old }
         ensures medium { medium_within self.new ≡ medium_within self.old }
     {
         self.armed = 0;
@@ -75,11 +79,14 @@ impl Stopping<MemDisk> {
     pub fn restart(&mut self)
         requires { (stopping_state_of self.old).stopped ≡ true }
         ensures reads { ⟦<Stopping<MemDisk> as Disk>⟧.seen self.new ≡ Some (restart_image self.old) }
-        ensures was_left { ⟦<Stopping<MemDisk> as Disk>⟧.left self.old (⟦<Stopping<MemDisk> as Disk>⟧.moment self.old) (restart_image self.old) }
+        ensures was_left { ⟦<Stopping<MemDisk> as Disk>⟧.left self.old (⟦<Stopping<MemDisk> as Disk>⟧.moment self.old)
+            (restart_image self.old) }
         ensures images { LeavesJust (⟦<Stopping<MemDisk> as Disk>⟧.left self.new) (restart_image self.old) }
-        ensures moment { ⟦<Stopping<MemDisk> as Disk>⟧.moment self.new ≡ ⟦<Stopping<MemDisk> as Disk>⟧.moment self.old }
-        ensures faults { ⟦<Stopping<MemDisk> as Disk>⟧.faults self.new ≡ ⟦<Stopping<MemDisk> as Disk>⟧.faults self.old }
-        ensures state { stopping_state_of self.new ≡ record (stopping_state_of self.old) { inner = anew (length (restart_image self.old)) (stopping_state_of self.old).inner; armed = 0; stopped = false } }
+        ensures moment { ⟦<Stopping<MemDisk> as Disk>⟧.moment self.new
+            ≡ ⟦<Stopping<MemDisk> as Disk>⟧.moment self.old }
+        ensures faults { ⟦<Stopping<MemDisk> as Disk>⟧.faults self.new
+            ≡ ⟦<Stopping<MemDisk> as Disk>⟧.faults self.old }
+        ensures state { stopping_state_of self.new ≡ begun_again (length (restart_image self.old)) (stopping_state_of self.old) }
     {
         self.disk.restart(self.pick);
         self.armed = 0;

@@ -4,7 +4,8 @@ use Rattle.disk_model.specs.declared.disk.Disked.{Disked}
 use Rattle.disk_model.specs.declared.disk.Disked.TheVariants as disked
 use Rattle.gated_log.specs.declared.append.Append.{Append}
 use Rattle.gated_log.specs.declared.append.Append.TheVariants.{Done, DiskFault}
-use Rattle.gated_log.specs.Log.{holds, log_of, in_slots}
+use Rattle.gated_log.specs.Log.{in_slots}
+use Rattle.gated_log.specs.Stands.{Has}
 
 -- 1 to 70 whole slots as they are handed in: where the gate and the number of slots are to stand there is 0
 pub record IsHanded (bytes : List ℕ) : Type 0 where
@@ -26,7 +27,7 @@ behind_gate other = []
 
 -- the image holds the old slots, or, where it is late, these and all new ones
 abbrev pub OldOrAll : List (List ℕ) → List (List ℕ) → Type 0 → List ℕ → Type 0
-OldOrAll old new late image = (log_of image ≡ holds old) ⊎ (late × (log_of image ≡ holds (old ++ new)))
+OldOrAll old new late image = Has old image ⊎ (late × Has (old ++ new) image)
 
 -- the clause of an answer Done
 abbrev pub OnAppended : Append → Type 0 → Type 0

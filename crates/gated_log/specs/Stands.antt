@@ -1,8 +1,17 @@
 -- When a log stands for slots on a disk.
-use Rattle.std.specs.Prelude.{◌≡◌, ◌⊎◌, ℕ, ◌<◌, ◌≤◌, List, [], ◌∷◌, ◌++◌, length, Option, Some}
+use Rattle.std.specs.Prelude.{◌≡◌, ◌⊎◌, ℕ, ◌<◌, ◌≤◌, List, [], ◌∷◌, ◌++◌, length, Option}
 use Rattle.causes.specs.Told.{WhereTold}
+use Rattle.disk_model.specs.Disk.{IsDurable}
 use Rattle.gated_log.specs.Chain.{IsChain}
 use Rattle.gated_log.specs.Log.{log_of, holds, unmarked}
+
+-- the image holds these slots
+abbrev pub Has : List (List ℕ) → List ℕ → Type 0
+Has slots image = log_of image ≡ holds slots
+
+-- what the disk reads, where it tells that, holds these slots
+abbrev pub ReadsAs : {D : Type 0} → (D → Option (List ℕ)) → D → List (List ℕ) → Type 0
+ReadsAs seen disk slots = WhereTold (seen disk) (Has slots)
 
 -- these bytes, and then a closed gate
 abbrev pub Closed : List ℕ → List ℕ → Type 0
@@ -18,7 +27,7 @@ pub record Opened (before behind image : List ℕ) : Type 0 where
 -- a disk that rests at the closed gate behind these bytes: it reads so, and a crash now leaves what a read gives
 pub record Rests {D : Type 0} (seen : D → Option (List ℕ)) (moment : D → ℕ) (left : D → ℕ → List ℕ → Type 0) (before : List ℕ) (disk : D) : Type 0 where
   pub reads : WhereTold (seen disk) (Closed before)
-  pub durable : (c : List ℕ) → left disk (moment disk) c → seen disk ≡ Some c
+  pub durable : IsDurable seen moment left disk
 
 -- The log with so many slots stands for these slots on the disk: where the disk tells its bytes, what a read gives
 -- has just these slots, behind them a closed gate, and a crash now leaves what a read gives.
@@ -38,7 +47,7 @@ pub record StandsToRead {D : Type 0} (seen : D → Option (List ℕ)) (count : �
 
 -- every image that a crash now may leave holds these slots
 abbrev pub NowHolds : {D : Type 0} → (D → ℕ) → (D → ℕ → List ℕ → Type 0) → D → List (List ℕ) → Type 0
-NowHolds moment left disk slots = (c : List ℕ) → left disk (moment disk) c → log_of c ≡ holds slots
+NowHolds moment left disk slots = (c : List ℕ) → left disk (moment disk) c → Has slots c
 
 -- the bytes are the slot's, but for the gate and the number of slots of a batch's first slot
 abbrev pub IsSlot : List ℕ → List ℕ → Type 0

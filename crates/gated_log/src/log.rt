@@ -2,11 +2,10 @@ ghost use Rattle.std.specs.Prelude.{◌≡◌, ◌⊎◌, ◌↔◌, ◌≤◌, 
 ghost use Rattle.causes.specs.Cause.{Cause};
 ghost use Rattle.causes.specs.Told.{WhereTold};
 ghost use Rattle.disk_model.specs.Calls.{was_read};
-ghost use Rattle.disk_model.specs.Disk.{OnDone, Stays, LeavesOnly};
+ghost use Rattle.disk_model.specs.Disk.{OnDone, Stays, LeavesOnly, IsDurable};
 ghost use Rattle.gated_log.specs.Appending.{IsHanded, handed, OldOrAll, OnAppended, Moved, disk_answer, count_after, stale_after};
 ghost use Rattle.gated_log.specs.Calls.{up_to, four_changes, RecoveryCalls};
-ghost use Rattle.gated_log.specs.Log.{log_of, holds};
-ghost use Rattle.gated_log.specs.Stands.{Stands, StandsToRead, NowHolds, IsSlot};
+ghost use Rattle.gated_log.specs.Stands.{Stands, StandsToRead, NowHolds, Has, ReadsAs, IsSlot};
 
 use crate::append::prepare;
 use crate::commit::commit;
@@ -47,20 +46,22 @@ impl GatedLog {
 
         ensures read_changes_nothing { OnRead purpose (Stays D.seen D.moment D.left disk.old disk.new) }
         ensures stands_to_read { OnRead purpose (OnLog result (λ log. (slots : List (List ℕ))
-            × StandsToRead D.seen (slot_count log) disk.new slots × WhereTold (D.seen disk.old) (λ c. log_of c ≡ holds slots))) }
+            × StandsToRead D.seen (slot_count log) disk.new slots × ReadsAs D.seen disk.old slots)) }
 
-        ensures moved { OnWrite purpose (OnLog result (λ _. WhereTold (D.seen disk.old) (MovedToWrite (D.moment disk.old) (D.moment disk.new)))) }
+        ensures moved { OnWrite purpose (OnLog result (λ _. WhereTold (D.seen disk.old)
+            (MovedToWrite (D.moment disk.old) (D.moment disk.new)))) }
         ensures stands { OnWrite purpose (OnLog result (λ log. (slots : List (List ℕ))
-            × Stands D.seen D.moment D.left (slot_count log) disk.new slots × WhereTold (D.seen disk.old) (λ c. log_of c ≡ holds slots))) }
+            × Stands D.seen D.moment D.left (slot_count log) disk.new slots × ReadsAs D.seen disk.old slots)) }
 
         // Whatever it answered: where each image that a crash at the start may leave had the slots
         // that the disk read then, so has each image since.
-        ensures images { OnWrite purpose ((slots : List (List ℕ)) → WhereTold (D.seen disk.old) (λ c. log_of c ≡ holds slots) → NowHolds D.moment D.left disk.old slots
-            → LeavesOnly D.moment D.left (λ c. log_of c ≡ holds slots) disk.old disk.new) }
+        ensures images { OnWrite purpose ((slots : List (List ℕ)) → ReadsAs D.seen disk.old slots
+            → NowHolds D.moment D.left disk.old slots
+            → LeavesOnly D.moment D.left (Has slots) disk.old disk.new) }
 
         // Each image since the first sync ended has the slots.
-        ensures since_sync { OnWrite purpose (OnLog result (λ _. (slots : List (List ℕ)) → WhereTold (D.seen disk.old) (λ c. log_of c ≡ holds slots)
-            → (c : List ℕ) → D.left disk.new (D.moment disk.old + 1) c → log_of c ≡ holds slots)) }
+        ensures since_sync { OnWrite purpose (OnLog result (λ _. (slots : List (List ℕ)) → ReadsAs D.seen disk.old slots
+            → (c : List ℕ) → D.left disk.new (D.moment disk.old + 1) c → Has slots c)) }
     {
         match purpose {
             Purpose::Read => recover_to_read(disk),
@@ -100,7 +101,8 @@ impl GatedLog {
         requires shape { IsHanded slots.now }
 
         ensures stale { (result ≡ Append.Stale) ↔ (is_stale self.old ≡ true) }
-        ensures full { (result ≡ Append.Full) ↔ ((is_stale self.old ≡ false) × (2097152 < slot_count self.old + length slots.now / 176)) }
+        ensures full { (result ≡ Append.Full)
+            ↔ ((is_stale self.old ≡ false) × (2097152 < slot_count self.old + length slots.now / 176)) }
         ensures cause { Cause (D.faults disk.old) (D.faults disk.new) (result ≡ Append.DiskFault) }
         ensures marked { is_stale self.new ≡ stale_after result (is_stale self.old) }
         ensures counted { slot_count self.new ≡ count_after result (slot_count self.old) (length slots.now / 176) }
@@ -108,17 +110,20 @@ impl GatedLog {
         ensures moved { Moved result (D.moment disk.old) (D.moment disk.new) }
 
         // Its writes and syncs, in order and up to the first that failed.
-        ensures went { D.went disk.old (up_to (take (D.moment disk.new - D.moment disk.old) (four_changes (176 * (slot_count self.old + 1)) (length slots.now))) (disk_answer result)) disk.new }
+        ensures went { D.went disk.old (up_to (take (D.moment disk.new - D.moment disk.old)
+            (four_changes (176 * (slot_count self.old + 1)) (length slots.now))) (disk_answer result)) disk.new }
 
         // A crash since then leaves the old slots, or, once the third change was begun, these and all new ones.
         ensures images { (old : List (List ℕ)) → Stands D.seen D.moment D.left (slot_count self.old) disk.old old
-            → LeavesOnly D.moment D.left (OldOrAll old (handed slots.now) (D.moment disk.old + 3 ≤ D.moment disk.new)) disk.old disk.new }
+            → LeavesOnly D.moment D.left (OldOrAll old (handed slots.now) (D.moment disk.old + 3 ≤ D.moment disk.new))
+            disk.old disk.new }
 
         // Whatever it answered, the old slots can be read.
         ensures still { (old : List (List ℕ)) → Stands D.seen D.moment D.left (slot_count self.old) disk.old old
             → StandsToRead D.seen (slot_count self.old) disk.new old }
 
-        ensures stands { OnAppended result ((old : List (List ℕ)) → Stands D.seen D.moment D.left (slot_count self.old) disk.old old
+        ensures stands { OnAppended result ((old : List (List ℕ))
+            → Stands D.seen D.moment D.left (slot_count self.old) disk.old old
             → Stands D.seen D.moment D.left (slot_count self.new) disk.new (old ++ handed slots.now)) }
     {
         if self.stale {

@@ -2,11 +2,10 @@ ghost use Rattle.std.specs.Prelude.{◌≡◌, ◌<◌, List, Some, ℕ, false, 
 ghost use Rattle.causes.specs.Cause.{Cause};
 ghost use Rattle.causes.specs.Told.{WhereTold};
 ghost use Rattle.disk_model.specs.Calls.{DiskCall};
-ghost use Rattle.disk_model.specs.Disk.{Stays};
+ghost use Rattle.disk_model.specs.Disk.{Stays, IsDurable};
 ghost use Rattle.gated_log.specs.Calls.{reads_within};
 ghost use Rattle.gated_log.specs.GatedLog.{slot_count, is_stale};
-ghost use Rattle.gated_log.specs.Log.{log_of, holds};
-ghost use Rattle.gated_log.specs.Stands.{Stands, StandsToRead};
+ghost use Rattle.gated_log.specs.Stands.{Stands, StandsToRead, ReadsAs};
 ghost use Rattle.gated_log.specs.Start.{Finds, OnLog};
 
 use crate::layout::is_mark;
@@ -21,10 +20,11 @@ pub(crate) fn look<D: Disk>(disk: &mut D, len: u64) -> LogStart
     ensures fresh { OnLog result (λ log. is_stale log ≡ false) }
     ensures stays { Stays D.seen D.moment D.left disk.old disk.new }
     ensures cause { Cause (D.faults disk.old) (D.faults disk.new) (result ≡ LogStart.DiskFault) }
-    ensures stands { OnLog result (λ log. ((c : List ℕ) → D.left disk.old (D.moment disk.old) c → D.seen disk.old ≡ Some c) → WhereTold (D.seen disk.old) (λ c. length c ≡ len)
+    ensures stands { OnLog result (λ log. IsDurable D.seen D.moment D.left disk.old
+        → WhereTold (D.seen disk.old) (λ c. length c ≡ len)
         → (slots : List (List ℕ)) × Stands D.seen D.moment D.left (slot_count log) disk.new slots) }
     ensures readable { OnLog result (λ log. WhereTold (D.seen disk.old) (λ c. length c ≡ len)
-        → (slots : List (List ℕ)) × StandsToRead D.seen (slot_count log) disk.new slots × WhereTold (D.seen disk.old) (λ c. log_of c ≡ holds slots)) }
+        → (slots : List (List ℕ)) × StandsToRead D.seen (slot_count log) disk.new slots × ReadsAs D.seen disk.old slots) }
     ensures went { (calls : List DiskCall) × reads_within len calls × D.went disk.old calls disk.new }
 {
     let mut head = [0; 8];

@@ -2,11 +2,11 @@ ghost use Rattle.std.specs.Prelude.{◌≡◌, ◌≤◌, ◌<◌, ◌+◌, ◌-
 ghost use Rattle.causes.specs.Cause.{Cause};
 ghost use Rattle.causes.specs.Told.{WhereTold};
 ghost use Rattle.disk_model.specs.declared.disk.Disked.{Disked};
-ghost use Rattle.disk_model.specs.Disk.{OnDone, Stays, LeavesOnly};
+ghost use Rattle.disk_model.specs.Disk.{OnDone, Stays, LeavesOnly, IsDurable};
 ghost use Rattle.gated_log.specs.Calls.{up_to, made_changes, RecoveryCalls};
 ghost use Rattle.gated_log.specs.GatedLog.{slot_count, is_stale};
 ghost use Rattle.gated_log.specs.Log.{log_of, holds, empty_archive};
-ghost use Rattle.gated_log.specs.Stands.{Stands, StandsToRead, NowHolds};
+ghost use Rattle.gated_log.specs.Stands.{Stands, StandsToRead, NowHolds, Has, ReadsAs};
 ghost use Rattle.gated_log.specs.Start.{Finds, OnLog, MovedToWrite};
 
 use crate::layout::{MARK, SHORTEST};
@@ -28,11 +28,13 @@ fn make<D: Disk>(disk: &mut D) -> Disked
     requires room { D.moment disk.old + 2 < 2 ^ 64 }
     ensures moved { OnDone result (D.moment disk.new ≡ D.moment disk.old + 2) }
     ensures begun { D.moment disk.old < D.moment disk.new × (D.moment disk.new ≤ D.moment disk.old + 2) }
-    ensures went { (answer : Disked) × D.went disk.old (up_to (take (D.moment disk.new - D.moment disk.old) made_changes) answer) disk.new }
+    ensures went { (answer : Disked) × D.went disk.old
+        (up_to (take (D.moment disk.new - D.moment disk.old) made_changes) answer) disk.new }
     ensures cause { Cause (D.faults disk.old) (D.faults disk.new) (result ≡ Disked.Failed) }
-    ensures images { ((c : List ℕ) → D.left disk.old (D.moment disk.old) c → D.seen disk.old ≡ Some c) → WhereTold (D.seen disk.old) (λ c. length c ≤ 177)
-        → LeavesOnly D.moment D.left (λ c. (log_of c ≡ holds []) × ((x : List ℕ) × (D.seen disk.old ≡ Some x))) disk.old disk.new }
-    ensures stands { OnDone result (WhereTold (D.seen disk.old) (λ c. length c ≤ 177) → Stands D.seen D.moment D.left 0 disk.new []) }
+    ensures images { IsDurable D.seen D.moment D.left disk.old → WhereTold (D.seen disk.old) (λ c. length c ≤ 177)
+        → LeavesOnly D.moment D.left (λ c. Has [] c × ((x : List ℕ) × (D.seen disk.old ≡ Some x))) disk.old disk.new }
+    ensures stands { OnDone result (WhereTold (D.seen disk.old) (λ c. length c ≤ 177)
+        → Stands D.seen D.moment D.left 0 disk.new []) }
 {
     let empty = empty_archive();
     match disk.write_at(0, &empty) {
@@ -52,12 +54,14 @@ pub(crate) fn recover_to_write<D: Disk>(disk: &mut D) -> LogStart
     ensures fresh { OnLog result (λ log. is_stale log ≡ false) }
     ensures cause { Cause (D.faults disk.old) (D.faults disk.new) (result ≡ LogStart.DiskFault) }
     ensures begun { (D.moment disk.old ≤ D.moment disk.new) × (D.moment disk.new ≤ D.moment disk.old + 3) }
-    ensures moved { OnLog result (λ _. WhereTold (D.seen disk.old) (MovedToWrite (D.moment disk.old) (D.moment disk.new))) }
-    ensures images { (slots : List (List ℕ)) → WhereTold (D.seen disk.old) (λ c. log_of c ≡ holds slots) → NowHolds D.moment D.left disk.old slots
-        → LeavesOnly D.moment D.left (λ c. log_of c ≡ holds slots) disk.old disk.new }
-    ensures stands { OnLog result (λ log. (slots : List (List ℕ)) × Stands D.seen D.moment D.left (slot_count log) disk.new slots × WhereTold (D.seen disk.old) (λ c. log_of c ≡ holds slots)) }
-    ensures since_sync { OnLog result (λ _. (slots : List (List ℕ)) → WhereTold (D.seen disk.old) (λ c. log_of c ≡ holds slots)
-        → (c : List ℕ) → D.left disk.new (D.moment disk.old + 1) c → log_of c ≡ holds slots) }
+    ensures moved { OnLog result (λ _. WhereTold (D.seen disk.old)
+        (MovedToWrite (D.moment disk.old) (D.moment disk.new))) }
+    ensures images { (slots : List (List ℕ)) → ReadsAs D.seen disk.old slots → NowHolds D.moment D.left disk.old slots
+        → LeavesOnly D.moment D.left (Has slots) disk.old disk.new }
+    ensures stands { OnLog result (λ log. (slots : List (List ℕ))
+        × Stands D.seen D.moment D.left (slot_count log) disk.new slots × ReadsAs D.seen disk.old slots) }
+    ensures since_sync { OnLog result (λ _. (slots : List (List ℕ)) → ReadsAs D.seen disk.old slots
+        → (c : List ℕ) → D.left disk.new (D.moment disk.old + 1) c → Has slots c) }
     ensures went { RecoveryCalls D.went disk.old disk.new (D.moment disk.new - D.moment disk.old) }
 {
     match disk.sync() {
@@ -86,7 +90,8 @@ pub(crate) fn recover_to_read<D: Disk>(disk: &mut D) -> LogStart
     ensures fresh { OnLog result (λ log. is_stale log ≡ false) }
     ensures cause { Cause (D.faults disk.old) (D.faults disk.new) (result ≡ LogStart.DiskFault) }
     ensures stays { Stays D.seen D.moment D.left disk.old disk.new }
-    ensures stands { OnLog result (λ log. (slots : List (List ℕ)) × StandsToRead D.seen (slot_count log) disk.new slots × WhereTold (D.seen disk.old) (λ c. log_of c ≡ holds slots)) }
+    ensures stands { OnLog result (λ log. (slots : List (List ℕ))
+        × StandsToRead D.seen (slot_count log) disk.new slots × ReadsAs D.seen disk.old slots) }
     ensures went { RecoveryCalls D.went disk.old disk.new 0 }
 {
     let len = match disk.length() {
