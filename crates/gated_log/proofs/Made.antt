@@ -1,7 +1,9 @@
 -- A file made anew, and recovery for writing.
 use Rattle.std.proofs.Common.{◌≡◌, inl, inr, ⊎_elim, ℕ, ◌≤◌, List, [], ◌∷◌, ◌++◌, length, drop, Option, Some, refl, sym, ◌∙◌, arith, append_assoc}
 use Rattle.causes.specs.Told.{WhereTold, map_told}
-use Rattle.disk_model.specs.Disk.{Torn, Follows, LeavesOnly, Stays, written}
+use Rattle.disk_model.specs.Disk.{Torn, Follows, LeavesOnly, Stays, written, OnDone}
+use Rattle.disk_model.specs.declared.disk.Disked.{Disked}
+use Rattle.disk_model.specs.declared.disk.Disked.TheVariants.{Done, Failed}
 use Rattle.gated_log.specs.Log.{holds, log_of}
 use Rattle.gated_log.specs.Stands.{Stands}
 use Rattle.gated_log.specs.Start.{OnLog}
@@ -18,6 +20,15 @@ holds_same xs ys e = cc
 
 pub short_log : (c : List ℕ) → length c ≤ 177 → log_of c ≡ holds []
 short_log c le = log_small c (small_test (length c) (omega arith))
+
+-- what follows from the clauses of an answer Done
+pub on_done : (P Q : Type 0) (answer : Disked) → OnDone answer P → (P → Q) → OnDone answer Q
+on_done P Q Done p f = f p
+on_done P Q Failed p f = tt
+
+pub on_both : (P Q R : Type 0) (answer : Disked) → OnDone answer P → OnDone answer Q → (P → Q → R) → OnDone answer R
+on_both P Q R Done p q f = f p q
+on_both P Q R Failed p q f = tt
 
 -- a clause of a log, weakened
 pub on_log : (P Q : GatedLog → Type 0) (r : LogStart) → OnLog r P → ((log : GatedLog) → P log → Q log) → OnLog r Q

@@ -9,12 +9,10 @@ ghost use Rattle.gated_log.specs.Stands.{Stands, StandsToRead, NowHolds, Has, Re
 
 use crate::append::prepare;
 use crate::commit::commit;
-use crate::layout::{LONGEST_BATCH, SLOT};
+use crate::layout::{LONGEST_BATCH, SLOT, SLOT_BYTES};
 use crate::recover::{recover_to_read, recover_to_write};
 use crate::{Append, LogStart, Purpose};
 use disk_model::{Disk, Disked};
-
-const SLOT_BYTES: u64 = SLOT as u64;
 
 const MOST_SLOTS: u64 = 2_097_152;
 
@@ -87,10 +85,7 @@ impl GatedLog {
         ensures cause { Cause (D.faults disk.old) (D.faults disk.new) (result ≡ Disked.Failed) }
         ensures went { D.went disk.old (was_read (176 * (n + 1)) 176 result ∷ []) disk.new }
     {
-        match disk.read(SLOT_BYTES * (n + 1), buf) {
-            Disked::Failed => Disked::Failed,
-            Disked::Done => Disked::Done,
-        }
+        disk.read(SLOT_BYTES * (n + 1), buf)
     }
 
     /// Adds 1 to 70 whole slots in one batch, at whose front the gate and the number of slots are

@@ -41,10 +41,7 @@ fn make<D: Disk>(disk: &mut D) -> Disked
         Disked::Failed => return Disked::Failed,
         Disked::Done => {}
     }
-    match disk.sync() {
-        Disked::Failed => Disked::Failed,
-        Disked::Done => Disked::Done,
-    }
+    disk.sync()
 }
 
 // Recovers a log for writing.
