@@ -117,6 +117,9 @@ impl GatedLog {
         ensures still { (old : List (List ℕ)) → Stands D.seen D.moment D.left (slot_count self.old) disk.old old
             → StandsToRead D.seen (slot_count self.old) disk.new old }
 
+        // Each image that a crash leaves from now on has the old slots and the new ones.
+        ensures kept { OnAppended result ((old : List (List ℕ)) → Stands D.seen D.moment D.left (slot_count self.old) disk.old old
+            → NowHolds D.moment D.left disk.new (old ++ handed slots.now)) }
         ensures stands { OnAppended result ((old : List (List ℕ))
             → Stands D.seen D.moment D.left (slot_count self.old) disk.old old
             → Stands D.seen D.moment D.left (slot_count self.new) disk.new (old ++ handed slots.now)) }
