@@ -5,7 +5,8 @@ use crate::sliced::crc;
 
 /// Whether the bytes end with the check of those before, the high byte first.
 pub fn is_good(frame: &[u8]) -> bool
-    ensures { IsTrue result ↔ (check frame.now ≡ 0) }
+    ensures good { IsTrue result ↔ (check frame.now ≡ 0) }
+    ensures sealed { IsTrue result → 2 ≤ length frame.now → frame.now ≡ sealed (take (length frame.now - 2) frame.now) }
 {
     crc(frame) == 0
 }
