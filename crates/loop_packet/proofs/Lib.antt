@@ -1,0 +1,4 @@
+pub mod InOrder
+pub mod Inverse
+pub mod Pieces
+pub mod SamePacket

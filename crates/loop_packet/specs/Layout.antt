@@ -1,0 +1,46 @@
+-- Where the parts of a LOOP packet stand (Davis serial manual, "LOOP data format").
+use Rattle.std.specs.Prelude.{ℕ, List, [], ◌∷◌, codes}
+use Rattle.loop_packet.specs.Part.{Part}
+use Rattle.loop_packet.specs.Part.Part.{Fixed, Byte, SignedByte, Word, SignedWord, Bytes}
+
+-- each part at its offset, but for the check, which is behind them
+abbrev pub layout : List (ℕ × Part)
+layout =
+    (0, Fixed (codes "LOO"))
+    ∷ (3, SignedByte)
+    ∷ (4, Fixed (0 ∷ []))
+    ∷ (5, Word)
+    ∷ (7, Word)
+    ∷ (9, SignedWord)
+    ∷ (11, Byte)
+    ∷ (12, SignedWord)
+    ∷ (14, Byte)
+    ∷ (15, Byte)
+    ∷ (16, Word)
+    ∷ (18, Bytes 7)
+    ∷ (25, Bytes 4)
+    ∷ (29, Bytes 4)
+    ∷ (33, Byte)
+    ∷ (34, Bytes 7)
+    ∷ (41, Word)
+    ∷ (43, Byte)
+    ∷ (44, Word)
+    ∷ (46, Word)
+    ∷ (48, Word)
+    ∷ (50, Word)
+    ∷ (52, Word)
+    ∷ (54, Word)
+    ∷ (56, Word)
+    ∷ (58, Word)
+    ∷ (60, Word)
+    ∷ (62, Bytes 4)
+    ∷ (66, Bytes 4)
+    ∷ (70, Bytes 16)
+    ∷ (86, Byte)
+    ∷ (87, Word)
+    ∷ (89, Byte)
+    ∷ (90, Byte)
+    ∷ (91, Word)
+    ∷ (93, Word)
+    ∷ (95, Fixed (10 ∷ 13 ∷ []))
+    ∷ []

@@ -1,0 +1,4 @@
+pub mod Layout
+pub mod Part
+pub mod Reading
+pub mod Values

@@ -1,0 +1,66 @@
+-- The parts of a packet: how a value stands in bytes.
+use Rattle.std.specs.Prelude.{ℕ, ℤ, List, [], ◌∷◌, ◌++◌, take, drop, slice_index}
+use Rattle.std.specs.Int.{w8, w16, to_le_bytes, from_le_bytes, cast_signed, cast_unsigned}
+use Rattle.std.specs.List.{flat_map}
+
+-- fixed bytes, a number of one byte or of two, the low one first, unsigned or signed, or so many bytes
+pub data Part : Type 0 where
+  Fixed : (text : List ℕ) → Part
+  Byte : Part
+  SignedByte : Part
+  Word : Part
+  SignedWord : Part
+  Bytes : (count : ℕ) → Part
+
+pub data Value : Type 0 where
+  Number : (n : ℕ) → Value
+  Signed : (z : ℤ) → Value
+  Many : (bytes : List ℕ) → Value
+
+-- the number of one byte at the front, unsigned or signed
+unfoldable pub byte_in : List ℕ → ℕ
+byte_in bytes = slice_index bytes 0
+
+unfoldable pub signed_byte_in : List ℕ → ℤ
+signed_byte_in bytes = cast_signed w8 (slice_index bytes 0)
+
+-- the number of two bytes at the front, unsigned or signed
+unfoldable pub word_in : List ℕ → ℕ
+word_in bytes = from_le_bytes w16 bytes
+
+unfoldable pub signed_word_in : List ℕ → ℤ
+signed_word_in bytes = cast_signed w16 (from_le_bytes w16 bytes)
+
+-- the bytes of such numbers
+unfoldable pub signed_byte_of : ℤ → List ℕ
+signed_byte_of z = to_le_bytes w8 (cast_unsigned w8 z)
+
+unfoldable pub word_of : ℕ → List ℕ
+word_of n = to_le_bytes w16 n
+
+unfoldable pub signed_word_of : ℤ → List ℕ
+signed_word_of z = to_le_bytes w16 (cast_unsigned w16 z)
+
+-- the value that stands at the front of the bytes, if the part has one
+abbrev pub value_of : Part → List ℕ → List Value
+value_of (Fixed text) bytes = []
+value_of Byte bytes = Number (byte_in bytes) ∷ []
+value_of SignedByte bytes = Signed (signed_byte_in bytes) ∷ []
+value_of Word bytes = Number (word_in bytes) ∷ []
+value_of SignedWord bytes = Signed (signed_word_in bytes) ∷ []
+value_of (Bytes count) bytes = Many (take count bytes) ∷ []
+
+-- the values of the parts, each from its offset on
+abbrev pub values_in : List (ℕ × Part) → List ℕ → List Value
+values_in parts bytes = flat_map (λ part. value_of part.1 (drop part.0 bytes)) parts
+
+-- the bytes of the parts, one behind the other, with these values
+abbrev pub spelled : List (ℕ × Part) → List Value → List ℕ
+spelled [] vs = []
+spelled ((at, Fixed text) ∷ parts) vs = text ++ spelled parts vs
+spelled ((at, Byte) ∷ parts) (Number n ∷ vs) = n ∷ spelled parts vs
+spelled ((at, SignedByte) ∷ parts) (Signed z ∷ vs) = signed_byte_of z ++ spelled parts vs
+spelled ((at, Word) ∷ parts) (Number n ∷ vs) = word_of n ++ spelled parts vs
+spelled ((at, SignedWord) ∷ parts) (Signed z ∷ vs) = signed_word_of z ++ spelled parts vs
+spelled ((at, Bytes count) ∷ parts) (Many bytes ∷ vs) = bytes ++ spelled parts vs
+spelled (part ∷ parts) vs = []
