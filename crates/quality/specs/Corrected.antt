@@ -2,8 +2,8 @@
 -- services StdCalibrate and StdQC).
 use Rattle.std.specs.Prelude.{ℕ, ℤ, ◌+◌, ◌+ℤ◌, ◌*ℤ◌, int_le, ◌&&◌, Bool, true, if◌then◌else◌, List, [], ◌∷◌, Option, Some, None}
 use Rattle.std.specs.Int.{int_div_euclid}
-use Rattle.std.specs.Option.{ForSome, option_map_or}
-use Rattle.jiff.specs.Words.{IsWithin}
+use Rattle.std.specs.Option.{option_map_or}
+use Rattle.station_base.specs.RowLine.{IsValueWithin}
 use Rattle.station_base.specs.declared.row.Row.{Row}
 use Rattle.settings_file.specs.declared.calibration.Calibration.{Calibration}
 use Rattle.settings_file.specs.declared.limits.Limits.{Limits}
@@ -11,7 +11,7 @@ use Rattle.settings_file.specs.StationSettings.{StationSettings, calibration_of,
 
 -- a number that a record can hold
 abbrev pub IsReading : Option ℤ → Type 0
-IsReading value = ForSome value (IsWithin 65535)
+IsReading = IsValueWithin 65535
 
 -- times `num`, divided by `den` and rounded towards the lesser number
 abbrev pub scaled : Calibration → ℤ → ℤ

@@ -3,20 +3,18 @@ ghost use Rattle.arrayvec.specs.ArrayVec.{array_vec_len};
 ghost use Rattle.causes.specs.Written.{Leaves, WritesPart};
 ghost use Rattle.causes.specs.Cause.{Cause};
 ghost use Rattle.station_io.specs.declared.files.TheConstants.{LONGEST};
-ghost use Rattle.archive_record.specs.Reading.{reading};
 ghost use Rattle.station_top.specs.PageText.{page_text};
 ghost use Rattle.station_top.specs.Output.{Ends};
 ghost use Rattle.station_top.specs.Report.{bad_page_text, report};
-ghost use Rattle.station_top.specs.SlotText.{IsReadable};
 ghost use Rattle.station_top.specs.StyleRead.{style_of};
 
 use crate::status::Status;
 use crate::style::Style;
 use crate::text::{PAGE, PIECE, ROOM, Text, push_slot};
-use archive_record::{RecordRead, read};
-use station_base::{Period, push_bytes, push_number};
+use archive_record::read;
+use station_base::{push_bytes, push_number};
 use station_io::{Put, Sink};
-use vantage_frames::{PAGE_SIZE, Page, PageRead, SLOT_SIZE, SLOTS, read_page};
+use vantage_frames::{PAGE_SIZE, Page, PageRead, SLOTS, read_page};
 
 /// Prints the lines of a file's pages, up to the first page that is short or has a bad check.
 pub fn print_pages<K: Sink>(file: &[u8], style: &Style<'_>, out: &mut K) -> Status
@@ -84,17 +82,9 @@ fn push_page(text: &mut Text, number: u32, style: &Style<'_>, page: &Page<'_>)
 {
     let interval = style.period();
     for place in 0..SLOTS {
-        let record = read_slot(page.slot(place), interval);
-        push_slot(text, number, place, style, &record);
+        let slot = read(page.slot(place), interval);
+        push_slot(text, number, place, style, &slot);
     }
-}
-
-// What the record in a slot says.
-fn read_slot(slot: &[u8; SLOT_SIZE], interval: Period) -> RecordRead
-    ensures exact { result ≡ reading slot.now interval }
-    ensures readable { IsReadable result }
-{
-    read(slot, interval)
 }
 
 // Appends the line that names a bad page.
