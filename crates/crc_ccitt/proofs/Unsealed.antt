@@ -3,8 +3,8 @@ use Rattle.std.proofs.Common.{◌≡◌, ℕ, ◌+◌, ◌-◌, ◌*◌, ◌/◌
 use Rattle.std.proofs.lemmas.List.{take-append-drop, get_or-drop}
 use Rattle.std.proofs.lemmas.List.Sums.{fold-append}
 use Rattle.std.proofs.lemmas.Nat.{xor_comm, xor_lt, xor_mod}
-use lib.Bits.{xor_assoc, xor_self, xor_zero_r}
-use Rattle.crc_ccitt.specs.Check.{check, check_bytes, sealed, message_bits, bits, divided}
+use lib.Bits.{xor_zero_r}
+use Rattle.crc_ccitt.specs.Check.{check, check_bytes, sealed, bits, divided}
 use Rattle.crc_ccitt.specs.Tables.{entry}
 use Rattle.crc_ccitt.proofs.Division.{fold-divided_lt}
 use Rattle.crc_ccitt.proofs.Entries.{alone, byte_by_register, fold-divided-same}

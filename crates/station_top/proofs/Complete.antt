@@ -1,5 +1,5 @@
 -- Over good input only want of memory, or a failed write, keeps a command from being done.
-use Rattle.std.proofs.Common.{◌≡◌, ◌≢◌, ℕ, ◌+◌, ◌/◌, ◌*◌, ◌<◌, ◌≤◌, ◌⊎◌, List, [], ◌∷◌, length, drop, All, Some, None, Ok, Err, true, false, refl, sym, ap, ◌∙◌, subst, arith, eq-eqb, inl, inr}
+use Rattle.std.proofs.Common.{◌≡◌, ◌≢◌, ℕ, ◌+◌, ◌/◌, ◌*◌, ◌⊎◌, List, [], ◌∷◌, length, drop, All, Some, None, true, false, refl, sym, ap, ◌∙◌, subst, arith, eq-eqb, inl, inr}
 use Rattle.std.specs.declared.option.Option.{Option}
 use Rattle.std.specs.Option.{IsSomeAnd}
 use Rattle.std.specs.Prelude.{is_ok}
@@ -11,11 +11,10 @@ use Rattle.settings_file.specs.Reading.{settings_of}
 use Rattle.station_io.specs.Files.{Reads}
 use Rattle.station_io.specs.declared.files.TextRead.{TextRead}
 use Rattle.station_io.specs.declared.files.TextRead.TheVariants as reads
-use Rattle.station_io.specs.declared.files.TheConstants.{LONGEST}
 use Rattle.station_top.specs.declared.status.Status.{Status}
 use Rattle.station_top.specs.declared.status.Status.TheVariants.{Done, OutOfMemory, WriteFault}
 use Rattle.station_top.specs.GoodFile.{IsGoodFile}
-use Rattle.station_top.specs.Judged.{Judged, Judges, JudgesText, MayGoOn, refused, accepted, no_memory}
+use Rattle.station_top.specs.Judged.{Judged, Judges, JudgesText, MayGoOn, refused, accepted}
 use Rattle.station_top.specs.Output.{Output, Ends}
 use Rattle.station_top.specs.Report.{report, report_from}
 use Rattle.station_top.specs.Run.{IsAccepted, output_of}
