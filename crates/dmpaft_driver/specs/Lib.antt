@@ -1,0 +1,11 @@
+pub mod Slot
+pub mod SlotReading
+pub mod Keeper
+pub mod Batch
+pub mod Page
+pub mod Header
+pub mod Attempt
+pub mod Outcome
+pub mod Asking
+pub mod Taking
+pub mod Storing
