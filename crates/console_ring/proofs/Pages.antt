@@ -1,0 +1,67 @@
+-- A page that is written slot by slot.
+use Rattle.std.proofs.Common.{◌≡◌, ℕ, ◌+◌, ◌-◌, ◌*◌, ◌%◌, ◌<◌, List, ◌∷◌, ◌++◌, length, drop, take, replicate, refl, sym, ap, ◌∙◌, arith, length-append, length-take, length-drop, append_assoc, add-one}
+use Rattle.std.proofs.lemmas.List.{drop-replicate}
+use Rattle.std.proofs.Math.Seq.{drop-append_seam, take-append-add, take-append_seam}
+use borrow.Rule.Slice.PartMut.{put_mid}
+use Rattle.crc_ccitt.specs.Check.{sealed}
+use Rattle.console_ring.specs.declared.plan.Plan.{Plan}
+use Rattle.console_ring.specs.Picture.{shown, slot_of, slot_on, slots_before, page_of}
+
+-- a page has its sequence and the slots below a place, and else 0xFF
+pub record Begins (page : List ℕ) (sequence : ℕ) (slot : ℕ → List ℕ) (place : ℕ) : Type 0 where
+  pub bytes : page ≡ (sequence ∷ slots_before slot place) ++ replicate (266 - 52 * place) 255
+  pub long : length (slots_before slot place) ≡ 52 * place
+
+pub begun : (sequence : ℕ) (slot : ℕ → List ℕ) → Begins (sequence ∷ replicate 266 255) sequence slot 0
+unfolding slots_before
+begun sequence slot = record { bytes = refl; long = refl }
+
+-- bytes over the first of those behind a front
+over : (front bytes page : List ℕ) (rest size : ℕ) (filler : ℕ) → page ≡ front ++ replicate rest filler →
+    put_mid (length front) size page bytes ≡ (front ++ bytes) ++ replicate (rest - size) filler
+over front bytes page rest size filler is =
+    let tail : List ℕ = replicate rest filler in
+    let kept : take (length front) page ≡ front = ap (λ xs. take (length front) xs) is ∙ take-append_seam front tail in
+    let left : drop size (drop (length front) page) ≡ replicate (rest - size) filler =
+    ap (λ xs. drop size (drop (length front) xs)) is ∙ ap (λ xs. drop size xs) (drop-append_seam front tail) ∙ drop-replicate size rest filler in
+    ap (λ xs. xs ++ (bytes ++ drop size (drop (length front) page))) kept ∙ ap (λ xs. front ++ (bytes ++ xs)) left ∙ sym (append_assoc front bytes (replicate (rest - size) filler))
+
+slots_more : (slot : ℕ → List ℕ) (place : ℕ) → slots_before slot (place + 1) ≡ slots_before slot place ++ slot place
+unfolding slots_before
+slots_more slot place = ap (λ n. slots_before slot n) (add-one place)
+
+pub more : (page bytes : List ℕ) (sequence : ℕ) (slot : ℕ → List ℕ) (place start size : ℕ) → Begins page sequence slot place → place < 5 →
+    length bytes ≡ 52 → bytes ≡ slot place → start ≡ 1 + 52 * place → size ≡ 52 → Begins (put_mid start size page bytes) sequence slot (place + 1)
+more page bytes sequence slot place start size begins below long is from all =
+    let front : List ℕ = sequence ∷ slots_before slot place in
+    let placed : length front ≡ start = omega (arith, begins.long, from) in
+    let rest : 266 - 52 * place - size ≡ 266 - 52 * (place + 1) = omega arith in
+    let grown : slots_before slot place ++ bytes ≡ slots_before slot (place + 1) = ap (λ xs. slots_before slot place ++ xs) is ∙ sym (slots_more slot place) in
+    let both = length-append (slots_before slot place) bytes in
+    record {
+      bytes = ap (λ n. put_mid n size page bytes) (sym placed) ∙ over front bytes page (266 - 52 * place) size 255 begins.bytes
+          ∙ ap (λ n. (front ++ bytes) ++ replicate n 255) rest ∙ ap (λ xs. (sequence ∷ xs) ++ replicate (266 - 52 * (place + 1)) 255) grown;
+      long = ap (λ xs. length xs) (sym grown) ∙ both ∙ omega (arith, begins.long, long);
+    }
+
+pub whole : (page : List ℕ) (history : List (List ℕ)) (plan : Plan) (k place : ℕ) → Begins page (k % 256) (slot_on history plan k) place → place ≡ 5 → length page ≡ 267 →
+    sealed (take (length page - 2) page) ≡ page_of history plan k
+unfolding page_of
+whole page history plan k place begins all long =
+    let slot : ℕ → List ℕ = slot_on history plan k in
+    let front : List ℕ = (k % 256) ∷ slots_before slot 5 in
+    let bytes : page ≡ front ++ replicate 6 255 = rw all at begins.bytes in
+    let slots : length (slots_before slot 5) ≡ 260 = rw all at begins.long in
+    let cut : length page - 2 ≡ length front + 4 = omega (arith, slots, long) in
+    ap (λ xs. sealed xs) (ap (λ n. take n page) cut ∙ ap (λ xs. take (length front + 4) xs) bytes ∙ take-append-add front (replicate 6 255) 4)
+
+-- the place of a slot in a page has its size
+pub room : (page : List ℕ) (place start size : ℕ) → length page ≡ 267 → place < 5 → start ≡ 1 + 52 * place → size ≡ 52 → length (take size (drop start page)) ≡ 52
+room page place start size long below from all =
+    let taken = length-take size (drop start page) in
+    let dropped = length-drop start page in
+    omega (arith, taken, dropped, long, from, all)
+
+pub same_slot : (history : List (List ℕ)) (plan : Plan) (first_page k page place at : ℕ) → first_page ≡ plan.first_page → page ≡ k → at ≡ place →
+    shown (slot_of history (5 * ((first_page + page) % 512) + at)) ≡ slot_on history plan k place
+same_slot history plan first_page k page place at e f g = rw (e, f, g) refl

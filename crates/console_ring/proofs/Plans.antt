@@ -1,0 +1,53 @@
+-- The plan by how many records are left from the first newer one on.
+use Rattle.std.proofs.Common.{◌≡◌, ℕ, ◌+◌, ◌-◌, ◌/◌, ◌%◌, ◌≤◌, List, length, refl, sym, ap, ◌∙◌, arith, length-drop, Option, Some, None}
+use Rattle.std.specs.Prelude.{position, option_map}
+use Rattle.console_ring.specs.declared.plan.Plan.{Plan}
+use Rattle.console_ring.specs.History.{held, is_newer}
+use Rattle.console_ring.specs.Picture.{no_plan, plan_by, plan_of}
+use Rattle.console_ring.specs.Standing.{Kept, StandsFor}
+
+-- the plan of so many records, where the next one goes in this slot
+abbrev pub made_plan : ℕ → ℕ → Plan
+made_plan next count = record {
+  pages = (count - 1 + (next + 2560 - count) % 2560 % 5) / 5 + 1;
+  place = (next + 2560 - count) % 2560 % 5;
+  first_page = (next + 2560 - count) % 2560 / 5;
+}
+
+abbrev of_numbers : ℕ → ℕ → Plan
+of_numbers left slot = record { pages = (left + slot % 5) / 5 + 1; place = slot % 5; first_page = slot / 5 }
+
+plan_none : (o : Option ℕ) (overwritten total long : ℕ) → option_map (λ place. long - place) o ≡ None → plan_by o overwritten total ≡ no_plan
+plan_none None overwritten total long is = refl
+plan_none (Some place) overwritten total long is = cc
+
+same_slot : (next total long place count : ℕ) → long - place ≡ count → 1 ≤ count → long ≡ total - (total - 2560) → next ≡ total % 2560 →
+    (next + 2560 - count) % 2560 ≡ (total - 2560 + place) % 2560
+same_slot next total long place count left some all after = omega arith
+
+same_left : (total long place count : ℕ) → long - place ≡ count → 1 ≤ count → long ≡ total - (total - 2560) →
+    count - 1 ≡ total - 1 - (total - 2560 + place)
+same_left total long place count left some all = omega arith
+
+plan_some : (o : Option ℕ) (next total long count : ℕ) → option_map (λ place. long - place) o ≡ Some count → 1 ≤ count →
+    long ≡ total - (total - 2560) → next ≡ total % 2560 → made_plan next count ≡ plan_by o (total - 2560) total
+plan_some None next total long count is some all after = cc
+plan_some (Some place) next total long count is some all after =
+    let left : long - place ≡ count = cc in
+    ap (λ slot. of_numbers (count - 1) slot) (same_slot next total long place count left some all after)
+    ∙ ap (λ n. of_numbers n ((total - 2560 + place) % 2560)) (same_left total long place count left some all)
+
+pub without : (ring : Kept) (history : List (List ℕ)) (date time : ℕ) → StandsFor ring history →
+    option_map (λ place. length ring.records - place) (position (is_newer date time) ring.records) ≡ None → no_plan ≡ plan_of history date time
+unfolding plan_of
+without ring history date time stands is =
+    let found = ap (λ xs. option_map (λ place. length xs - place) (position (is_newer date time) xs)) stands.records in
+    sym (plan_none (position (is_newer date time) (held history)) (length history - 2560) (length history) (length (held history)) (sym found ∙ is))
+
+pub with_records : (ring : Kept) (history : List (List ℕ)) (date time next count : ℕ) → StandsFor ring history → next ≡ length history % 2560 →
+    option_map (λ place. length ring.records - place) (position (is_newer date time) ring.records) ≡ Some count → 1 ≤ count →
+    made_plan next count ≡ plan_of history date time
+unfolding plan_of
+with_records ring history date time next count stands after is some =
+    let found = ap (λ xs. option_map (λ place. length xs - place) (position (is_newer date time) xs)) stands.records in
+    plan_some (position (is_newer date time) (held history)) next (length history) (length (held history)) count (sym found ∙ is) some (length-drop (length history - 2560) history) after

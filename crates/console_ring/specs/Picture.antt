@@ -1,0 +1,57 @@
+-- What the archive's 2,560 slots, 512 pages of five, show of a history, and the pages of a dump (Davis serial manual,
+-- "Download Protocol").
+use Rattle.std.specs.Prelude.{ℕ, zero, suc, ◌+◌, ◌-◌, ◌*◌, ◌/◌, ◌%◌, List, [], ◌∷◌, ◌++◌, length, replicate, if◌then◌else◌, nat_lt, slice_get, position, Some, None}
+use Rattle.std.specs.declared.option.Option.{Option}
+use Rattle.crc_ccitt.specs.Check.{sealed}
+use Rattle.console_ring.specs.declared.plan.Plan.{Plan}
+use Rattle.console_ring.specs.History.{held, is_newer}
+
+-- the greatest number below the count that stands in a slot, numbers being counted from 0
+abbrev pub last_in : ℕ → ℕ → ℕ
+last_in count slot = slot + 2560 * ((count - 1 - slot) / 2560)
+
+-- the last record that was put in a slot, if one was
+abbrev pub slot_of : List (List ℕ) → ℕ → Option (List ℕ)
+slot_of history slot =
+    if nat_lt slot (length history) then slice_get history (last_in (length history) slot) else None
+
+-- the bytes of a slot, all 0xFF where none was written
+abbrev pub shown : Option (List ℕ) → List ℕ
+shown None = replicate 52 255
+shown (Some bytes) = bytes
+
+-- a dump of nothing
+abbrev pub no_plan : Plan
+no_plan = record { pages = 0; place = 0; first_page = 0 }
+
+-- a dump from a record's number on, to the last of so many
+abbrev pub plan_from : ℕ → ℕ → Plan
+plan_from first count = record {
+  pages = (count - 1 - first + first % 2560 % 5) / 5 + 1;
+  place = first % 2560 % 5;
+  first_page = first % 2560 / 5;
+}
+
+-- a dump from the first newer record on, if there is one, by its place among those held
+abbrev pub plan_by : Option ℕ → ℕ → ℕ → Plan
+plan_by None overwritten count = no_plan
+plan_by (Some place) overwritten count = plan_from (overwritten + place) count
+
+-- the dump of all that is held from the first record on that is newer than these words
+unfoldable pub plan_of : List (List ℕ) → ℕ → ℕ → Plan
+plan_of history date time =
+    plan_by (position (is_newer date time) (held history)) (length history - 2560) (length history)
+
+-- the bytes at a place of a page of a dump
+abbrev pub slot_on : List (List ℕ) → Plan → ℕ → ℕ → List ℕ
+slot_on history plan page place = shown (slot_of history (5 * ((plan.first_page + page) % 512) + place))
+
+-- those below a place, one behind the other
+unfoldable pub slots_before : (ℕ → List ℕ) → ℕ → List ℕ
+slots_before slot zero = []
+slots_before slot (suc place) = slots_before slot place ++ slot place
+
+-- a page of a dump: its sequence, five slots, four unused bytes and the check
+unfoldable pub page_of : List (List ℕ) → Plan → ℕ → List ℕ
+page_of history plan page =
+    sealed ((page % 256) ∷ slots_before (slot_on history plan page) 5 ++ replicate 4 255)

@@ -1,0 +1,22 @@
+-- What a ring keeps, the histories that it can stand for, and what a put makes of one.
+use Rattle.std.specs.Prelude.{ℕ, ◌≡◌, ◌%◌, List, [], ◌∷◌, ◌++◌, length, Some}
+use Rattle.console_ring.specs.declared.put.RingPut.{RingPut}
+use Rattle.console_ring.specs.declared.put.RingPut.TheVariants.{Done, NotRising}
+use Rattle.console_ring.specs.History.{held, newest_of, CanFollow, IsNotAfter, Rises}
+
+-- the records in the slots, from the oldest on, and the slot of the next
+pub record Kept : Type 0 where
+  pub records : List (List ℕ)
+  pub next_slot : ℕ
+
+-- the ring is what is left of this history
+pub record StandsFor (ring : Kept) (history : List (List ℕ)) : Type 0 where
+  pub records : ring.records ≡ held history
+  pub next_slot : ring.next_slot ≡ length history % 2560
+  pub rises : Rises history
+
+-- what a put of a record answers, and the ring that it leaves
+abbrev pub Puts : List (List ℕ) → List ℕ → Kept → RingPut → Kept → Type 0
+Puts history bytes old Done new = CanFollow history bytes × StandsFor new (history ++ bytes ∷ [])
+Puts history bytes old (NotRising newest) new =
+    (newest_of history ≡ Some newest) × IsNotAfter newest bytes × (new ≡ old)
