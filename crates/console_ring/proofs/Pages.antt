@@ -1,9 +1,10 @@
 -- A page that is written slot by slot.
-use Rattle.std.proofs.Common.{◌≡◌, ℕ, ◌+◌, ◌-◌, ◌*◌, ◌%◌, ◌<◌, List, ◌∷◌, ◌++◌, length, drop, take, replicate, refl, sym, ap, ◌∙◌, arith, length-append, length-take, length-drop, append_assoc, add-one}
-use Rattle.std.proofs.lemmas.List.{drop-replicate}
+use Rattle.std.proofs.Common.{◌≡◌, ℕ, zero, suc, ◌+◌, ◌-◌, ◌*◌, ◌%◌, ◌<◌, List, ◌∷◌, ◌++◌, length, drop, take, replicate, refl, sym, ap, ◌∙◌, arith, length-append, length-take, length-drop, append_assoc, add-one, below_more}
+use Rattle.std.proofs.lemmas.List.{drop-drop, drop-replicate}
 use Rattle.std.proofs.Math.Seq.{drop-append_seam, take-append-add, take-append_seam}
 use borrow.Rule.Slice.PartMut.{put_mid}
-use Rattle.crc_ccitt.specs.Check.{sealed}
+use Rattle.crc_ccitt.specs.Check.{sealed, check_bytes}
+use Rattle.vantage_frames.specs.Slots.{slot_at}
 use Rattle.console_ring.specs.declared.plan.Plan.{Plan}
 use Rattle.console_ring.specs.Picture.{shown, slot_of, slot_on, slots_before, page_of}
 
@@ -11,10 +12,11 @@ use Rattle.console_ring.specs.Picture.{shown, slot_of, slot_on, slots_before, pa
 pub record Begins (page : List ℕ) (sequence : ℕ) (slot : ℕ → List ℕ) (place : ℕ) : Type 0 where
   pub bytes : page ≡ (sequence ∷ slots_before slot place) ++ replicate (266 - 52 * place) 255
   pub long : length (slots_before slot place) ≡ 52 * place
+  pub sized : (p : ℕ) → p < place → length (slot p) ≡ 52
 
 pub begun : (sequence : ℕ) (slot : ℕ → List ℕ) → Begins (sequence ∷ replicate 266 255) sequence slot 0
 unfolding slots_before
-begun sequence slot = record { bytes = refl; long = refl }
+begun sequence slot = record { bytes = refl; long = refl; sized = λ p below. absurd (omega arith) }
 
 -- bytes over the first of those behind a front
 over : (front bytes page : List ℕ) (rest size : ℕ) (filler : ℕ) → page ≡ front ++ replicate rest filler →
@@ -42,6 +44,7 @@ more page bytes sequence slot place start size begins below long is from all =
       bytes = ap (λ n. put_mid n size page bytes) (sym placed) ∙ over front bytes page (266 - 52 * place) size 255 begins.bytes
           ∙ ap (λ n. (front ++ bytes) ++ replicate n 255) rest ∙ ap (λ xs. (sequence ∷ xs) ++ replicate (266 - 52 * (place + 1)) 255) grown;
       long = ap (λ xs. length xs) (sym grown) ∙ both ∙ omega (arith, begins.long, long);
+      sized = below_more (λ p. length (slot p) ≡ 52) place begins.sized (ap (λ xs. length xs) (sym is) ∙ long);
     }
 
 pub whole : (page : List ℕ) (history : List (List ℕ)) (plan : Plan) (k place : ℕ) → Begins page (k % 256) (slot_on history plan k) place → place ≡ 5 → length page ≡ 267 →
@@ -65,3 +68,34 @@ room page place start size long below from all =
 pub same_slot : (history : List (List ℕ)) (plan : Plan) (first_page k page place at : ℕ) → first_page ≡ plan.first_page → page ≡ k → at ≡ place →
     shown (slot_of history (5 * ((first_page + page) % 512) + at)) ≡ slot_on history plan k place
 same_slot history plan first_page k page place at e f g = rw (e, f, g) refl
+
+-- slots of one size stand where their places say
+slot_within : (slot : ℕ → List ℕ) (n place : ℕ) (rest : List ℕ) → ((p : ℕ) → p < n → length (slot p) ≡ 52) → length (slots_before slot n) ≡ 52 * n → place < n →
+    take 52 (drop (52 * place) (slots_before slot n ++ rest)) ≡ slot place
+unfolding slots_before
+slot_within slot zero place rest sized long below = absurd (omega arith)
+slot_within slot (suc n) place rest sized long below =
+    let size : length (slot n) ≡ 52 = sized n (omega arith) in
+    let both = length-append (slots_before slot n) (slot n) in
+    let before : length (slots_before slot n) ≡ 52 * n = omega (arith, both, size, long) in
+    let behind : List ℕ = slot n ++ rest in
+    let last : take 52 (drop (52 * n) (slots_before slot n ++ behind)) ≡ slot n =
+    ap (λ m. take 52 (drop m (slots_before slot n ++ behind))) (sym before) ∙ ap (λ xs. take 52 xs) (drop-append_seam (slots_before slot n) behind)
+    ∙ ap (λ m. take m behind) (sym size) ∙ take-append_seam (slot n) rest in
+    let within : place < n + 1 = omega arith in
+    ap (λ xs. take 52 (drop (52 * place) xs)) (append_assoc (slots_before slot n) (slot n) rest)
+    ∙ below_more (λ p. take 52 (drop (52 * p) (slots_before slot n ++ behind)) ≡ slot p) n
+    (λ p lt. slot_within slot n p behind (λ q less. sized q (omega arith)) before lt) last place within
+
+pub slots_shown : (page : List ℕ) (history : List (List ℕ)) (plan : Plan) (k place at : ℕ) → Begins page (k % 256) (slot_on history plan k) place → place ≡ 5 → at < 5 →
+    slot_at (page_of history plan k) at ≡ slot_on history plan k at
+unfolding page_of
+slots_shown page history plan k place at begins all below =
+    let slot : ℕ → List ℕ = slot_on history plan k in
+    let slots : List ℕ = slots_before slot 5 in
+    let unused : List ℕ = replicate 4 255 in
+    let ending : List ℕ = check_bytes ((k % 256) ∷ slots ++ unused) in
+    let long : length slots ≡ 260 = rw all at begins.long in
+    let first : List ℕ = (k % 256) ∷ ((slots ++ unused) ++ ending) in
+    ap (λ xs. take 52 xs) (sym (drop-drop (52 * at) 1 first)) ∙ ap (λ xs. take 52 (drop (52 * at) xs)) (append_assoc slots unused ending)
+    ∙ slot_within slot 5 at (unused ++ ending) (λ p lt. begins.sized p (omega (arith, all, lt))) long below

@@ -1,7 +1,8 @@
 ghost use Rattle.std.specs.Prelude.{ℕ, ◌≡◌, ◌<◌, List, ◌∷◌, replicate};
 ghost use Rattle.crc_ccitt.specs.Check.{check};
 ghost use Rattle.vantage_frames.specs.Header.{CanBegin};
-ghost use Rattle.console_ring.specs.Picture.{plan_of, page_of};
+ghost use Rattle.vantage_frames.specs.Slots.{slot_at};
+ghost use Rattle.console_ring.specs.Picture.{plan_of, slot_on, page_of};
 ghost use Rattle.console_ring.specs.Standing.{StandsFor};
 
 use crate::plan::Plan;
@@ -10,6 +11,12 @@ use vantage_frames::{PAGE_SIZE, SLOT_SIZE, SLOTS};
 
 // The pages of the archive.
 const PAGE_COUNT: u32 = 512;
+
+// The slots of a page.
+const PAGE_SLOTS: u16 = SLOTS as u16;
+
+// The numbers of pages that one byte tells apart.
+const SEQUENCES: u16 = 256;
 
 // What the four bytes between the slots and the check are.
 const UNUSED: u8 = 0xFF;
@@ -26,13 +33,12 @@ impl Ring {
         let Some(count) = self.count_from_newer(date, time) else {
             return Plan::none();
         };
-        let slots = u16::from(SLOTS);
         let slot = (self.next_slot() + SLOT_COUNT - count) % SLOT_COUNT;
-        let place = slot % slots;
+        let place = slot % PAGE_SLOTS;
         Plan {
-            pages: (count - 1 + place) / slots + 1,
+            pages: (count - 1 + place) / PAGE_SLOTS + 1,
             place,
-            first_page: slot / slots,
+            first_page: slot / PAGE_SLOTS,
         }
     }
 
@@ -42,10 +48,13 @@ impl Ring {
     pub fn page(&self, plan: &Plan, k: u16) -> [u8; PAGE_SIZE]
         requires { k < plan.now.pages }
         ensures page { (history : List (List ℕ)) → StandsFor self.now history → result ≡ page_of history plan.now k }
+        ensures slots { (history : List (List ℕ)) → StandsFor self.now history
+            → (place : ℕ) → place < SLOTS → slot_at result place ≡ slot_on history plan.now k place }
         ensures good { check result ≡ 0 }
     {
-        let first = 5 * (((u32::from(plan.first_page) + u32::from(k)) % PAGE_COUNT) as u16);
-        let mut page = blank_page((k % 256) as u8);
+        let first = PAGE_SLOTS
+            * (((u32::from(plan.first_page) + u32::from(k)) % PAGE_COUNT) as u16);
+        let mut page = blank_page((k % SEQUENCES) as u8);
         for place in 0..SLOTS {
             let start = 1 + SLOT_SIZE * usize::from(place);
             let slot = self.slot(first + u16::from(place));

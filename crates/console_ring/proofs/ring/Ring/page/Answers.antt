@@ -1,6 +1,7 @@
 use Rattle.std.proofs.Common.{◌≡◌, ℕ, ◌+◌, ◌*◌, ◌-◌, arith, ◌∙◌, ap}
+use Rattle.vantage_frames.specs.Slots.{slot_at}
 use Rattle.console_ring.specs.Picture.{slot_on}
-use Rattle.console_ring.proofs.Pages.{begun, more, whole, room, same_slot}
+use Rattle.console_ring.proofs.Pages.{begun, more, whole, room, same_slot, slots_shown}
 use Rattle.console_ring.proofs.ring.Ring.page.Goals as goal
 
 pub loop-place-init : goal.loop-place-init
@@ -22,3 +23,10 @@ returns-clause-page c history stands =
     let all : c.loop-place.place ≡ 5 = omega (arith, c.loop-place.auto.place-end, c.loop-place-test.false) in
     c.seal.ensures.sealed
     ∙ whole c.loop-place.page history c.args.plan.now c.args.k c.loop-place.place (c.loop-place.invariant history stands) all c.loop-place-test.array_long
+
+pub returns-clause-slots : goal.returns-clause-slots
+returns-clause-slots c history stands place below =
+    let all : c.loop-place.place ≡ 5 = omega (arith, c.loop-place.auto.place-end, c.loop-place-test.false) in
+    let begins = c.loop-place.invariant history stands in
+    ap (λ xs. slot_at xs place) (c.seal.ensures.sealed ∙ whole c.loop-place.page history c.args.plan.now c.args.k c.loop-place.place begins all c.loop-place-test.array_long)
+    ∙ slots_shown c.loop-place.page history c.args.plan.now c.args.k c.loop-place.place place begins all below

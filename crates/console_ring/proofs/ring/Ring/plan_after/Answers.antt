@@ -9,6 +9,5 @@ returns-in_default-clause-plan c history stands =
 pub returns-clause-plan : goal.returns-clause-plan
 returns-clause-plan c history stands =
     let range = rw c.in-Some.is at c.count_from_newer.ensures.range in
-    rw c.from-slots.ensures
-    (with_records c.args.self.now history c.args.date c.args.time c.next_slot.result c.in-Some.count stands (c.next_slot.ensures.slot history stands)
-    (sym c.count_from_newer.ensures.count ∙ c.in-Some.is) range.0)
+    with_records c.args.self.now history c.args.date c.args.time c.next_slot.result c.in-Some.count stands (c.next_slot.ensures.slot history stands)
+    (sym c.count_from_newer.ensures.count ∙ c.in-Some.is) range.0
