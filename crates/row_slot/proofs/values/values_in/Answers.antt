@@ -1,0 +1,49 @@
+use Rattle.std.proofs.Common.{◌∙◌, ap, sym, arith, length-set, drop, below_more, rules}
+use Rattle.std.specs.Bool.{then_some}
+use Rattle.std.specs.Int.{w32}
+use Rattle.std.specs.Prelude.{FitsSigned}
+use Rattle.std.proofs.lemmas.Bool.{false≢true}
+use Rattle.row_slot.specs.Values.{is_allowed, values_in}
+use Rattle.row_slot.proofs.Fields.{fields_read, none_read, told, tells_more}
+use Rattle.row_slot.proofs.values.values_in.Goals as goal
+
+pub returns-then-not-is_allowed : goal.returns-then-not-is_allowed
+returns-then-not-is_allowed c =
+    let slot = c.args.slot.now in
+    let presence = c.presence_in-presence.result in
+    let field = c.loop-field.field in
+    let fits : FitsSigned w32 c.number_of-number.result = search rules in
+    let refused = sym (told is_allowed presence field slot c.number_of-number.result fits c.number_of-number.ensures) ∙ sym c.is_allowed.ensures ∙ c.if-not-is_allowed.true in
+    sym (ap (λ n. values_in 37 n (drop 20 slot)) (sym c.presence_in-presence.ensures)
+    ∙ none_read 37 presence (drop 20 slot) (λ are. false≢true (sym refused ∙ are.allowed field c.loop-field-test.true)))
+
+pub loop-field-preserved : goal.loop-field-preserved
+loop-field-preserved c =
+    let slot = c.args.slot.now in
+    let presence = c.presence_in-presence.result in
+    let field = c.loop-field.field in
+    let fits : FitsSigned w32 c.number_of-number.result = search rules in
+    let allowed = sym (told is_allowed presence field slot c.number_of-number.result fits c.number_of-number.ensures) ∙ sym c.is_allowed.ensures ∙ c.if-not-is_allowed.false in
+    let value = c.then_some.ensures ∙ told (λ b z. then_some b z) presence field slot c.number_of-number.result fits c.number_of-number.ensures in
+    record {
+      long = length-set _ _ _ ∙ c.loop-field.invariant.long;
+      allowed = below_more _ _ c.loop-field.invariant.allowed allowed;
+      tells = tells_more presence field (drop 20 slot) c.loop-field.values c.then_some.result (omega arith) value c.loop-field.invariant.tells;
+    }
+
+pub returns-then-presence-ne0 : goal.returns-then-presence-ne0
+returns-then-presence-ne0 c =
+    let presence = c.presence_in-presence.result in
+    sym (ap (λ n. values_in 37 n (drop 20 c.args.slot.now)) (sym c.presence_in-presence.ensures)
+    ∙ none_read 37 presence (drop 20 c.args.slot.now) (λ are. c.if-presence-ne0.true (omega (arith, are.below))))
+
+pub returns : goal.returns
+returns c =
+    let presence = c.presence_in-presence.result in
+    sym (ap (λ n. values_in 37 n (drop 20 c.args.slot.now)) (sym c.presence_in-presence.ensures)
+    ∙ fields_read 37 presence (drop 20 c.args.slot.now) c.loop-field.values c.loop-field.invariant.long
+    (record {
+      below = omega arith;
+      allowed = λ field within. c.loop-field.invariant.allowed field (omega arith);
+    })
+    (λ field within. c.loop-field.invariant.tells field (omega arith)))

@@ -1,0 +1,10 @@
+use Rattle.std.proofs.Common.{◌≡◌, length, drop}
+use Rattle.row_slot.proofs.Fields.{AreAllowed, Tells}
+use Rattle.row_slot.proofs.values.values_in.Given as goal
+
+abbrev pub invariant-loop-field : goal.invariant-loop-field
+invariant-loop-field l = record {
+  long : length l.values ≡ 37;
+  allowed : AreAllowed l.field l.presence (drop 20 l.slot);
+  tells : Tells l.field l.presence (drop 20 l.slot) l.values;
+}

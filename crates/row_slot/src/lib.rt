@@ -1,0 +1,14 @@
+//! One row of the archive as a slot of its log: 176 bytes, read and written.
+#![tactic(auto)]
+
+mod layout;
+mod reading;
+mod values;
+mod writing;
+
+pub use layout::SLOT_SIZE;
+pub use reading::read;
+pub use writing::write;
+
+#[cfg(test)]
+mod tests;

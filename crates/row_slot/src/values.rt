@@ -1,0 +1,84 @@
+ghost use Rattle.std.specs.Prelude.{◌≡◌, ◌+◌, ◌*◌, ◌<◌, drop, length};
+ghost use Rattle.row_slot.specs.Slot.{number_at};
+ghost use Rattle.row_slot.specs.Values.{is_allowed, number_in, numbers_of, presence_of, spelled, values_in};
+
+use crate::layout::{PRESENCE, REST, SLOT_SIZE, VALUES};
+use byteorder::{ByteOrder, LittleEndian};
+use station_base::FIELD_COUNT;
+
+// How far from 0 a value may lie.
+const GREATEST: u32 = 2_000_000;
+
+const NUMBER_SIZE: usize = 4;
+
+// The bits that say which fields have a value, the lowest for the first.
+pub fn presence_of(values: &[Option<i32>; FIELD_COUNT]) -> u64
+    ensures { result ≡ presence_of values.now }
+{
+    let mut presence = 0;
+    for (field, value) in values.iter().enumerate() {
+        presence |= u64::from(value.is_some()) << field;
+    }
+    presence
+}
+
+// The number of each field one behind the other, with 0 where a value is missing.
+pub fn spelled(values: &[Option<i32>; FIELD_COUNT]) -> [u8; REST - VALUES]
+    ensures bytes { result ≡ spelled (numbers_of values.now) }
+    ensures fields { length values.now ≡ FIELD_COUNT }
+{
+    let mut numbers = [0; FIELD_COUNT];
+    for (field, value) in values.iter().enumerate() {
+        numbers[field] = value.unwrap_or(0);
+    }
+    let mut bytes = [0; REST - VALUES];
+    LittleEndian::write_i32_into(&numbers, &mut bytes);
+    bytes
+}
+
+// The values of the fields, where each is allowed and no bit is set for further fields.
+#[tactic(auto, unfolding(crate::specs::Values::values_in))]
+pub fn values_in(slot: &[u8; SLOT_SIZE]) -> Option<[Option<i32>; FIELD_COUNT]>
+    ensures { result ≡ values_in 37 (number_at 8 12 slot.now) (drop 20 slot.now) }
+{
+    let presence = presence_in(slot);
+    let mut values = [None; FIELD_COUNT];
+    for field in 0..FIELD_COUNT {
+        let has_value = presence >> field & 1 == 1;
+        let number = number_of(slot, field);
+        if !is_allowed(has_value, number) {
+            return None;
+        }
+        values[field] = has_value.then_some(number);
+    }
+    if presence >> FIELD_COUNT != 0 {
+        return None;
+    }
+    Some(values)
+}
+
+// The presence bits.
+fn presence_in(slot: &[u8; SLOT_SIZE]) -> u64
+    ensures { result ≡ number_at 8 12 slot.now }
+{
+    LittleEndian::read_u64(&slot[PRESENCE..])
+}
+
+// The number of a field.
+fn number_of(slot: &[u8; SLOT_SIZE], field: usize) -> i32
+    requires { field < FIELD_COUNT }
+    ensures { result ≡ number_in (drop (20 + 4 * field) slot.now) }
+{
+    LittleEndian::read_i32(&slot[VALUES + NUMBER_SIZE * field..])
+}
+
+// Whether the number may stand at a field that has a value, or has none.
+fn is_allowed(has_value: bool, number: i32) -> bool
+    ensures { result ≡ is_allowed has_value number }
+{
+    if has_value {
+        number.unsigned_abs() <= GREATEST
+    } else {
+        number == 0
+    }
+}
