@@ -16,14 +16,14 @@ in_slots_at zero k bytes lt = absurd (omega arith)
 in_slots_at (suc n) zero bytes lt = refl
 in_slots_at (suc n) (suc k) bytes lt = in_slots_at n k (drop 176 bytes) (omega arith) ∙ ap (take 176) (drop-drop (176 * k) 176 bytes ∙ ap (λ (j : ℕ). drop j bytes) (let e : 176 + 176 * k ≡ 176 * suc k = omega arith in e))
 
-unmarked_front : (b : List ℕ) → take 176 (unmarked b) ≡ unmarked (take 176 b)
+pub unmarked_front : (b : List ℕ) → take 176 (unmarked b) ≡ unmarked (take 176 b)
 unmarked_front [] = refl
 unmarked_front (x ∷ []) = refl
 unmarked_front (x ∷ y ∷ []) = refl
 unmarked_front (x ∷ y ∷ z ∷ []) = refl
 unmarked_front (x ∷ y ∷ z ∷ w ∷ b) = refl
 
-unmarked_back : (j : ℕ) (b : List ℕ) → drop (suc (suc (suc (suc j)))) (unmarked b) ≡ drop (suc (suc (suc (suc j)))) b
+pub unmarked_back : (j : ℕ) (b : List ℕ) → drop (suc (suc (suc (suc j)))) (unmarked b) ≡ drop (suc (suc (suc (suc j)))) b
 unmarked_back j [] = refl
 unmarked_back j (x ∷ []) = refl
 unmarked_back j (x ∷ y ∷ []) = refl

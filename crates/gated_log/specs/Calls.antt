@@ -1,5 +1,5 @@
 -- The calls of a disk that a log makes.
-use Rattle.std.specs.Prelude.{◌≡◌, ℕ, ◌+◌, ◌≤◌, List, [], ◌∷◌, take, Some, None}
+use Rattle.std.specs.Prelude.{◌≡◌, ℕ, ◌+◌, ◌*◌, ◌<◌, ◌≤◌, List, [], ◌∷◌, take, Some, None}
 use Rattle.disk_model.specs.Calls.{DiskCall, measured, was_read, wrote, synced}
 use Rattle.disk_model.specs.declared.disk.Disked.{Disked}
 use Rattle.disk_model.specs.declared.disk.Disked.TheVariants.{Done}
@@ -43,10 +43,18 @@ reads_within len [] = Unit {0}
 reads_within len (was_read at n answer ∷ more) = (at + n ≤ len) × reads_within len more
 reads_within len (other ∷ more) = ⊥
 
--- the calls of a recovery, of which j were changes: those named, in order and up to the first that failed
-pub record RecoveryCalls {D : Type 0} (went : D → List DiskCall → D → Type 0) (old new : D) (j : ℕ) : Type 0 where
+-- the length that was measured last
+abbrev pub last_length : ℕ → List DiskCall → ℕ
+last_length len [] = len
+last_length len (measured (Known n) ∷ more) = last_length n more
+last_length len (other ∷ more) = last_length len more
+
+-- The calls of a recovery, of which j were changes: those named, in order and up to the first that failed. The slots
+-- that it found end within the length.
+pub record RecoveryCalls {D : Type 0} (went : D → List DiskCall → D → Type 0) (old new : D) (j slots : ℕ) : Type 0 where
   pub calls : List DiskCall
   pub answer : Disked
   pub by : went old calls new
   pub changes_are : changes calls ≡ up_to (take j recovery_changes) answer
   pub fits : reads_fit 0 calls
+  pub reach : 0 < slots → 176 * (slots + 1) ≤ last_length 0 calls

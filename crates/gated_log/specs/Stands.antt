@@ -49,6 +49,10 @@ pub record StandsToRead {D : Type 0} (seen : D → Option (List ℕ)) (count : �
 abbrev pub NowHolds : {D : Type 0} → (D → ℕ) → (D → ℕ → List ℕ → Type 0) → D → List (List ℕ) → Type 0
 NowHolds moment left disk slots = (c : List ℕ) → left disk (moment disk) c → Has slots c
 
+-- the image has the log of one that a crash now may leave
+abbrev pub HasLogLeft : {D : Type 0} → (D → ℕ) → (D → ℕ → List ℕ → Type 0) → D → List ℕ → Type 0
+HasLogLeft moment left disk image = (c : List ℕ) × left disk (moment disk) c × (log_of image ≡ log_of c)
+
 -- the bytes are the slot's, but for the gate and the number of slots of a batch's first slot
 abbrev pub IsSlot : List ℕ → List ℕ → Type 0
 IsSlot slot bytes = (slot ≡ bytes) ⊎ (slot ≡ unmarked bytes)

@@ -1,11 +1,11 @@
-ghost use Rattle.std.specs.Prelude.{◌≡◌, ◌⊎◌, ◌↔◌, ◌≤◌, ◌<◌, ◌+◌, ◌-◌, ◌*◌, ◌/◌, ◌^◌, ◌++◌, [], ◌∷◌, List, Some, ℕ, true, false, length, take, slice_index_or};
+ghost use Rattle.std.specs.Prelude.{◌≡◌, ◌⊎◌, ◌↔◌, ◌≤◌, ◌<◌, ◌+◌, ◌-◌, ◌*◌, ◌/◌, ◌^◌, ◌++◌, [], ◌∷◌, List, Some, ℕ, true, false, length, take, drop, slice_index_or};
 ghost use Rattle.causes.specs.Cause.{Cause};
-ghost use Rattle.causes.specs.Told.{WhereTold};
+ghost use Rattle.causes.specs.Told.{WhereTold, map_told};
 ghost use Rattle.disk_model.specs.Calls.{was_read};
 ghost use Rattle.disk_model.specs.Disk.{OnDone, Stays, LeavesOnly, IsDurable};
 ghost use Rattle.gated_log.specs.Appending.{IsHanded, handed, OldOrAll, OnAppended, Moved, disk_answer, count_after, stale_after};
 ghost use Rattle.gated_log.specs.Calls.{up_to, four_changes, RecoveryCalls};
-ghost use Rattle.gated_log.specs.Stands.{Stands, StandsToRead, NowHolds, Has, ReadsAs, IsSlot};
+ghost use Rattle.gated_log.specs.Stands.{Stands, StandsToRead, NowHolds, HasLogLeft, Has, ReadsAs, IsSlot};
 
 use crate::append::prepare;
 use crate::commit::commit;
@@ -29,7 +29,7 @@ pub struct GatedLog {
 
 impl GatedLog {
     ghost use Rattle.gated_log.specs.GatedLog.{slot_count, is_stale};
-    ghost use Rattle.gated_log.specs.Start.{Finds, OnLog, OnRead, OnWrite, MovedToWrite};
+    ghost use Rattle.gated_log.specs.Start.{Finds, OnLog, OnRead, OnWrite, MovedToWrite, slots_found, remade};
 
     /// The log that a file holds. For `Write` it begins with a sync, and a file of at most 177 bytes
     /// is made anew, whatever it holds: head and closed gate are written, and synced. So the user
@@ -40,7 +40,7 @@ impl GatedLog {
         ensures fresh { OnLog result (λ log. is_stale log ≡ false) }
         ensures cause { Cause (D.faults disk.old) (D.faults disk.new) (result ≡ LogStart.DiskFault) }
         ensures begun { (D.moment disk.old ≤ D.moment disk.new) × (D.moment disk.new ≤ D.moment disk.old + 3) }
-        ensures went { RecoveryCalls D.went disk.old disk.new (D.moment disk.new - D.moment disk.old) }
+        ensures went { RecoveryCalls D.went disk.old disk.new (D.moment disk.new - D.moment disk.old) (slots_found result) }
 
         ensures read_changes_nothing { OnRead purpose (Stays D.seen D.moment D.left disk.old disk.new) }
         ensures stands_to_read { OnRead purpose (OnLog result (λ log. (slots : List (List ℕ))
@@ -48,14 +48,12 @@ impl GatedLog {
 
         ensures moved { OnWrite purpose (OnLog result (λ _. WhereTold (D.seen disk.old)
             (MovedToWrite (D.moment disk.old) (D.moment disk.new)))) }
+        ensures reads { OnWrite purpose (OnLog result (λ _. D.seen disk.new ≡ map_told remade (D.seen disk.old))) }
         ensures stands { OnWrite purpose (OnLog result (λ log. (slots : List (List ℕ))
             × Stands D.seen D.moment D.left (slot_count log) disk.new slots × ReadsAs D.seen disk.old slots)) }
 
-        // Whatever it answered: where each image that a crash at the start may leave had the slots
-        // that the disk read then, so has each image since.
-        ensures images { OnWrite purpose ((slots : List (List ℕ)) → ReadsAs D.seen disk.old slots
-            → NowHolds D.moment D.left disk.old slots
-            → LeavesOnly D.moment D.left (Has slots) disk.old disk.new) }
+        // Whatever it answered: each image since has the log of one that a crash at the start might have left.
+        ensures images { OnWrite purpose (LeavesOnly D.moment D.left (HasLogLeft D.moment D.left disk.old) disk.old disk.new) }
 
         // Each image since the first sync ended has the slots.
         ensures since_sync { OnWrite purpose (OnLog result (λ _. (slots : List (List ℕ)) → ReadsAs D.seen disk.old slots
@@ -74,11 +72,19 @@ impl GatedLog {
         self.count
     }
 
+    /// Whether an append met a disk fault, after which each answers `Stale`.
+    pub fn is_stale(&self) -> bool
+        ensures { result ≡ is_stale self.now }
+    {
+        self.stale
+    }
+
     /// Reads slot `n`, from 0. Where it is the first of a batch, the buffer holds the gate at byte 0
     /// and the number of the batch's slots at bytes 2 and 3 in place of zeros. It reads in a stale
     /// log too.
     pub fn slot<D: Disk>(&self, disk: &mut D, n: u64, buf: &mut [u8; SLOT]) -> Disked
         requires { n < slot_count self.now }
+        ensures file { OnDone result (WhereTold (D.seen disk.old) (λ c. buf.new ≡ take 176 (drop (176 * (n + 1)) c))) }
         ensures bytes { OnDone result ((slots : List (List ℕ)) → StandsToRead D.seen (slot_count self.now) disk.old slots
             → WhereTold (D.seen disk.old) (λ _. IsSlot (slice_index_or slots n []) buf.new)) }
         ensures stays { Stays D.seen D.moment D.left disk.old disk.new }

@@ -1,13 +1,13 @@
 ghost use Rattle.std.specs.Prelude.{◌≡◌, ◌≤◌, ◌<◌, ◌+◌, ◌-◌, ◌^◌, List, [], Some, ℕ, false, length, take};
 ghost use Rattle.causes.specs.Cause.{Cause};
-ghost use Rattle.causes.specs.Told.{WhereTold};
+ghost use Rattle.causes.specs.Told.{WhereTold, map_told};
 ghost use Rattle.disk_model.specs.declared.disk.Disked.{Disked};
-ghost use Rattle.disk_model.specs.Disk.{OnDone, Stays, LeavesOnly, IsDurable};
+ghost use Rattle.disk_model.specs.Disk.{OnDone, Stays, LeavesOnly, IsDurable, written};
 ghost use Rattle.gated_log.specs.Calls.{up_to, made_changes, RecoveryCalls};
 ghost use Rattle.gated_log.specs.GatedLog.{slot_count, is_stale};
 ghost use Rattle.gated_log.specs.Log.{log_of, holds, empty_archive};
-ghost use Rattle.gated_log.specs.Stands.{Stands, StandsToRead, NowHolds, Has, ReadsAs};
-ghost use Rattle.gated_log.specs.Start.{Finds, OnLog, MovedToWrite};
+ghost use Rattle.gated_log.specs.Stands.{Stands, StandsToRead, HasLogLeft, Has, ReadsAs};
+ghost use Rattle.gated_log.specs.Start.{Finds, OnLog, MovedToWrite, slots_found, remade};
 
 use crate::layout::{MARK, SHORTEST};
 use crate::look::look;
@@ -33,6 +33,7 @@ fn make<D: Disk>(disk: &mut D) -> Disked
     ensures cause { Cause (D.faults disk.old) (D.faults disk.new) (result ≡ Disked.Failed) }
     ensures images { IsDurable D.seen D.moment D.left disk.old → WhereTold (D.seen disk.old) (λ c. length c ≤ 177)
         → LeavesOnly D.moment D.left (λ c. Has [] c × ((x : List ℕ) × (D.seen disk.old ≡ Some x))) disk.old disk.new }
+    ensures reads { OnDone result (D.seen disk.new ≡ map_told (written 0 empty_archive) (D.seen disk.old)) }
     ensures stands { OnDone result (WhereTold (D.seen disk.old) (λ c. length c ≤ 177)
         → Stands D.seen D.moment D.left 0 disk.new []) }
 {
@@ -53,13 +54,13 @@ pub(crate) fn recover_to_write<D: Disk>(disk: &mut D) -> LogStart
     ensures begun { (D.moment disk.old ≤ D.moment disk.new) × (D.moment disk.new ≤ D.moment disk.old + 3) }
     ensures moved { OnLog result (λ _. WhereTold (D.seen disk.old)
         (MovedToWrite (D.moment disk.old) (D.moment disk.new))) }
-    ensures images { (slots : List (List ℕ)) → ReadsAs D.seen disk.old slots → NowHolds D.moment D.left disk.old slots
-        → LeavesOnly D.moment D.left (Has slots) disk.old disk.new }
+    ensures images { LeavesOnly D.moment D.left (HasLogLeft D.moment D.left disk.old) disk.old disk.new }
+    ensures reads { OnLog result (λ _. D.seen disk.new ≡ map_told remade (D.seen disk.old)) }
     ensures stands { OnLog result (λ log. (slots : List (List ℕ))
         × Stands D.seen D.moment D.left (slot_count log) disk.new slots × ReadsAs D.seen disk.old slots) }
     ensures since_sync { OnLog result (λ _. (slots : List (List ℕ)) → ReadsAs D.seen disk.old slots
         → (c : List ℕ) → D.left disk.new (D.moment disk.old + 1) c → Has slots c) }
-    ensures went { RecoveryCalls D.went disk.old disk.new (D.moment disk.new - D.moment disk.old) }
+    ensures went { RecoveryCalls D.went disk.old disk.new (D.moment disk.new - D.moment disk.old) (slots_found result) }
 {
     match disk.sync() {
         Disked::Failed => return LogStart::DiskFault,
@@ -89,7 +90,7 @@ pub(crate) fn recover_to_read<D: Disk>(disk: &mut D) -> LogStart
     ensures stays { Stays D.seen D.moment D.left disk.old disk.new }
     ensures stands { OnLog result (λ log. (slots : List (List ℕ))
         × StandsToRead D.seen (slot_count log) disk.new slots × ReadsAs D.seen disk.old slots) }
-    ensures went { RecoveryCalls D.went disk.old disk.new 0 }
+    ensures went { RecoveryCalls D.went disk.old disk.new 0 (slots_found result) }
 {
     let len = match disk.length() {
         Length::Failed => return LogStart::DiskFault,
