@@ -19,7 +19,7 @@ use gated_log::{Append, GatedLog, LogStart};
 use station_base::{Row, Stamp};
 use std::alloc::Global;
 
-// How many rows there is room for after `room`: all that one dump of a console can bring.
+// How many rows more there is room for after `room`: three dumps of a full console, each of 513 pages of five records.
 const SPARE_ROWS: usize = 7_695;
 
 /// An archive of rows whose stamps rise, over a log of slots in a file: all rows in memory, beside
@@ -86,7 +86,7 @@ impl Book {
         }
     }
 
-    /// Gets memory for 7,695 rows more. After `OutOfMemory` the book is as it was.
+    /// Gets memory for 7,695 rows more, as many as three dumps of a full console can bring.
     pub fn room(&mut self) -> Room
         ensures spare { OnRoom result (7695 ≤ spare self.new) }
         ensures no_less { spare self.old ≤ spare self.new }

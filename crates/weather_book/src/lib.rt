@@ -16,3 +16,6 @@ pub use answers::{Room, RowAnswer};
 pub use book::Book;
 pub use gated_log::Purpose;
 pub use start::BookStart;
+
+#[cfg(test)]
+mod tests;
