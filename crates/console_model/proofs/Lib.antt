@@ -1,0 +1,4 @@
+pub mod Following
+pub mod Orders
+pub mod Reaching
+pub mod Answering

@@ -1,0 +1,16 @@
+pub mod Archive
+pub mod Bounds
+pub mod Clock
+pub mod Console
+pub mod Due
+pub mod Frame
+pub mod FrameSize
+pub mod Hear
+pub mod Line
+pub mod Places
+pub mod Reading
+pub mod Spelling
+pub mod Standing
+pub mod States
+pub mod Tick
+pub mod Valid
