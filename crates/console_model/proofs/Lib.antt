@@ -1,4 +1,5 @@
+pub mod Answering
 pub mod Following
 pub mod Orders
+pub mod Plainly
 pub mod Reaching
-pub mod Answering
