@@ -1,5 +1,5 @@
 -- What bytes do outside a dump, and what ticks answer.
-use Rattle.std.proofs.Common.{◌≡◌, ℕ, ◌+◌, ◌-◌, ◌%◌, ◌<◌, ◌⊎◌, inl, inr, List, [], ◌∷◌, ◌++◌, length, refl, sym, ap, subst, ◌∙◌, arith, Bool, true, false}
+use Rattle.std.proofs.Common.{◌≡◌, ℕ, ◌+◌, ◌⊎◌, inl, inr, List, [], ◌∷◌, ◌++◌, length, refl, sym, ap, subst, ◌∙◌, arith, Bool, true, false}
 use Rattle.std.specs.Prelude.{if◌then◌else◌, nat_lt, ◌==◌}
 use Rattle.std.proofs.lemmas.List.{append-nil}
 use Rattle.std.proofs.lemmas.Bool.Decides.{nat_tests}
@@ -16,10 +16,10 @@ use Rattle.console_model.specs.declared.reply.ReplyKind.TheVariants.{Page}
 use Rattle.console_model.specs.Clock.{is_time}
 use Rattle.console_model.specs.Console.{State, Console, Outcome}
 use Rattle.console_model.specs.Console.State.{Asleep, Command, Overlong, Frame, Dump, Looping}
-use Rattle.console_model.specs.Frame.{at_frame, in_frame}
+use Rattle.console_model.specs.Frame.{at_frame}
 use Rattle.console_model.specs.FrameSize.{frame_size}
-use Rattle.console_model.specs.Hear.{in_command, in_overlong, in_dump, heard_in, hear, sends, ended, joined}
-use Rattle.console_model.specs.Laws.{IsFrame, IsDump, IsLooping, IsWake, KeepsRecords, AnswersSeldom, records_of}
+use Rattle.console_model.specs.Hear.{in_command, in_overlong, in_dump, heard_in, hear, sends, ended}
+use Rattle.console_model.specs.Laws.{IsFrame, IsDump, IsLooping, IsWake, KeepsRecords, AnswersSeldom}
 use Rattle.console_model.specs.Line.{to, silent, obeyed, at_line}
 use Rattle.console_model.specs.Reading.{mark, read_line}
 use Rattle.console_model.specs.Spelling.{is_good}
