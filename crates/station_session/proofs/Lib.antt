@@ -1,0 +1,11 @@
+pub mod Stamps
+pub mod Marking
+pub mod Handing
+pub mod Staying
+pub mod Chains
+pub mod Trying
+pub mod Ends
+pub mod Chained
+pub mod Rounds
+pub mod Serving
+pub mod Parts

@@ -1,0 +1,13 @@
+pub mod Records
+pub mod Batches
+pub mod Attempts
+pub mod Images
+pub mod Session
+pub mod Report
+pub mod Marks
+pub mod Storing
+pub mod Round
+pub mod Writing
+pub mod Room
+pub mod Keeping
+pub mod Trying
