@@ -6,6 +6,8 @@ mod correct;
 mod report;
 mod round_end;
 mod session;
+#[cfg(test)]
+mod tests;
 mod writing;
 
 pub use report::{Mark, Report};
