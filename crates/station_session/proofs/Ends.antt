@@ -44,7 +44,7 @@ order_join [] ys h k = k
 order_join (x ∷ xs) ys h k = order_cons x (xs ++ ys) h.0 (order_join xs ys h.1 k)
 
 -- an attempt after which another may come was refused no batch
-goes_on : (e : DumpEnd) → end_after e ≡ None → outcome.last_answer e ≡ Done
+pub goes_on : (e : DumpEnd) → end_after e ≡ None → outcome.last_answer e ≡ Done
 goes_on (dump_end.Failed trouble) h = refl
 goes_on dump_end.Whole h = cc
 goes_on dump_end.Full h = cc
@@ -54,7 +54,7 @@ goes_on dump_end.Flood h = cc
 goes_on dump_end.LinkFault h = cc
 goes_on dump_end.OutOfMemory h = cc
 
-went_on : (last : Option CivilMinute) (t : Tried) → end_after t.end ≡ None → AllDone (batches_in last t)
+pub went_on : (last : Option CivilMinute) (t : Tried) → end_after t.end ≡ None → AllDone (batches_in last t)
 went_on last t e = subst (λ (a : Kept). AllDone (answered a (batches last t.place t.taken))) (sym (goes_on t.end e)) (answered_done (batches last t.place t.taken))
 
 -- all batches of attempts but the last were kept
@@ -69,7 +69,7 @@ last_cons : (s : Step) (ss : List Step) → s.answer ≡ Done → last_answer (s
 last_cons s [] e = e
 last_cons s (n ∷ ss) e = refl
 
-last_join : (xs ys : List Step) → AllDone xs → last_answer (xs ++ ys) ≡ last_answer ys
+pub last_join : (xs ys : List Step) → AllDone xs → last_answer (xs ++ ys) ≡ last_answer ys
 last_join [] ys h = refl
 last_join (x ∷ xs) ys h = last_cons x (xs ++ ys) h.0 ∙ last_join xs ys h.1
 
@@ -198,7 +198,7 @@ kept_refused a e [] = refl
 kept_refused a e (b ∷ []) = ap (λ (z : List (List ℕ)). z ++ []) (e b)
 kept_refused a e (b ∷ c ∷ bs) = ap (λ (z : List (List ℕ)). b ++ z) (kept_refused a e (c ∷ bs))
 
-kept_in : (e : DumpEnd) (bs : List (List (List ℕ))) → kept_records (answered (outcome.last_answer e) bs) ≡ joined (acknowledged e bs)
+pub kept_in : (e : DumpEnd) (bs : List (List (List ℕ))) → kept_records (answered (outcome.last_answer e) bs) ≡ joined (acknowledged e bs)
 kept_in dump_end.Whole bs = kept_done bs
 kept_in (dump_end.Failed trouble) bs = kept_done bs
 kept_in dump_end.Full bs = kept_refused Full (λ r. refl) bs
