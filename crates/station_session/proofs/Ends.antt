@@ -5,7 +5,7 @@ use Rattle.serial_link.specs.Talk.{count_quiets}
 use Rattle.serial_link.proofs.Growing.{count_quiets-append}
 use Rattle.vantage_frames.specs.StampFrame.{stamp_frame_of}
 use Rattle.dmpaft_driver.specs.Attempt.{Attempt}
-use Rattle.dmpaft_driver.specs.Batch.{batches, answered, slots, rising, newest, add, EndsGiving}
+use Rattle.dmpaft_driver.specs.Batch.{batches, joined, answered, slots, rising, newest, add, EndsGiving}
 use Rattle.dmpaft_driver.specs.Keeper.{Step, step}
 use Rattle.dmpaft_driver.specs.Outcome.{Ended, steps_of}
 use Rattle.dmpaft_driver.specs.Outcome as outcome
@@ -16,7 +16,7 @@ use Rattle.dmpaft_driver.specs.declared.outcome.DumpEnd.TheVariants as dump_end
 use Rattle.dmpaft_driver.proofs.Quiets.{failed_quiets}
 use Rattle.station_session.specs.declared.round_end.RoundEnd.{RoundEnd}
 use Rattle.station_session.specs.declared.round_end.RoundEnd.TheVariants as round
-use Rattle.station_session.specs.Attempts.{Tried, IsAttempt, Attempts, EndsBefore, end_after, batches_in, stamp_after, all_batches, all_said, page_count, but_last, joined, acknowledged, acked_records}
+use Rattle.station_session.specs.Attempts.{Tried, IsAttempt, Attempts, EndsBefore, end_after, batches_in, stamp_after, all_batches, all_said, page_count, but_last, acknowledged, acked_records}
 use Rattle.station_session.specs.Batches.{kept_of, kept_records, last_answer, Fit}
 use Rattle.station_session.proofs.Chains.{InOrder}
 

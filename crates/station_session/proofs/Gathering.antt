@@ -1,32 +1,23 @@
 -- The records that a round keeps are those that rise among all slots that its attempts took.
 use Rattle.std.proofs.Common.{◌≡◌, ℕ, ◌+◌, Bool, true, false, inl, inr, List, [], ◌∷◌, ◌++◌, refl, sym, ◌∙◌, ap, subst, append-nil, append_assoc, Option}
 use Rattle.station_base.specs.CivilMinute.{CivilMinute}
-use Rattle.dmpaft_driver.specs.Batch.{slots, is_newer, one_if, last_if, rising, newest, batches, answered, add}
+use Rattle.dmpaft_driver.specs.Batch.{slots, is_newer, one_if, last_if, rising, newest, batches, joined, all_slots, answered, add}
 use Rattle.dmpaft_driver.specs.Keeper.{last_stamp, last_kept}
 use Rattle.dmpaft_driver.specs.Outcome as outcome
 use Rattle.dmpaft_driver.specs.declared.keeper.Kept.{Kept}
 use Rattle.dmpaft_driver.specs.declared.keeper.Kept.TheVariants.{Done}
 use Rattle.dmpaft_driver.specs.declared.outcome.DumpEnd.{DumpEnd}
 use Rattle.dmpaft_driver.specs.declared.outcome.DumpEnd.TheVariants as dump_end
-use Rattle.dmpaft_driver.proofs.Rising as driver
-use Rattle.dmpaft_driver.proofs.Rising.{all_slots, rising_joins, batches_rise}
+use Rattle.dmpaft_driver.proofs.Rising.{rising_joins, batches_rise}
 use Rattle.station_session.specs.declared.round_end.RoundEnd.{RoundEnd}
-use Rattle.station_session.specs.Attempts.{Tried, Attempts, batches_in, stamp_after, all_batches, but_last, joined, acknowledged}
+use Rattle.station_session.specs.Attempts.{Tried, Attempts, batches_in, stamp_after, all_batches, but_last, acknowledged}
 use Rattle.station_session.specs.Batches.{kept_records, last_answer}
-use Rattle.station_session.specs.Gathered.{slots_of_pages, slots_taken, IsFront}
+use Rattle.station_session.specs.Gathered.{slots_taken, IsFront}
 use Rattle.station_session.proofs.Ends.{goes_on, went_on, last_in, last_join, kept_append, kept_in}
 
-same_joined : (bs : List (List (List ℕ))) → joined bs ≡ driver.joined bs
-same_joined [] = refl
-same_joined (b ∷ bs) = ap (λ (x : List (List ℕ)). b ++ x) (same_joined bs)
-
-same_slots : (place : ℕ) (taken : List (List ℕ)) → slots_of_pages place taken ≡ all_slots place taken
-same_slots place [] = refl
-same_slots place (page ∷ more) = ap (λ (x : List (List ℕ)). slots place page ++ x) (same_slots 0 more)
-
 -- the batches of an attempt, put together
-joined_rise : (last : Option CivilMinute) (place : ℕ) (taken : List (List ℕ)) → joined (batches last place taken) ≡ rising last (slots_of_pages place taken)
-joined_rise last place taken = same_joined (batches last place taken) ∙ batches_rise last place taken ∙ ap (λ (x : List (List ℕ)). rising last x) (sym (same_slots place taken))
+joined_rise : (last : Option CivilMinute) (place : ℕ) (taken : List (List ℕ)) → joined (batches last place taken) ≡ rising last (all_slots place taken)
+joined_rise last place taken = batches_rise last place taken
 
 newest_joins : (a : Option CivilMinute) (xs ys : List (List ℕ)) → newest a (xs ++ ys) ≡ newest (newest a xs) ys
 newest_joins a [] ys = refl
@@ -47,13 +38,13 @@ kept_first (x ∷ r) [] a = refl
 kept_first (x ∷ r) (b ∷ bs) a = refl
 
 -- the stamp of the last record kept, where every batch was
-newest_kept : (a : Option CivilMinute) (place : ℕ) (taken : List (List ℕ)) → last_kept (answered Done (batches a place taken)) a ≡ newest a (slots_of_pages place taken)
+newest_kept : (a : Option CivilMinute) (place : ℕ) (taken : List (List ℕ)) → last_kept (answered Done (batches a place taken)) a ≡ newest a (all_slots place taken)
 newest_kept a place [] = refl
 newest_kept a place (page ∷ more) =
     let b = newest a (slots place page) in
     kept_first (rising a (slots place page)) (batches b 0 more) a
     ∙ ap (λ (x : Option CivilMinute). last_kept (answered Done (batches b 0 more)) x) (last_rising a (slots place page))
-    ∙ newest_kept b 0 more ∙ sym (newest_joins a (slots place page) (slots_of_pages 0 more))
+    ∙ newest_kept b 0 more ∙ sym (newest_joins a (slots place page) (all_slots 0 more))
 
 front_whole : (xs ys : List (List ℕ)) → xs ≡ ys → IsFront xs ys
 front_whole xs ys e = ([], append-nil xs ∙ e)
@@ -77,9 +68,9 @@ front_acknowledged dump_end.LinkFault bs = front_whole (joined bs) (joined bs) r
 front_acknowledged dump_end.OutOfMemory bs = front_whole (joined bs) (joined bs) refl
 
 -- the records kept of one attempt
-front_of_one : (last : Option CivilMinute) (t : Tried) → IsFront (kept_records (batches_in last t)) (rising last (slots_of_pages t.place t.taken))
+front_of_one : (last : Option CivilMinute) (t : Tried) → IsFront (kept_records (batches_in last t)) (rising last (all_slots t.place t.taken))
 front_of_one last t =
-    subst (λ (x : List (List ℕ)). IsFront x (rising last (slots_of_pages t.place t.taken))) (sym (kept_in t.end (batches last t.place t.taken)))
+    subst (λ (x : List (List ℕ)). IsFront x (rising last (all_slots t.place t.taken))) (sym (kept_in t.end (batches last t.place t.taken)))
     (subst (λ (x : List (List ℕ)). IsFront (joined (acknowledged t.end (batches last t.place t.taken))) x) (joined_rise last t.place t.taken)
     (front_acknowledged t.end (batches last t.place t.taken)))
 
@@ -88,24 +79,24 @@ done_records bs = kept_in dump_end.Whole bs
 
 module _ (last : Option CivilMinute) (t : Tried) (all : outcome.last_answer t.end ≡ Done) where
   -- all of them, where no batch was refused
-  whole_of_one : kept_records (batches_in last t) ≡ rising last (slots_of_pages t.place t.taken)
+  whole_of_one : kept_records (batches_in last t) ≡ rising last (all_slots t.place t.taken)
   whole_of_one = ap (λ (a : Kept). kept_records (answered a (batches last t.place t.taken))) all ∙ done_records (batches last t.place t.taken) ∙ joined_rise last t.place t.taken
 
-  stamp_then : stamp_after last t ≡ newest last (slots_of_pages t.place t.taken)
+  stamp_then : stamp_after last t ≡ newest last (all_slots t.place t.taken)
   stamp_then = ap (λ (a : Kept). last_kept (answered a (batches last t.place t.taken)) last) all ∙ newest_kept last t.place t.taken
 
   -- and those of the attempts behind it
   with_more : (ts : List Tried) → rising last (slots_taken (t ∷ ts)) ≡ kept_records (batches_in last t) ++ rising (stamp_after last t) (slots_taken ts)
   with_more ts =
-      rising_joins last (slots_of_pages t.place t.taken) (slots_taken ts)
-      ∙ ap (λ (x : List (List ℕ)). x ++ rising (newest last (slots_of_pages t.place t.taken)) (slots_taken ts)) (sym whole_of_one)
+      rising_joins last (all_slots t.place t.taken) (slots_taken ts)
+      ∙ ap (λ (x : List (List ℕ)). x ++ rising (newest last (all_slots t.place t.taken)) (slots_taken ts)) (sym whole_of_one)
       ∙ ap (λ (x : Option CivilMinute). kept_records (batches_in last t) ++ rising x (slots_taken ts)) (sym stamp_then)
 
 alone : (last : Option CivilMinute) (t : Tried) → kept_records (all_batches last (t ∷ [])) ≡ kept_records (batches_in last t)
 alone last t = ap kept_records (append-nil (batches_in last t))
 
-slots_alone : (last : Option CivilMinute) (t : Tried) → rising last (slots_taken (t ∷ [])) ≡ rising last (slots_of_pages t.place t.taken)
-slots_alone last t = ap (λ (x : List (List ℕ)). rising last x) (append-nil (slots_of_pages t.place t.taken))
+slots_alone : (last : Option CivilMinute) (t : Tried) → rising last (slots_taken (t ∷ [])) ≡ rising last (all_slots t.place t.taken)
+slots_alone last t = ap (λ (x : List (List ℕ)). rising last x) (append-nil (all_slots t.place t.taken))
 
 pub front_of_round : (made : ℕ) (last : Option CivilMinute) (ts : List Tried) (end : RoundEnd) → Attempts made last ts end → IsFront (kept_records (all_batches last ts)) (rising last (slots_taken ts))
 front_of_round made last [] end h = ([], refl)
