@@ -1,5 +1,5 @@
 -- A row and its slot.
-use Rattle.std.proofs.Common.{◌≡◌, ℕ, ℤ, suc, ◌+◌, ◌*◌, ◌%◌, ◌^◌, ◌<◌, ◌≤◌, ◌==◌, ◌&&◌, Bool, true, false, List, [], ◌∷◌, ◌++◌, length, take, drop, get_or, All, Option, Some, None, cond, refl, sym, ap, subst, ◌∙◌, arith, length-append}
+use Rattle.std.proofs.Common.{◌≡◌, ℕ, ℤ, suc, ◌+◌, ◌*◌, ◌%◌, ◌^◌, ◌<◌, ◌≤◌, ◌==◌, ◌&&◌, Bool, true, false, List, [], ◌∷◌, ◌++◌, length, take, drop, get_or, All, Option, Some, None, cond, refl, sym, ap, subst, ◌∙◌, arith}
 use Rattle.std.specs.Prelude.{slice_index}
 use Rattle.std.proofs.Math.Seq.{drop-append_seam, drop-cons}
 use Rattle.std.proofs.lemmas.Bool.{eqb-true, false≢true}
@@ -15,7 +15,7 @@ use Rattle.station_base.specs.declared.row.Row.{Row}
 use Rattle.station_base.proofs.Periods.{period_bound}
 use Rattle.station_base.proofs.Words.{stamp_of_words-of, words_of-stamp}
 use Rattle.row_slot.specs.Values.{presence_of, numbers_of, spelled, values_in}
-use Rattle.row_slot.specs.Slot.{head_of, slot_of, number_at, is_marked, stamp_in, interval_in, row_of, row_in}
+use Rattle.row_slot.specs.Slot.{slot_of, number_at, is_marked, stamp_in, interval_in, row_of, row_in}
 use Rattle.row_slot.proofs.Bytes.{AreBytes, bytes_behind, bytes_again}
 use Rattle.row_slot.proofs.Inverse.{AreTold, values_back, values_again}
 use Rattle.row_slot.proofs.Presence.{presence_below}
@@ -30,26 +30,6 @@ pub record IsWritable (row : Row) : Type 0 where
 spelled_long : (values : List (Option ℤ)) → length (spelled (numbers_of values)) ≡ 4 * length values
 spelled_long [] = refl
 spelled_long (value ∷ values) = let rest = spelled_long values in omega (arith, rest)
-
--- a slot is 176 bytes long
-pub length-slot_of : (row : Row) → length row.values ≡ 37 → length (slot_of row) ≡ 176
-unfolding slot_of
-length-slot_of row long =
-    let values : length (spelled (numbers_of row.values)) ≡ 148 = omega (arith, spelled_long row.values) in
-    omega (arith, length-append (head_of row) (spelled (numbers_of row.values) ++ little_bytes 8 0), length-append (spelled (numbers_of row.values)) (little_bytes 8 0))
-
--- its gate and the number of slots are 0
-pub gate-slot_of : (row : Row) → slice_index (slot_of row) 0 ≡ 0
-unfolding slot_of
-gate-slot_of row = refl
-
-pub low-slot_of : (row : Row) → slice_index (slot_of row) 2 ≡ 0
-unfolding slot_of
-low-slot_of row = refl
-
-pub high-slot_of : (row : Row) → slice_index (slot_of row) 3 ≡ 0
-unfolding slot_of
-high-slot_of row = refl
 
 -- the day of a minute is below 32, as words tell it
 day_by : (date time : ℕ) (c : CivilMinute) (test : Bool) → cond test (Some (words.spelled date time)) None ≡ Some c → c.day ≡ date % 32

@@ -12,7 +12,7 @@ use station_base::{Period, Row, Stamp};
 /// not, its words name no stamp, its interval is no period, or a value is beyond 2,000,000 either way or not 0 where it
 /// is missing.
 ///
-/// The gate and the number of slots are to be 0, as a log hands slots out.
+/// The gate and the number of slots are to be 0, as they are in a slot that is handed to a log.
 #[tactic(auto, unfolding(crate::specs::Slot::row_in))]
 pub fn read(slot: &[u8; SLOT_SIZE]) -> Option<Row>
     ensures row { result ≡ row_in slot.now }

@@ -35,10 +35,6 @@ pub on_write : (purpose : Purpose) (A B : Type 0) → OnWrite purpose A → (A �
 on_write Write A B a f = f a
 on_write Read A B a f = tt
 
-pub on_read : (purpose : Purpose) (A B : Type 0) → OnRead purpose A → (A → B) → OnRead purpose B
-on_read Read A B a f = f a
-on_read Write A B a f = tt
-
 pub on_write_both : (purpose : Purpose) (A B C : Type 0) → OnWrite purpose A → OnWrite purpose B → (A → B → C) → OnWrite purpose C
 on_write_both Write A B C a b f = f a b
 on_write_both Read A B C a b f = tt
@@ -46,10 +42,6 @@ on_write_both Read A B C a b f = tt
 pub on_read_both : (purpose : Purpose) (A B C : Type 0) → OnRead purpose A → OnRead purpose B → (A → B → C) → OnRead purpose C
 on_read_both Read A B C a b f = f a b
 on_read_both Write A B C a b f = tt
-
-pub by_purpose : (purpose : Purpose) (A B C : Type 0) → OnRead purpose A → OnWrite purpose B → (A → C) → (B → C) → C
-by_purpose Read A B C a b f h = f a
-by_purpose Write A B C a b f h = h b
 
 -- some chain whose slots are those of rows, for a disk that tells no bytes
 opened : List ℕ → List ℕ
