@@ -1,10 +1,12 @@
 ghost use Rattle.std.specs.Prelude.{◌≡◌, ◌≤◌, ◌-◌, ◌↔◌, IsTrue, length, take};
-ghost use Rattle.crc_ccitt.specs.Check.{check, sealed};
+ghost use Rattle.crc_ccitt.specs.Check.{check, is_good, sealed};
 
 use crate::sliced::crc;
 
 /// Whether the bytes end with the check of those before, the high byte first.
+#[tactic(auto, unfolding(crate::specs::Check::is_good))]
 pub fn is_good(frame: &[u8]) -> bool
+    ensures exact { result ≡ is_good frame.now }
     ensures good { IsTrue result ↔ (check frame.now ≡ 0) }
     ensures sealed { IsTrue result → 2 ≤ length frame.now → frame.now ≡ sealed (take (length frame.now - 2) frame.now) }
 {

@@ -1,5 +1,7 @@
 -- The fields of an archive record: what each is called, and in what it is counted.
-use Rattle.std.specs.Prelude.{ℕ, List, [], ◌∷◌, codes, slice_index_or}
+use Rattle.std.specs.Prelude.{ℕ, List, [], ◌∷◌, codes, slice_index_or, bytes_eq}
+use Rattle.std.specs.declared.option.Option.{Option}
+use Rattle.std.specs.List.{position}
 
 pub record FieldText : Type 0 where
   pub name : List ℕ
@@ -60,3 +62,7 @@ name_of index = (field_text index).name
 
 abbrev pub unit_of : ℕ → List ℕ
 unit_of index = (field_text index).unit
+
+-- the number of the field of exactly this name
+unfoldable pub field_named : List ℕ → Option ℕ
+field_named name = position (λ field. bytes_eq field.name name) fields

@@ -8,7 +8,7 @@ use jiff_core::civil::Date;
 // The archive day of the first stamp, 1999-12-31, and the day of the last.
 const FIRST_ARCHIVE_DAY: i32 = 10_956;
 
-const LAST_ARCHIVE_DAY: i32 = 57_707;
+const LAST_ARCHIVE_DAY: i32 = LAST_DAY as i32;
 
 /// The last day of a stamp, 2127-12-31, in days since 1970-01-01.
 pub const LAST_DAY: u32 = 57_707;

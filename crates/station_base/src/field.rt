@@ -1,6 +1,6 @@
 ghost use Rattle.std.specs.Prelude.{◌≡◌, ◌<◌, ℕ, IfSome};
 ghost use Rattle.std.specs.Option.{SomeIff};
-ghost use Rattle.station_base.specs.Fields.{name_of, unit_of};
+ghost use Rattle.station_base.specs.Fields.{field_named, name_of, unit_of};
 
 use std::marker::Model;
 
@@ -80,12 +80,22 @@ impl FieldId {
 
     /// The field that is called so, in exactly this spelling.
     pub fn by_name(text: &str) -> Option<FieldId>
-        ensures found { IfSome result (λ field. name_of field ≡ text.now) }
+        ensures exact { result ≡ field_named text.now }
+        ensures found { IfSome result (λ field. (field < 37) × (name_of field ≡ text.now)) }
         ensures only { (field : ℕ) → field < 37 → name_of field ≡ text.now → result ≡ Some field }
+    {
+        FieldId::by_bytes(text.as_bytes())
+    }
+
+    /// The field whose name has exactly these bytes.
+    pub fn by_bytes(name: &[u8]) -> Option<FieldId>
+        ensures exact { result ≡ field_named name.now }
+        ensures found { IfSome result (λ field. (field < 37) × (name_of field ≡ name.now)) }
+        ensures only { (field : ℕ) → field < 37 → name_of field ≡ name.now → result ≡ Some field }
     {
         for index in 0..FIELD_COUNT {
             let field = FieldId { index };
-            if field.name() == text {
+            if field.name().as_bytes() == name {
                 return Some(field);
             }
         }

@@ -2,17 +2,21 @@
 #![tactic(auto)]
 
 mod calendar;
+mod clock;
 mod day;
 mod digits;
 mod field;
+mod laws;
 mod period;
 mod row;
 mod stamp;
 mod text;
 
 pub use causes::OutOfMemory;
+pub use clock::ClockTime;
 pub use day::DayNumber;
 pub use field::{FIELD_COUNT, FieldId};
+pub use laws::words_order_as_time;
 pub use period::Period;
 pub use row::{LINE_ROOM, Row};
 pub use stamp::Stamp;

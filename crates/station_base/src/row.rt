@@ -26,10 +26,11 @@ impl Row {
     ghost use Rattle.station_base.specs.RowLine.{row_line};
 
     /// The line `row YYYY-MM-DD HH:MM I`, where I is the interval in minutes, and then ` NAME=VALUE` for each field that
-    /// has a value. It ends with a line feed. Values are to lie within 2,000,000 either way.
+    /// has a value. It ends with a line feed, and has at most 876 bytes. Values are to lie within 2,000,000 either way.
     pub fn line(&self) -> ArrayVec<u8, LINE_ROOM>
         requires { All IsPrintable self.now.values }
-        ensures { result.items ≡ row_line self.now }
+        ensures text { result.items ≡ row_line self.now }
+        ensures size { array_vec_len result ≤ 876 }
     {
         let mut line = ArrayVec::new();
         push_bytes(&mut line, b"row ");

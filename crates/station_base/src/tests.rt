@@ -4,6 +4,7 @@ use super::*;
 fn the_last_minute_has_no_stamp_after_it(rt: HostRuntime) {
     let last = Stamp::from_words(65_439, 2359).expect(&rt, "a stamp");
     assert_eq!(rt; last.text(), *b"2127-12-31 23:59");
+    assert_eq!(rt; last.minute(), 83_099_519);
     assert_eq!(rt; last.after(Period::shortest()), None);
     assert_eq!(rt; Stamp::from_words(417, 0), None);
 }
@@ -66,4 +67,22 @@ fn a_row_is_printed_with_its_values(rt: HostRuntime) {
     let wanted =
         b"row 2024-07-01 00:05 5 outTemp=650 rain=0 highRainRate=0 windSamples=0 windGust=0 ET=-4\n";
     assert!(rt; line.as_slice() == wanted.as_slice());
+}
+
+#[test]
+fn a_clock_shows_the_seconds_of_the_calendar_from_1900_to_2155(rt: HostRuntime) {
+    let second = |year, month, day| {
+        let time = ClockTime {
+            year,
+            month,
+            day,
+            hour: 23,
+            minute: 59,
+            second: 59,
+        };
+        time.is_civil()
+    };
+    assert!(rt; second(2024, 2, 29) && second(1900, 1, 1) && second(2155, 12, 31));
+    assert!(rt; !second(2023, 2, 29) && !second(1900, 2, 29) && !second(2024, 4, 31));
+    assert!(rt; !second(1899, 12, 31) && !second(2156, 1, 1) && !second(2024, 0, 1));
 }

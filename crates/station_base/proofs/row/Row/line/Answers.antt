@@ -24,9 +24,15 @@ push_bytes-requires-4 c =
     let short : length (number_text c.from.result) ≤ 3 = number_text_short c.from.result (omega (arith, period_bound c.minutes.result c.minutes.ensures.period)) in
     (lit< tt, omega arith)
 
-pub returns : goal.returns
+pub returns-clause-text : goal.returns-clause-text
 unfolding row_line
-returns c =
+returns-clause-text c =
     let empty : c.new-line.result.items ≡ [] = search rules in
     rw (c.push_bytes-4.ensures.bytes, c.push_values.ensures.text, c.push_number.ensures.digits, c.push_bytes-3.ensures.bytes, c.push_bytes-2.ensures.bytes, c.push_bytes.ensures.bytes, empty, c.text.ensures, c.from.ensures, c.minutes.ensures.minutes)
     refl
+
+pub returns-clause-size : goal.returns-clause-size
+returns-clause-size c =
+    let empty : array_vec_len c.new-line.result ≡ 0 = search rules in
+    let short : length (number_text c.from.result) ≤ 3 = number_text_short c.from.result (omega (arith, period_bound c.minutes.result c.minutes.ensures.period)) in
+    omega arith
