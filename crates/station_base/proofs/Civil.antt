@@ -22,7 +22,7 @@ day_within c civil =
     let from : pos 0 ≤ℤ days_from_civil (pos c.year) c.month c.day = omega (arith, signed_arith, known_days.0, epoch_day-lt epoch (date_of c civil) (inl later)) in
     abs_within (days_from_civil (pos c.year) c.month c.day) 57707 from (epoch_day_to (date_of c civil) (omega (arith, signed_arith)))
 
-minute_within : (c : CivilMinute) → IsCivilMinute c → minute_of c ≤ 83099519
+pub minute_within : (c : CivilMinute) → IsCivilMinute c → minute_of c ≤ 83099519
 minute_within c civil = omega (arith, day_within c civil, civil.hour_to, civil.minute_to)
 
 pub test_tells : (c : CivilMinute) → is_civil_minute c ≡ true → IsCivilMinute c
