@@ -1,5 +1,6 @@
 -- A record is its stamp, its revision and the numbers of its fields, and no byte more.
 use Rattle.std.proofs.Common.{◌≡◌, ℕ, zero, suc, ◌<◌, ◌≤◌, ◌⊎◌, ◌&&◌, ◌||◌, Bool, true, cond, List, length, get_or, slice_index, None, refl, sym, ◌∙◌, ap, arith, inl, inr, nat_le, nat_lt, nat_eq}
+use Rattle.std.proofs.lemmas.Bool.{and_parts}
 use Rattle.std.proofs.lemmas.Bool.Decides.{nat_tests}
 use Rattle.std.proofs.lemmas.List.{ext_get_or, get_or-map}
 use Rattle.archive_record.specs.declared.kind.Kind.TheVariants.{Byte}
@@ -7,9 +8,9 @@ use Rattle.archive_record.specs.Kind.{word_at}
 use Rattle.archive_record.specs.Place.{value_in}
 use Rattle.archive_record.specs.Reading.{values_in}
 use Rattle.archive_record.specs.Record.{IsRecord}
-use Rattle.archive_record.specs.Table.{place, places, place_of}
+use Rattle.archive_record.specs.Table.{place, table, places, place_of}
 use Rattle.archive_record.proofs.Once.{told_once, raw_small, raw_once, word_once}
-use Rattle.archive_record.proofs.Tiles.{all_below, all_below-at, and_parts, or_parts, end_of}
+use Rattle.archive_record.proofs.Tiles.{all_below, all_below-at, or_parts, end_of}
 
 -- the field whose number the byte is of, by search from the last
 owner : ℕ → ℕ → ℕ
@@ -23,7 +24,7 @@ covers i =
     nat_lt i 4 || (nat_eq i 42 || (nat_lt field 37 && (nat_le (place_of field).offset i && nat_lt i (end_of (place_of field)))))
 
 all_covered : all_below 52 covers ≡ true
-unfolding all_below covers owner places
+unfolding all_below covers owner places table
 all_covered = refl
 
 record IsOfField (i field : ℕ) : Type 0 where
@@ -57,7 +58,7 @@ halves i = grind arith
 
 -- what a record tells of a field
 pub values_in-at : (bytes : List ℕ) (field : ℕ) → field < 37 → get_or (values_in bytes) field None ≡ value_in bytes (place_of field)
-unfolding places
+unfolding places table
 values_in-at bytes field within = get_or-map (value_in bytes) places field (place 0 Byte None) None within
 
 -- so two records that tell the same are the same

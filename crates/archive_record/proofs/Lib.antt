@@ -8,3 +8,5 @@ pub mod Back
 pub mod Written
 pub mod Unmeasured
 pub mod Bounds
+pub mod Holding
+pub mod Names

@@ -2,12 +2,12 @@
 use Rattle.std.proofs.Common.{◌≡◌, ℕ, zero, suc, ◌+◌, ◌<◌, ◌≤◌, ◌⊎◌, ◌&&◌, ◌||◌, Bool, true, false, get_or, refl, subst, arith, inl, inr, nat_le, nat_lt, Option, Some, None, ◌^◌}
 use Rattle.std.specs.Option.{ForSome}
 use Rattle.std.proofs.lemmas.Bool.Decides.{nat_tests}
-use Rattle.std.proofs.lemmas.Bool.{cases_lt, false≢true}
+use Rattle.std.proofs.lemmas.Bool.{and_parts, cases_lt, false≢true}
 use Rattle.std.proofs.lemmas.List.{get_or_default}
 use Rattle.archive_record.specs.declared.place.Place.{Place}
 use Rattle.archive_record.specs.Kind.{width_of}
 use Rattle.archive_record.specs.Place.{IsPlace}
-use Rattle.archive_record.specs.Table.{place, places, place_of}
+use Rattle.archive_record.specs.Table.{place, table, places, place_of}
 use Rattle.archive_record.specs.declared.kind.Kind.TheVariants.{Byte}
 
 -- where a place ends
@@ -18,10 +18,6 @@ end_of place = place.offset + width_of place.kind
 unfoldable pub all_below : ℕ → (ℕ → Bool) → Bool
 all_below zero test = true
 all_below (suc n) test = test n && all_below n test
-
-pub and_parts : (a b : Bool) → (a && b) ≡ true → (a ≡ true) × (b ≡ true)
-and_parts true b all = (refl, all)
-and_parts false b all = absurd (false≢true all)
 
 pub all_below-at : (n : ℕ) (test : ℕ → Bool) (k : ℕ) → all_below n test ≡ true → k < n → test k ≡ true
 unfolding all_below
@@ -47,7 +43,7 @@ fits field =
     && (nat_le (end_of place) 42 || nat_le 43 place.offset)
 
 all_fit : all_below 37 fits ≡ true
-unfolding all_below fits mark_fits places
+unfolding all_below fits mark_fits places table
 all_fit = refl
 
 parts_of : (a b c d : Bool) → (a && b && c && d) ≡ true → (a ≡ true) × (b ≡ true) × (c ≡ true) × (d ≡ true)
@@ -90,14 +86,14 @@ beside_revision field within =
 
 -- a read of the table at any default
 pub place_at : (field : ℕ) (d : Place) → field < 37 → get_or places field d ≡ place_of field
-unfolding places
+unfolding places table
 place_at field d within = get_or_default places field d (place 0 Byte None) within
 
 follows : ℕ → ℕ → Bool
 follows later earlier = nat_le (end_of (place_of earlier)) (place_of later).offset
 
 all_follow : all_below 37 (λ later. all_below later (follows later)) ≡ true
-unfolding all_below follows places
+unfolding all_below follows places table
 all_follow = refl
 
 -- a place ends where a later one begins, or before it

@@ -1,9 +1,9 @@
 -- The record without values.
 use Rattle.std.proofs.Common.{◌≡◌, ℕ, zero, suc, ◌<◌, true, List, [], ◌∷◌, length, slice_index, arith, nat_lt, lit<}
 use Rattle.std.specs.List.{list_all}
+use Rattle.std.proofs.lemmas.Bool.{and_parts}
 use Rattle.std.proofs.lemmas.Bool.Decides.{nat_tests}
 use Rattle.archive_record.specs.Record.{IsRecord}
-use Rattle.archive_record.proofs.Tiles.{and_parts}
 
 lt_of : (byte : ℕ) → nat_lt byte 256 ≡ true → byte < 256
 lt_of byte test = grind (arith, nat_tests)

@@ -1,9 +1,10 @@
 -- Where a field stands in a record, and what its number tells.
-use Rattle.std.specs.Prelude.{ℕ, ℤ, ◌≢◌, ◌+◌, ◌≤◌, ◌==◌, Bool, false, if◌then◌else◌, IsSome, List, Some, None}
+use Rattle.std.specs.Prelude.{ℕ, ℤ, ◌≢◌, ◌+◌, ◌≤◌, ◌==◌, Bool, false, int_le, not, ◌&&◌, if◌then◌else◌, IsSome, is_some, List, Some, None}
+use Rattle.std.specs.Ordering.{int_eq}
 use Rattle.std.specs.Option.{ForSome}
 use Rattle.std.specs.declared.option.Option.{Option}
 use Rattle.archive_record.specs.declared.place.Place.{Place}
-use Rattle.archive_record.specs.Kind.{width_of, IsRaw, value_of, HasValue, raw_at}
+use Rattle.archive_record.specs.Kind.{width_of, IsRaw, value_of, least_of, greatest_of, HasValue, raw_at}
 
 -- the number is the mark of a missing value
 abbrev pub is_mark : Option ℕ → ℕ → Bool
@@ -23,6 +24,17 @@ abbrev pub CanHold : Place → Option ℤ → Type 0
 CanHold place None = IsSome place.mark
 CanHold place (Some value) =
     HasValue place.kind value × ForSome place.mark (λ mark. value ≢ value_of place.kind mark)
+
+-- the value is what the mark, where there is one, would mean
+abbrev pub means_missing : Place → ℤ → Option ℕ → Bool
+means_missing place value None = false
+means_missing place value (Some mark) = int_eq value (value_of place.kind mark)
+
+-- `CanHold` as a test
+abbrev pub can_hold : Place → Option ℤ → Bool
+can_hold place None = is_some place.mark
+can_hold place (Some value) =
+    int_le (least_of place.kind) value && int_le value (greatest_of place.kind) && not (means_missing place value place.mark)
 
 -- a place within a record, behind the stamp, whose mark has room in it
 pub record IsPlace (place : Place) : Type 0 where

@@ -1,55 +1,68 @@
 -- The places of the fields in a record of revision B.
-use Rattle.std.specs.Prelude.{ℕ, List, [], ◌∷◌, slice_index_or, Some, None}
+use Rattle.std.specs.Prelude.{ℕ, List, [], ◌∷◌, codes, map, slice_index_or, Some, None}
 use Rattle.std.specs.declared.option.Option.{Option}
 use Rattle.archive_record.specs.declared.kind.Kind.{Kind}
 use Rattle.archive_record.specs.declared.kind.Kind.TheVariants.{SignedWord, Word, Byte, Degrees}
 use Rattle.archive_record.specs.declared.place.Place.{Place}
 
+-- A field: its name, and where it stands.
+pub record FieldPlace : Type 0 where
+  pub name : List ℕ
+  pub place : Place
+
 abbrev pub place : ℕ → Kind → Option ℕ → Place
 place offset kind mark = record { offset = offset; kind = kind; mark = mark }
 
--- the place of each field by its number (Davis serial manual, "DMP and DMPAFT data format"; the marks are this
--- project's profile). A mark is told as the bytes are, without a sign: 32,768 is the least of the signed numbers.
-unfoldable pub places : List Place
-places =
-    place 4 SignedWord (Some 32767)
-    ∷ place 6 SignedWord (Some 32768)
-    ∷ place 8 SignedWord (Some 32767)
-    ∷ place 10 Word None
-    ∷ place 12 Word None
-    ∷ place 14 Word (Some 0)
-    ∷ place 16 Word (Some 32767)
-    ∷ place 18 Word None
-    ∷ place 20 SignedWord (Some 32767)
-    ∷ place 22 Byte (Some 255)
-    ∷ place 23 Byte (Some 255)
-    ∷ place 24 Byte (Some 255)
-    ∷ place 25 Byte None
-    ∷ place 26 Byte (Some 255)
-    ∷ place 27 Byte (Some 255)
-    ∷ place 28 Byte (Some 255)
-    ∷ place 29 Byte None
-    ∷ place 30 Word (Some 32767)
-    ∷ place 32 Byte (Some 255)
-    ∷ place 33 Byte (Some 193)
-    ∷ place 34 Degrees (Some 255)
-    ∷ place 35 Degrees (Some 255)
-    ∷ place 36 Byte (Some 255)
-    ∷ place 37 Byte (Some 255)
-    ∷ place 38 Degrees (Some 255)
-    ∷ place 39 Degrees (Some 255)
-    ∷ place 40 Degrees (Some 255)
-    ∷ place 41 Degrees (Some 255)
-    ∷ place 43 Byte (Some 255)
-    ∷ place 44 Byte (Some 255)
-    ∷ place 45 Degrees (Some 255)
-    ∷ place 46 Degrees (Some 255)
-    ∷ place 47 Degrees (Some 255)
-    ∷ place 48 Byte (Some 255)
-    ∷ place 49 Byte (Some 255)
-    ∷ place 50 Byte (Some 255)
-    ∷ place 51 Byte (Some 255)
+-- a field of this name at this offset, of this kind and with this mark
+abbrev pub field : List ℕ → ℕ → Kind → Option ℕ → FieldPlace
+field name offset kind mark = record { name = name; place = place offset kind mark }
+
+-- the fields by their numbers (Davis serial manual, "DMP and DMPAFT data format"; the marks are this project's profile).
+-- A mark is told as the bytes are, without a sign: 32,768 is the least of the signed numbers.
+unfoldable pub table : List FieldPlace
+table =
+    field (codes "outTemp") 4 SignedWord (Some 32767)
+    ∷ field (codes "highOutTemp") 6 SignedWord (Some 32768)
+    ∷ field (codes "lowOutTemp") 8 SignedWord (Some 32767)
+    ∷ field (codes "rain") 10 Word None
+    ∷ field (codes "highRainRate") 12 Word None
+    ∷ field (codes "barometer") 14 Word (Some 0)
+    ∷ field (codes "radiation") 16 Word (Some 32767)
+    ∷ field (codes "windSamples") 18 Word None
+    ∷ field (codes "inTemp") 20 SignedWord (Some 32767)
+    ∷ field (codes "inHumidity") 22 Byte (Some 255)
+    ∷ field (codes "outHumidity") 23 Byte (Some 255)
+    ∷ field (codes "windSpeed") 24 Byte (Some 255)
+    ∷ field (codes "windGust") 25 Byte None
+    ∷ field (codes "windGustDir") 26 Byte (Some 255)
+    ∷ field (codes "windDir") 27 Byte (Some 255)
+    ∷ field (codes "UV") 28 Byte (Some 255)
+    ∷ field (codes "ET") 29 Byte None
+    ∷ field (codes "highRadiation") 30 Word (Some 32767)
+    ∷ field (codes "highUV") 32 Byte (Some 255)
+    ∷ field (codes "forecastRule") 33 Byte (Some 193)
+    ∷ field (codes "leafTemp1") 34 Degrees (Some 255)
+    ∷ field (codes "leafTemp2") 35 Degrees (Some 255)
+    ∷ field (codes "leafWet1") 36 Byte (Some 255)
+    ∷ field (codes "leafWet2") 37 Byte (Some 255)
+    ∷ field (codes "soilTemp1") 38 Degrees (Some 255)
+    ∷ field (codes "soilTemp2") 39 Degrees (Some 255)
+    ∷ field (codes "soilTemp3") 40 Degrees (Some 255)
+    ∷ field (codes "soilTemp4") 41 Degrees (Some 255)
+    ∷ field (codes "extraHumid1") 43 Byte (Some 255)
+    ∷ field (codes "extraHumid2") 44 Byte (Some 255)
+    ∷ field (codes "extraTemp1") 45 Degrees (Some 255)
+    ∷ field (codes "extraTemp2") 46 Degrees (Some 255)
+    ∷ field (codes "extraTemp3") 47 Degrees (Some 255)
+    ∷ field (codes "soilMoist1") 48 Byte (Some 255)
+    ∷ field (codes "soilMoist2") 49 Byte (Some 255)
+    ∷ field (codes "soilMoist3") 50 Byte (Some 255)
+    ∷ field (codes "soilMoist4") 51 Byte (Some 255)
     ∷ []
+
+-- the place of each field by its number
+unfoldable pub places : List Place
+places = map (λ f. f.place) table
 
 abbrev pub place_of : ℕ → Place
 place_of field = slice_index_or places field (place 0 Byte None)

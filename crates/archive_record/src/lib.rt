@@ -8,7 +8,7 @@ mod record_read;
 mod record_write;
 mod table;
 
-pub use place::RECORD_BYTES;
+pub use place::RECORD_SIZE;
 pub use record::Rec52;
 pub use record_read::{RecordRead, read};
 pub use record_write::write;

@@ -4,7 +4,7 @@ ghost use Rattle.archive_record.specs.Kind.{IsRaw, raw_at, width_of, word_at};
 use crate::kind::Kind;
 
 /// How many bytes a record has.
-pub const RECORD_BYTES: usize = 52;
+pub const RECORD_SIZE: usize = 52;
 
 /// Where a field stands in a record.
 #[derive(Clone, Copy, Debug)]
@@ -19,7 +19,7 @@ impl Place {
     ghost use Rattle.archive_record.specs.Place.{IsPlace, CanHold, told, value_in};
 
     /// The value that a record has here.
-    pub fn value_in(&self, bytes: &[u8; RECORD_BYTES]) -> Option<i32>
+    pub fn value_in(&self, bytes: &[u8; RECORD_SIZE]) -> Option<i32>
         requires { IsPlace self.now }
         ensures { result ≡ value_in bytes.now self.now }
     {
@@ -48,7 +48,7 @@ impl Place {
     }
 
     /// Writes a number here.
-    pub fn put(&self, bytes: &mut [u8; RECORD_BYTES], raw: u16)
+    pub fn put(&self, bytes: &mut [u8; RECORD_SIZE], raw: u16)
         requires place { IsPlace self.now }
         requires raw { IsRaw self.now.kind raw }
         ensures raw { raw_at bytes.new self.now.kind self.now.offset ≡ raw }
@@ -63,7 +63,7 @@ impl Place {
 }
 
 /// The two bytes at an offset as one number, the low one first.
-pub fn word_at(bytes: &[u8; RECORD_BYTES], offset: usize) -> u16
+pub fn word_at(bytes: &[u8; RECORD_SIZE], offset: usize) -> u16
     requires { offset + 2 ≤ 52 }
     ensures { result ≡ word_at bytes.now offset }
 {
@@ -71,7 +71,7 @@ pub fn word_at(bytes: &[u8; RECORD_BYTES], offset: usize) -> u16
 }
 
 /// Writes a number as two bytes, the low one first.
-pub fn put_word(bytes: &mut [u8; RECORD_BYTES], offset: usize, word: u16)
+pub fn put_word(bytes: &mut [u8; RECORD_SIZE], offset: usize, word: u16)
     requires { offset + 2 ≤ 52 }
     ensures word { word_at bytes.new offset ≡ word }
     ensures others { (i : ℕ) → (i < offset) ⊎ (offset + 2 ≤ i) → slice_index bytes.new i ≡ slice_index bytes.old i }

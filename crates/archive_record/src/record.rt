@@ -3,13 +3,13 @@ ghost use Rattle.std.specs.Option.{SomeIff};
 ghost use Rattle.archive_record.specs.Reading.{stamp_in};
 ghost use Rattle.archive_record.specs.Record.{IsRecord, ReadsAsRow};
 
-use crate::place::{RECORD_BYTES, word_at};
+use crate::place::{RECORD_SIZE, word_at};
 use crate::record_read::{DATE, RecordRead, TIME, read};
 use station_base::{Period, Stamp};
 use std::marker::Model;
 
 // The bytes of 2000-01-01 00:00, of each missing mark, and of 0 where a field has none.
-const UNMEASURED: [u8; RECORD_BYTES] = [
+const UNMEASURED: [u8; RECORD_SIZE] = [
     0x21, 0x00, 0x00, 0x00, 0xFF, 0x7F, 0x00, 0x80, 0xFF, 0x7F, 0x00, 0x00, 0x00, 0x00, 0x00, 0x00,
     0xFF, 0x7F, 0x00, 0x00, 0xFF, 0x7F, 0xFF, 0xFF, 0xFF, 0x00, 0xFF, 0xFF, 0xFF, 0x00, 0xFF, 0x7F,
     0xFF, 0xC1, 0xFF, 0xFF, 0xFF, 0xFF, 0xFF, 0xFF, 0xFF, 0xFF, 0x00, 0xFF, 0xFF, 0xFF, 0xFF, 0xFF,
@@ -19,7 +19,7 @@ const UNMEASURED: [u8; RECORD_BYTES] = [
 /// The 52 bytes of an archive record of revision B that reads as a row.
 #[derive(Clone, Copy, Debug)]
 pub struct Rec52 {
-    bytes: [u8; RECORD_BYTES],
+    bytes: [u8; RECORD_SIZE],
 }
 
 impl Model for Rec52 {
@@ -37,7 +37,7 @@ impl Model for Rec52 {
 
 impl Rec52 {
     /// The record in these bytes, if they read as a row.
-    pub fn of(bytes: [u8; RECORD_BYTES]) -> Option<Rec52>
+    pub fn of(bytes: [u8; RECORD_SIZE]) -> Option<Rec52>
         ensures { SomeIff result (ReadsAsRow bytes) bytes }
     {
         match read(&bytes, Period::shortest()) {
@@ -47,7 +47,7 @@ impl Rec52 {
     }
 
     /// The record in these bytes, which read as a row.
-    pub(crate) fn new(bytes: [u8; RECORD_BYTES]) -> Rec52
+    pub(crate) fn new(bytes: [u8; RECORD_SIZE]) -> Rec52
         requires { ReadsAsRow bytes }
         ensures bytes { result ≡ bytes }
         ensures size { IsRecord bytes }
@@ -56,7 +56,7 @@ impl Rec52 {
     }
 
     /// The bytes, as a console stores and sends them.
-    pub fn bytes(&self) -> &[u8; RECORD_BYTES]
+    pub fn bytes(&self) -> &[u8; RECORD_SIZE]
         ensures bytes { result.now ≡ self.now }
         ensures size { IsRecord self.now }
         ensures row { ReadsAsRow self.now }

@@ -5,7 +5,7 @@ ghost use Rattle.archive_record.specs.Reading.{reading, is_unwritten};
 ghost use Rattle.archive_record.specs.Record.{IfRow};
 ghost use Rattle.archive_record.specs.Table.{places};
 
-use crate::place::{RECORD_BYTES, word_at};
+use crate::place::{RECORD_SIZE, word_at};
 use crate::table::places;
 use station_base::{FIELD_COUNT, Period, Row, Stamp};
 
@@ -33,7 +33,7 @@ pub enum RecordRead {
 
 /// Reads a slot of a console that writes records at this interval (Davis serial manual, revision B).
 #[tactic(auto, unfolding(crate::specs::Reading::reading))]
-pub fn read(bytes: &[u8; RECORD_BYTES], interval: Period) -> RecordRead
+pub fn read(bytes: &[u8; RECORD_SIZE], interval: Period) -> RecordRead
     ensures reading { result ≡ reading bytes.now interval }
     ensures within { IfRow result (λ row. All (IsValueWithin 65_535) row.values) }
 {
@@ -55,14 +55,14 @@ pub fn read(bytes: &[u8; RECORD_BYTES], interval: Period) -> RecordRead
 }
 
 // Whether the bytes are those of a slot that was never written.
-fn is_unwritten(bytes: &[u8; RECORD_BYTES]) -> bool
+fn is_unwritten(bytes: &[u8; RECORD_SIZE]) -> bool
     ensures { result ≡ is_unwritten bytes.now }
 {
     bytes.iter().all(|byte| *byte == 0xFF)
 }
 
 // What the record tells of each field.
-fn values_in(bytes: &[u8; RECORD_BYTES]) -> [Option<i32>; FIELD_COUNT]
+fn values_in(bytes: &[u8; RECORD_SIZE]) -> [Option<i32>; FIELD_COUNT]
     ensures { result ≡ map (value_in bytes.now) places }
 {
     let mut values = [None; FIELD_COUNT];

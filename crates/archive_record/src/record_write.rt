@@ -1,10 +1,11 @@
-ghost use Rattle.std.specs.Prelude.{◌≡◌, ◌⊎◌, ◌<◌, ◌↔◌, ℕ, List, Some, IsSome, IfSome, OnSome, slice_index};
+ghost use Rattle.std.specs.Prelude.{◌≡◌, ◌⊎◌, ◌<◌, ◌↔◌, ℕ, List, Some, IsSome, IfSome, OnSome, is_some, slice_index};
 ghost use Rattle.archive_record.specs.declared.record_read.RecordRead.{RecordRead};
 ghost use Rattle.archive_record.specs.Reading.{reading, values_in};
 ghost use Rattle.archive_record.specs.Record.{IsRecord};
-ghost use Rattle.archive_record.specs.Writing.{CanHoldAll, Tells};
+ghost use Rattle.archive_record.specs.Table.{places};
+ghost use Rattle.archive_record.specs.Writing.{CanHoldAll, Tells, can_hold_all};
 
-use crate::place::{RECORD_BYTES, put_word};
+use crate::place::{RECORD_SIZE, put_word};
 use crate::record::Rec52;
 use crate::record_read::{DATE, TIME};
 use crate::table::places;
@@ -14,11 +15,12 @@ use station_base::{FIELD_COUNT, Row};
 /// its field's missing mark, or without a value in a field that has no mark.
 pub fn write(row: &Row) -> Option<Rec52>
     ensures can { IsSome result ↔ CanHoldAll row.now.values }
+    ensures test { is_some result ≡ can_hold_all places row.now.values }
     ensures read_back { IfSome result (λ bytes. reading bytes row.now.interval ≡ RecordRead.Row row.now) }
     ensures written_back { (bytes : List ℕ) → IsRecord bytes
         → reading bytes row.now.interval ≡ RecordRead.Row row.now → result ≡ Some bytes }
 {
-    let mut bytes = [0; RECORD_BYTES];
+    let mut bytes = [0; RECORD_SIZE];
     put_word(&mut bytes, DATE, row.stamp.date_word());
     put_word(&mut bytes, TIME, row.stamp.time_word());
     put_values(&mut bytes, &row.values)?;
@@ -26,7 +28,7 @@ pub fn write(row: &Row) -> Option<Rec52>
 }
 
 // Writes each value at its place.
-fn put_values(bytes: &mut [u8; RECORD_BYTES], values: &[Option<i32>; FIELD_COUNT]) -> Option<()>
+fn put_values(bytes: &mut [u8; RECORD_SIZE], values: &[Option<i32>; FIELD_COUNT]) -> Option<()>
     ensures can { IsSome result ↔ CanHoldAll values.now }
     ensures values { OnSome result (values_in bytes.new ≡ values.now) }
     ensures others { (i : ℕ) → (i < 4) ⊎ (i ≡ 42) → slice_index bytes.new i ≡ slice_index bytes.old i }

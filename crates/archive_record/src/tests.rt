@@ -83,6 +83,9 @@ fn a_field_has_the_values_of_its_kind_but_its_mark(rt: HostRuntime) {
             "at {name}"
         );
         assert_eq!(rt; comes_back(field, None), mark.is_some(), "at {name}");
+        if let Some(mark) = mark {
+            assert!(rt; !comes_back(field, Some(*mark)), "at {name}");
+        }
     }
 }
 
@@ -91,6 +94,7 @@ fn a_record_of_missing_marks_has_no_values(rt: HostRuntime) {
     let row = unmeasured();
     let missing = row.values.iter().filter(|value| value.is_none()).count();
     assert_eq!(rt; missing, 32);
+    assert!(rt; write(&Row::default()).is_none());
 }
 
 #[test]
@@ -107,7 +111,7 @@ fn the_last_minute_is_written_in_four_bytes(rt: HostRuntime) {
 #[test]
 fn slots_without_a_row_are_told_apart(rt: HostRuntime) {
     let five = Period::from_minutes(5).expect(&rt, "a period");
-    let mut slot = [0xFF; RECORD_BYTES];
+    let mut slot = [0xFF; RECORD_SIZE];
     assert_eq!(rt; read(&slot, five), RecordRead::Empty);
     slot[0] = 0xFE;
     assert_eq!(rt; read(&slot, five), RecordRead::OtherRevision(255));

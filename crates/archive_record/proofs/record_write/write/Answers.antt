@@ -1,7 +1,8 @@
-use Rattle.std.proofs.Common.{◌≡◌, Some, slice_index, ◌∙◌, ap, inr, arith}
+use Rattle.std.proofs.Common.{◌≡◌, true, Some, is_some, slice_index, ◌∙◌, ap, inr, arith, rules}
 use Rattle.std.proofs.lemmas.Bool.{false≢true}
 use Rattle.archive_record.specs.Writing.{Tells}
 use Rattle.archive_record.proofs.Back.{told_can_all}
+use Rattle.archive_record.proofs.Holding.{can_hold_all-decides}
 use Rattle.archive_record.proofs.Rows.{reads_as_row}
 use Rattle.archive_record.proofs.Written.{tells_made, tells_read, read_tells, tells_once}
 use Rattle.archive_record.proofs.record_write.write.Goals as goal
@@ -11,6 +12,13 @@ returns-in_err-put_values-clause-written_back c bytes is_record read =
     let yes = c.put_values.ensures.can.1 (told_can_all bytes c.args.row.now.values is_record (read_tells bytes c.args.row.now read).values) in
     let no = rw c.in_err-put_values.was at yes in
     absurd (false≢true no)
+
+pub returns-in_err-put_values-clause-test : goal.returns-in_err-put_values-clause-test
+returns-in_err-put_values-clause-test c =
+    can_hold_all-decides c.args.row.now.values (is_some c.from_residual.result) (search rules)
+
+pub returns-clause-test : goal.returns-clause-test
+returns-clause-test c = can_hold_all-decides c.args.row.now.values true (search rules)
 
 pub new-requires : goal.new-requires
 new-requires c =
