@@ -1,6 +1,7 @@
 -- Records that read as rows.
-use Rattle.std.specs.Prelude.{ℕ, ℤ, pos, ◌≡◌, ◌<◌, List, length, slice_index, map, Some, None}
+use Rattle.std.specs.Prelude.{ℕ, ℤ, pos, ◌≡◌, List, length, map, Some, None}
 use Rattle.std.specs.declared.option.Option.{Option}
+use Rattle.causes.specs.Lists.{AreBytes}
 use Rattle.station_base.specs.declared.row.Row.{Row}
 use Rattle.station_base.specs.CivilMinute.{first_minute}
 use Rattle.archive_record.specs.Table.{places}
@@ -37,4 +38,4 @@ unmeasured_row = record { stamp = first_minute; interval = 1; values = map (λ p
 -- fifty-two bytes
 pub record IsRecord (bytes : List ℕ) : Type 0 where
   pub long : length bytes ≡ 52
-  pub small : (i : ℕ) → slice_index bytes i < 256
+  pub small : AreBytes bytes
