@@ -4,13 +4,13 @@ use Rattle.std.proofs.Math.Nat.{pow-le-pow_left, pow-le-pow_right}
 use Rattle.std.proofs.lemmas.Int.Digits.{digits_value-lt}
 use Rattle.std.proofs.lemmas.List.{length-take-le, take_all}
 use Rattle.std.proofs.lemmas.Nat.{mul-le}
-use Rattle.std.proofs.lemmas.Bool.{lt-ltb, le-leb, ltb-true, leb-true}
+use Rattle.std.proofs.lemmas.Bool.{and_parts, lt-ltb, le-leb, ltb-true, leb-true}
 use Rattle.std.specs.Char.{is_digit, digit_value}
 use Rattle.std.specs.List.{list_all}
 use Rattle.std.specs.Str.Parse.{AllDigits, digits_value}
 use Rattle.std.specs.Prelude.{Some, nat_lt, nat_le, ◌&&◌}
 use Rattle.vantage_frames.specs.Numeral.{number_in, is_short_numeral, Writes}
-use Rattle.vantage_frames.proofs.Passing.{and_parts, only_if_some}
+use Rattle.vantage_frames.proofs.Passing.{only_if_some}
 
 -- more digits write larger numbers
 pub below_longer : (base k most n : ℕ) → 0 < base → k ≤ most → n < base ^ k → n < base ^ most

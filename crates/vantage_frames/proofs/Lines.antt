@@ -1,19 +1,19 @@
 -- The lines of commands, and what they are read as.
 use Rattle.std.proofs.Common.{◌≡◌, ℕ, Bool, true, false, ◌&&◌, List, [], ◌∷◌, ◌++◌, take, drop, length, refl, sym, ◌∙◌, ap}
-use Rattle.std.specs.Prelude.{Some, None, if◌then◌else◌, nat_lt, not, ◌==◌, codes, option_map, IfSome, slice_index}
+use Rattle.std.specs.Prelude.{Some, None, if◌then◌else◌, nat_lt, not, ◌==◌, codes, option_map, option_and_then, IfSome, slice_index}
 use Rattle.std.specs.declared.option.Option.{Option}
 use Rattle.std.specs.Cmp.Lexicographic.{same_text}
 use Rattle.std.specs.Str.{bytes_eq}
 use Rattle.std.specs.Option.{option_or}
-use Rattle.std.proofs.lemmas.Bool.{lt-ltb, ltb-true}
+use Rattle.std.proofs.lemmas.Bool.{and_parts, and_from, lt-ltb, ltb-true}
 use Rattle.std.proofs.lemmas.List.{take-append-drop}
 use Rattle.station_base.specs.Period.{is_period}
 use Rattle.vantage_frames.specs.declared.command.Command.{Command}
 use Rattle.vantage_frames.specs.declared.command.Command.TheVariants.{Test, Kind, LoopFor, DumpAfter, EepromRead, EepromWrite, EepromAll, TimeGet, TimeSet, SetPeriod, ClearLog}
 use Rattle.vantage_frames.specs.Numeral.{number_in}
 use Rattle.vantage_frames.specs.Line.{IsLineOf, HasBehind, SaysPackets, SaysBytes, SaysPeriod}
-use Rattle.vantage_frames.specs.LineReading.{ReadsAs, command_of, plain_command_of, numbered_command_of, packets_in, bytes_in, period_in, begins_with, only_if, ◌>>=◌}
-use Rattle.vantage_frames.proofs.Passing.{and_parts, both_pass, passes, other_than, differs}
+use Rattle.vantage_frames.specs.LineReading.{ReadsAs, command_of, plain_command_of, numbered_command_of, packets_in, bytes_in, period_in, begins_with, only_if}
+use Rattle.vantage_frames.proofs.Passing.{passes, other_than, differs}
 use Rattle.vantage_frames.proofs.Digits.{number_in_writes, number_in-writes}
 use Rattle.vantage_frames.proofs.Spans.{bytes_in_spans, bytes_in-spelled}
 
@@ -32,7 +32,7 @@ behind line name begins =
 
 pub packets_said : (text : List ℕ) → IfSome (packets_in text) (λ count. SaysPackets text count)
 unfolding packets_in
-packets_said text = elim (number_in 10 4 text) as (λ read. number_in 10 4 text ≡ read → IfSome (read >>= (λ packets. only_if (nat_lt 0 packets) packets)) (λ count. SaysPackets text count)) [
+packets_said text = elim (number_in 10 4 text) as (λ read. number_in 10 4 text ≡ read → IfSome (option_and_then (λ packets. only_if (nat_lt 0 packets) packets) read) (λ count. SaysPackets text count)) [
   | None ↦ λ is. tt
   | Some count ↦ λ is. choice (λ (read : Option ℕ). IfSome read (λ n. SaysPackets text n)) (nat_lt 0 count) (Some count) None
       (λ passed. record { number = number_in_writes 10 4 text count is; some = ltb-true 0 count passed }) (λ _. tt)
@@ -42,7 +42,7 @@ packets_said text = elim (number_in 10 4 text) as (λ read. number_in 10 4 text 
 pub packets_in-said : (text : List ℕ) (count : ℕ) → SaysPackets text count → packets_in text ≡ Some count
 unfolding packets_in
 packets_in-said text count says =
-    ap (λ (read : Option ℕ). read >>= (λ n. only_if (nat_lt 0 n) n)) (number_in-writes 10 4 text count says.number)
+    ap (λ (read : Option ℕ). option_and_then (λ n. only_if (nat_lt 0 n) n) read) (number_in-writes 10 4 text count says.number)
     ∙ passes (nat_lt 0 count) count (lt-ltb 0 count says.some)
 
 -- the first digit is not 0
@@ -52,7 +52,7 @@ is_plain text = not (slice_index text 0 == 48)
 -- a period is said where one is read
 pub period_said : (text : List ℕ) → IfSome (period_in text) (λ minutes. SaysPeriod text minutes)
 unfolding period_in
-period_said text = elim (number_in 10 3 text) as (λ read. number_in 10 3 text ≡ read → IfSome (read >>= (λ minutes. only_if (is_plain text && is_period minutes) minutes)) (λ minutes. SaysPeriod text minutes)) [
+period_said text = elim (number_in 10 3 text) as (λ read. number_in 10 3 text ≡ read → IfSome (option_and_then (λ minutes. only_if (is_plain text && is_period minutes) minutes) read) (λ minutes. SaysPeriod text minutes)) [
   | None ↦ λ is. tt
   | Some minutes ↦ λ is. choice (λ (read : Option ℕ). IfSome read (λ n. SaysPeriod text n)) (is_plain text && is_period minutes) (Some minutes) None
       (λ passed. let both = and_parts (is_plain text) (is_period minutes) passed in
@@ -63,8 +63,8 @@ period_said text = elim (number_in 10 3 text) as (λ read. number_in 10 3 text �
 pub period_in-said : (text : List ℕ) (minutes : ℕ) → SaysPeriod text minutes → period_in text ≡ Some minutes
 unfolding period_in
 period_in-said text minutes says =
-    ap (λ (read : Option ℕ). read >>= (λ n. only_if (is_plain text && is_period n) n)) (number_in-writes 10 3 text minutes says.number)
-    ∙ passes (is_plain text && is_period minutes) minutes (both_pass (is_plain text) (is_period minutes) (differs (slice_index text 0) 48 says.plain) says.period)
+    ap (λ (read : Option ℕ). option_and_then (λ n. only_if (is_plain text && is_period n) n) read) (number_in-writes 10 3 text minutes says.number)
+    ∙ passes (is_plain text && is_period minutes) minutes (and_from (is_plain text) (is_period minutes) (differs (slice_index text 0) 48 says.plain) says.period)
 
 -- a place and a count are said where they are read
 pub bytes_said : (text : List ℕ) → IfSome (bytes_in text) (λ bytes. SaysBytes text bytes.0 bytes.1)

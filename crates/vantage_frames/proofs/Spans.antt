@@ -1,18 +1,17 @@
 -- The place and the count behind the name of a command.
 use Rattle.std.proofs.Common.{◌≡◌, ℕ, ◌+◌, ◌<◌, ◌≤◌, Bool, true, false, ◌&&◌, List, [], ◌∷◌, ◌++◌, take, drop, length, get_or, refl, sym, ◌∙◌, ap, subst, arith, add-one, length-append}
-use Rattle.std.specs.Prelude.{Some, nat_lt, nat_le, ◌==◌, position}
+use Rattle.std.specs.Prelude.{Option, Some, option_and_then, nat_lt, nat_le, ◌==◌, position}
 use Rattle.std.specs.Char.{digit_value}
 use Rattle.std.specs.List.{position_or_len}
 use Rattle.std.specs.Str.Parse.{AllDigits}
 use Rattle.std.proofs.Math.Seq.{take-append_seam, drop-append-add, drop-cons}
-use Rattle.std.proofs.lemmas.Bool.{lt-ltb, le-leb, ltb-true, leb-true, ne_eqb, eqb-true}
+use Rattle.std.proofs.lemmas.Bool.{and_parts, lt-ltb, le-leb, ltb-true, leb-true, ne_eqb, eqb-true}
 use Rattle.std.proofs.lemmas.List.{take-append-drop}
 use Rattle.std.proofs.lemmas.List.Quantifiers.{position-Some}
-use Rattle.vantage_frames.specs.declared.command.TheConstants.{EEPROM_SIZE}
 use Rattle.vantage_frames.specs.Numeral.{number_in, Writes}
 use Rattle.vantage_frames.specs.Line.{SaysBytes}
-use Rattle.vantage_frames.specs.LineReading.{bytes_in, ◌>>=◌, only_if}
-use Rattle.vantage_frames.proofs.Passing.{and_parts, only_if_some, bind_some}
+use Rattle.vantage_frames.specs.LineReading.{bytes_in, only_if}
+use Rattle.vantage_frames.proofs.Passing.{only_if_some, bind_some}
 use Rattle.vantage_frames.proofs.Digits.{number_in_writes, number_in-writes}
 
 abbrev is_space : ℕ → Bool
@@ -45,10 +44,10 @@ space_splits text space found =
     sym (take-append-drop space text) ∙ ap (λ (rest : List ℕ). take space text ++ rest) behind
 
 -- the parts that are read, one after the other
-parts_span : (text : List ℕ) (space at n place count : ℕ) → position is_space text ≡ Some space → number_in 16 3 (take space text) ≡ Some at → number_in 16 2 (drop (space + 1) text) ≡ Some n → only_if {A = ℕ × ℕ} (nat_lt 0 n && nat_le (at + n) EEPROM_SIZE) (at, n) ≡ Some (place, count) → SaysBytes text place count
+parts_span : (text : List ℕ) (space at n place count : ℕ) → position is_space text ≡ Some space → number_in 16 3 (take space text) ≡ Some at → number_in 16 2 (drop (space + 1) text) ≡ Some n → only_if {A = ℕ × ℕ} (nat_lt 0 n && nat_le (at + n) 4096) (at, n) ≡ Some (place, count) → SaysBytes text place count
 parts_span text space at n place count found from bytes passed =
-    let chosen = only_if_some {A = ℕ × ℕ} (nat_lt 0 n && nat_le (at + n) EEPROM_SIZE) (at, n) (place, count) passed in
-    let tests = and_parts (nat_lt 0 n) (nat_le (at + n) EEPROM_SIZE) chosen.0 in
+    let chosen = only_if_some {A = ℕ × ℕ} (nat_lt 0 n && nat_le (at + n) 4096) (at, n) (place, count) passed in
+    let tests = and_parts (nat_lt 0 n) (nat_le (at + n) 4096) chosen.0 in
     let same_place : at ≡ place = ap (λ (pair : ℕ × ℕ). pair.0) chosen.1 in
     let same_count : n ≡ count = ap (λ (pair : ℕ × ℕ). pair.1) chosen.1 in
     record {
@@ -58,20 +57,31 @@ parts_span text space at n place count found from bytes passed =
       from = rw (← same_place) (number_in_writes 16 3 (take space text) at from);
       bytes = rw (← same_count) (number_in_writes 16 2 (drop (space + 1) text) n bytes);
       some = rw (← same_count) (ltb-true 0 n tests.0);
-      within = rw (← same_place, ← same_count) (leb-true (at + n) EEPROM_SIZE tests.1);
+      within = rw (← same_place, ← same_count) (leb-true (at + n) 4096 tests.1);
     }
+
+-- a place and a count, where they are bytes of the EEPROM
+abbrev counted : ℕ → ℕ → Option (ℕ × ℕ)
+counted at n = only_if {A = ℕ × ℕ} (nat_lt 0 n && nat_le (at + n) 4096) (at, n)
+
+-- what is read behind the space, and what before it and behind it
+abbrev with_count : List ℕ → ℕ → ℕ → Option (ℕ × ℕ)
+with_count text space at = option_and_then (counted at) (number_in 16 2 (drop (space + 1) text))
+
+abbrev from_place : List ℕ → ℕ → Option (ℕ × ℕ)
+from_place text space = option_and_then (with_count text space) (number_in 16 3 (take space text))
 
 -- what is read is so spelled
 pub bytes_in_spans : (text : List ℕ) (place count : ℕ) → bytes_in text ≡ Some (place, count) → SaysBytes text place count
 unfolding bytes_in
 bytes_in_spans text place count read =
-    let space = bind_some (position is_space text) (λ space. number_in 16 3 (take space text) >>= (λ at. number_in 16 2 (drop (space + 1) text) >>= (λ n. only_if {A = ℕ × ℕ} (nat_lt 0 n && nat_le (at + n) EEPROM_SIZE) (at, n)))) (place, count) read in
-    let at = bind_some (number_in 16 3 (take space.0 text)) (λ at. number_in 16 2 (drop (space.0 + 1) text) >>= (λ n. only_if {A = ℕ × ℕ} (nat_lt 0 n && nat_le (at + n) EEPROM_SIZE) (at, n))) (place, count) space.2 in
-    let n = bind_some (number_in 16 2 (drop (space.0 + 1) text)) (λ n. only_if {A = ℕ × ℕ} (nat_lt 0 n && nat_le (at.0 + n) EEPROM_SIZE) (at.0, n)) (place, count) at.2 in
+    let space = bind_some (position is_space text) (from_place text) (place, count) read in
+    let at = bind_some (number_in 16 3 (take space.0 text)) (with_count text space.0) (place, count) space.2 in
+    let n = bind_some (number_in 16 2 (drop (space.0 + 1) text)) (counted at.0) (place, count) at.2 in
     parts_span text space.0 at.0 n.0 place count space.1 at.1 n.1 n.2
 
 -- a place and a count with one space between them are read
-bytes_in-parts : (place_digits count_digits : List ℕ) (place count : ℕ) → Writes 16 3 place_digits place → Writes 16 2 count_digits count → 1 ≤ count → place + count ≤ EEPROM_SIZE → bytes_in (place_digits ++ 32 ∷ count_digits) ≡ Some (place, count)
+bytes_in-parts : (place_digits count_digits : List ℕ) (place count : ℕ) → Writes 16 3 place_digits place → Writes 16 2 count_digits count → 1 ≤ count → place + count ≤ 4096 → bytes_in (place_digits ++ 32 ∷ count_digits) ≡ Some (place, count)
 unfolding bytes_in
 bytes_in-parts place_digits count_digits place count from bytes some within =
     let text : List ℕ = place_digits ++ 32 ∷ count_digits in
@@ -84,7 +94,7 @@ bytes_in-parts place_digits count_digits place count from bytes some within =
       back,
       number_in-writes 16 2 count_digits count bytes,
       lt-ltb 0 count some,
-      le-leb (place + count) EEPROM_SIZE within,
+      le-leb (place + count) 4096 within,
     )
 
 -- what is so spelled is read

@@ -10,7 +10,7 @@ use Rattle.vantage_frames.specs.declared.command.Command.{Command}
 use Rattle.vantage_frames.specs.Numeral.{Writes}
 use Rattle.vantage_frames.specs.Line.{IsLineOf, SaysPackets, SaysBytes, SaysPeriod}
 use Rattle.vantage_frames.specs.LineReading.{ReadsAs}
-use Rattle.vantage_frames.specs.LineWriting.{AreBytes, two_digits, place_text, bytes_text}
+use Rattle.vantage_frames.specs.LineWriting.{AreInEeprom, two_digits, place_text, bytes_text}
 use Rattle.vantage_frames.proofs.Lines.{command_of-line}
 
 -- a number in decimal digits
@@ -56,7 +56,7 @@ place_writes n small = elim (nat_lt n 256) as (λ short. nat_lt n 256 ≡ short 
 ] refl
 
 -- a place and a count are said by what is written for them
-pub bytes_written : (place count : ℕ) → count < 256 → AreBytes place count → SaysBytes (bytes_text place count) place count
+pub bytes_written : (place count : ℕ) → count < 256 → AreInEeprom place count → SaysBytes (bytes_text place count) place count
 unfolding bytes_text
 bytes_written place count small bytes = record {
   place_digits = place_text place;

@@ -1,10 +1,10 @@
--- The header that begins a dump: how many pages come, and where in the first of them the first record stands.
+-- The header that begins a dump: how many pages come, and where in the first of them the first record stands
+-- (Davis serial manual, "Download Protocol"; that there are at most 513 pages, and five places, is this project's profile).
 use Rattle.std.specs.Prelude.{ℕ, ◌≡◌, ◌≢◌, ◌⊎◌, ◌<◌, ◌≤◌, List, drop}
 use Rattle.std.specs.Int.{w16, from_le_bytes}
-use Rattle.vantage_frames.specs.declared.header.TheConstants.{MOST_PAGES, LAST_PLACE}
 use Rattle.vantage_frames.specs.Words.{frame_of_words}
 
--- the header of these numbers (Davis serial manual, "Download Protocol")
+-- the header of these numbers
 abbrev pub header_of : ℕ → ℕ → List ℕ
 header_of pages place = frame_of_words pages place
 
@@ -18,8 +18,8 @@ place_in bytes = from_le_bytes w16 (drop 2 bytes)
 
 -- a dump can have so many pages, and begin at this place of its first page, if it has one
 abbrev pub CanBegin : ℕ → ℕ → Type 0
-CanBegin pages place = (pages ≤ MOST_PAGES) × ((pages ≡ 0) ⊎ (place ≤ LAST_PLACE))
+CanBegin pages place = (pages ≤ 513) × ((pages ≡ 0) ⊎ (place ≤ 4))
 
 -- no dump has so many pages, or begins at this place
 abbrev pub CannotBegin : ℕ → ℕ → Type 0
-CannotBegin pages place = (MOST_PAGES < pages) ⊎ ((pages ≢ 0) × (LAST_PLACE < place))
+CannotBegin pages place = (513 < pages) ⊎ ((pages ≢ 0) × (4 < place))

@@ -1,9 +1,9 @@
--- The lines that command a console, without the LF that ends each (Davis serial manual, "Commands").
+-- The lines that command a console, without the LF that ends each (Davis serial manual, "Commands"; how many digits a
+-- number may have, and its range, are this project's profile).
 use Rattle.std.specs.Prelude.{ℕ, ◌+◌, ◌≡◌, ◌≢◌, ◌≤◌, List, [], ◌∷◌, ◌++◌, codes, slice_index}
 use Rattle.station_base.specs.Period.{IsPeriod}
 use Rattle.vantage_frames.specs.declared.command.Command.{Command}
 use Rattle.vantage_frames.specs.declared.command.Command.TheVariants.{Test, Kind, LoopFor, DumpAfter, EepromRead, EepromWrite, EepromAll, TimeGet, TimeSet, SetPeriod, ClearLog}
-use Rattle.vantage_frames.specs.declared.command.TheConstants.{EEPROM_SIZE}
 use Rattle.vantage_frames.specs.Numeral.{Writes}
 
 -- the line is this name, and then a text that says so
@@ -23,7 +23,7 @@ pub record SaysBytes (text : List ℕ) (place count : ℕ) : Type 0 where
   pub from : Writes 16 3 place_digits place
   pub bytes : Writes 16 2 count_digits count
   pub some : 1 ≤ count
-  pub within : place + count ≤ EEPROM_SIZE
+  pub within : place + count ≤ 4096
 
 -- A period in minutes, in decimal digits of which the first is not 0.
 pub record SaysPeriod (text : List ℕ) (minutes : ℕ) : Type 0 where

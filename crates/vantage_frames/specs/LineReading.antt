@@ -1,12 +1,11 @@
 -- The command that a line is read as.
-use Rattle.std.specs.Prelude.{ℕ, ◌+◌, ◌==◌, Bool, nat_le, nat_lt, ◌&&◌, not, if◌then◌else◌, Some, None, List, [], ◌∷◌, ◌++◌, codes, length, take, drop, slice_index, option_map, position}
+use Rattle.std.specs.Prelude.{ℕ, ◌+◌, ◌==◌, Bool, nat_le, nat_lt, ◌&&◌, not, if◌then◌else◌, Some, None, List, [], ◌∷◌, ◌++◌, codes, length, take, drop, slice_index, option_map, option_and_then, position}
 use Rattle.std.specs.declared.option.Option.{Option}
 use Rattle.std.specs.Str.{bytes_eq}
 use Rattle.std.specs.Option.{option_or}
 use Rattle.station_base.specs.Period.{is_period}
 use Rattle.vantage_frames.specs.declared.command.Command.{Command}
 use Rattle.vantage_frames.specs.declared.command.Command.TheVariants.{Test, Kind, LoopFor, DumpAfter, EepromRead, EepromWrite, EepromAll, TimeGet, TimeSet, SetPeriod, ClearLog}
-use Rattle.vantage_frames.specs.declared.command.TheConstants.{EEPROM_SIZE}
 use Rattle.vantage_frames.specs.Numeral.{number_in}
 use Rattle.vantage_frames.specs.Line.{IsLineOf}
 
@@ -15,11 +14,10 @@ abbrev pub ReadsAs : List ℕ → Option Command → Type 0
 ReadsAs line (Some command) = IsLineOf command line
 ReadsAs line None = (command : Command) → IsLineOf command line → ⊥
 
+-- the steps of a `do` here are options, one behind the other
 infixl 10 ◌>>=◌
--- what is made of the value, where there is one
-abbrev pub ◌>>=◌ : {A B : Type 0} → Option A → (A → Option B) → Option B
-None >>= f = None
-(Some x) >>= f = f x
+abbrev ◌>>=◌ : {A B : Type 0} → Option A → (A → Option B) → Option B
+o >>= f = option_and_then f o
 
 -- the value, where it passes
 abbrev pub only_if : {A : Type 0} → Bool → A → Option A
@@ -53,7 +51,7 @@ bytes_in text = do
   space ← position (λ byte. byte == 32) text
   at ← number_in 16 3 (take space text)
   count ← number_in 16 2 (drop (space + 1) text)
-  only_if (nat_lt 0 count && nat_le (at + count) EEPROM_SIZE) (at, count)
+  only_if (nat_lt 0 count && nat_le (at + count) 4096) (at, count)
 
 -- a period, behind the name
 unfoldable pub period_in : List ℕ → Option ℕ

@@ -1,22 +1,21 @@
--- The line that is written for a command.
+-- The line that is written for a command (the one form of each is this project's choice).
 use Rattle.std.specs.Prelude.{ℕ, ◌+◌, ◌/◌, ◌%◌, ◌≤◌, true, nat_lt, if◌then◌else◌, List, [], ◌∷◌, ◌++◌, codes}
 use Rattle.std.specs.Fmt.{decimal, digit_glyph}
 use Rattle.vantage_frames.specs.declared.command.Command.{Command}
 use Rattle.vantage_frames.specs.declared.command.Command.TheVariants.{Test, Kind, LoopFor, DumpAfter, EepromRead, EepromWrite, EepromAll, TimeGet, TimeSet, SetPeriod, ClearLog}
-use Rattle.vantage_frames.specs.declared.command.TheConstants.{EEPROM_SIZE, MOST_PACKETS}
 
--- a place and a count of bytes within the EEPROM
-abbrev pub AreBytes : ℕ → ℕ → Type 0
-AreBytes place count = (1 ≤ count) × (place + count ≤ EEPROM_SIZE)
+-- there are bytes, and they lie within the 4,096 of the EEPROM
+abbrev pub AreInEeprom : ℕ → ℕ → Type 0
+AreInEeprom place count = (1 ≤ count) × (place + count ≤ 4096)
 
 -- a line can say the numbers of the command
 abbrev pub CanBeSaid : Command → Type 0
 CanBeSaid Test = Unit {0}
 CanBeSaid Kind = Unit {0}
-CanBeSaid (LoopFor packets) = (1 ≤ packets) × (packets ≤ MOST_PACKETS)
+CanBeSaid (LoopFor packets) = (1 ≤ packets) × (packets ≤ 9999)
 CanBeSaid DumpAfter = Unit {0}
-CanBeSaid (EepromRead at count) = AreBytes at count
-CanBeSaid (EepromWrite at count) = AreBytes at count
+CanBeSaid (EepromRead at count) = AreInEeprom at count
+CanBeSaid (EepromWrite at count) = AreInEeprom at count
 CanBeSaid EepromAll = Unit {0}
 CanBeSaid TimeGet = Unit {0}
 CanBeSaid TimeSet = Unit {0}

@@ -1,12 +1,10 @@
 use station_base::Period;
 
-/// The bytes of the console's EEPROM.
+// The bytes of the console's EEPROM.
 pub const EEPROM_SIZE: u16 = 4096;
 
-/// The most packets that one command asks for.
-pub const MOST_PACKETS: u16 = 9999;
-
-/// A command of a console, each of which is one line (Davis serial manual, "Commands").
+/// A command of a console, each of which is one line (Davis serial manual, "Commands"; the ranges of the numbers are this
+/// project's profile).
 #[derive(Clone, Copy, Debug, PartialEq, Eq)]
 pub enum Command {
     /// `TEST`: the console answers with the same word.

@@ -9,7 +9,7 @@ use byteorder::{ByteOrder, LittleEndian};
 /// The bytes of a header.
 pub const HEADER_SIZE: usize = WORDS_SIZE;
 
-/// The most pages of a dump: those of a full archive, whose oldest record stands within a page.
+/// The most pages of a dump: those of a full archive, whose oldest record stands within a page (this project's profile).
 pub const MOST_PAGES: u16 = 513;
 
 /// The last place of a slot in a page.
@@ -39,7 +39,8 @@ pub enum HeaderRead {
 
 /// Reads the header that answers a stamp frame: pages, place and check (Davis serial manual, "Download Protocol").
 ///
-/// The numbers have their low byte first, and the check its high byte. The check is judged before the numbers.
+/// The numbers have their low byte first, and the check its high byte. The check is judged before the numbers, and both
+/// bounds are this project's profile.
 pub fn read_header(bytes: &[u8; HEADER_SIZE]) -> HeaderRead
     ensures { TellsHeader bytes.now result }
 {

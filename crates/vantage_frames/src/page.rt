@@ -1,17 +1,27 @@
-ghost use Rattle.std.specs.Prelude.{◌≡◌, ◌<◌, slice_index};
+ghost use Rattle.std.specs.Prelude.{◌≡◌, ◌<◌, length, slice_index};
 ghost use Rattle.vantage_frames.specs.Slots.{slot_at};
 ghost use Rattle.vantage_frames.specs.Reading.{TellsPage};
 
 use std::marker::Model;
 
-/// The bytes of a page.
-pub const PAGE_SIZE: usize = 267;
-
 /// The slots of a page.
 pub const SLOTS: u8 = 5;
 
-/// The bytes of a slot, each of which holds one archive record.
-pub const SLOT_SIZE: usize = 52;
+/// The bytes of an archive record, which a slot holds one of.
+pub const RECORD_SIZE: usize = 52;
+
+// What stands in a page besides its slots: the sequence, bytes of no use, and the check.
+const SEQUENCE_SIZE: usize = 1;
+
+const UNUSED_SIZE: usize = 4;
+
+const CHECK_SIZE: usize = 2;
+
+/// The bytes of a page, 267.
+pub const PAGE_SIZE: usize = SEQUENCE_SIZE
+    + SLOTS as usize * RECORD_SIZE
+    + UNUSED_SIZE
+    + CHECK_SIZE;
 
 /// A page of the console's archive whose check is good (Davis serial manual, "Download Protocol").
 ///
@@ -47,7 +57,8 @@ pub enum PageRead<'a> {
 ///
 /// Neither the sequence nor the unused bytes are tested.
 pub fn read_page<'a>(bytes: &'a [u8; PAGE_SIZE]) -> PageRead<'a>
-    ensures { TellsPage bytes.now result }
+    ensures read { TellsPage bytes.now result }
+    ensures size { length bytes.now ≡ 267 }
 {
     if crc_ccitt::is_good(bytes) {
         PageRead::Good(Page { bytes })
@@ -65,12 +76,12 @@ impl<'a> Page<'a> {
     }
 
     /// The 52 bytes of the slot at a place from 0 to 4, lent and not copied.
-    pub fn slot(&self, place: u8) -> &'a [u8; SLOT_SIZE]
-        requires { place < SLOTS }
+    pub fn slot(&self, place: u8) -> &'a [u8; RECORD_SIZE]
+        requires { place < 5 }
         ensures { result.now ≡ slot_at self.now place }
     {
         let bytes = self.bytes;
-        let (slot, _) = bytes[1 + SLOT_SIZE * usize::from(place)..]
+        let (slot, _) = bytes[SEQUENCE_SIZE + RECORD_SIZE * usize::from(place)..]
             .split_first_chunk()
             .unwrap();
         slot

@@ -19,7 +19,8 @@ const PERIOD_DIGITS: usize = 3;
 
 /// Reads a line, given without the LF that ended it.
 ///
-/// Words are separated by one space, and letters are upper case, but those of hexadecimal digits may be lower case too.
+/// The names are those of the Davis serial manual, "Commands". The rest is this project's profile: words are separated by
+/// one space, and letters are upper case, but those of hexadecimal digits may be lower case too.
 /// Nothing else is passed over, a CR before the LF neither.
 #[tactic(auto, unfolding(crate::specs::LineReading::command_of))]
 pub fn read_command(line: &[u8]) -> Option<Command>

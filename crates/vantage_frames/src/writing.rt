@@ -3,7 +3,7 @@ ghost use Rattle.std.specs.Fmt.{digit_glyph};
 ghost use Rattle.arrayvec.specs.ArrayVec.{array_vec_len};
 ghost use Rattle.vantage_frames.specs.Line.{IsLineOf};
 ghost use Rattle.vantage_frames.specs.LineReading.{ReadsAs};
-ghost use Rattle.vantage_frames.specs.LineWriting.{AreBytes, CanBeSaid, bytes_text, line_of, place_text, two_digits};
+ghost use Rattle.vantage_frames.specs.LineWriting.{AreInEeprom, CanBeSaid, bytes_text, line_of, place_text, two_digits};
 
 use crate::command::Command;
 use crate::names;
@@ -79,7 +79,7 @@ fn numbered(name: &[u8], number: u16) -> Line
 #[tactic(auto, unfolding(crate::specs::LineWriting::bytes_text))]
 fn with_bytes(name: &[u8], at: u16, count: u8) -> Line
     requires name { length name.now ≤ 8 }
-    requires bytes { AreBytes at count }
+    requires bytes { AreInEeprom at count }
     ensures text { result.items ≡ name.now ++ bytes_text at count }
     ensures short { array_vec_len result < LINE_ROOM }
 {

@@ -1,7 +1,7 @@
 use Rattle.std.proofs.Common.{◌<◌, arith, refl}
 use Rattle.std.specs.Fmt.{decimal}
 use Rattle.station_base.specs.Period.{IsPeriod}
-use Rattle.vantage_frames.specs.LineWriting.{line_of, bytes_text, AreBytes}
+use Rattle.vantage_frames.specs.LineWriting.{line_of, bytes_text, AreInEeprom}
 use Rattle.vantage_frames.proofs.Written.{bytes_written, packets_written, period_written}
 use Rattle.vantage_frames.proofs.writing.write_line.Goals as goal
 
@@ -15,14 +15,14 @@ pub returns-in-EepromRead-clause-line : goal.returns-in-EepromRead-clause-line
 unfolding line_of
 returns-in-EepromRead-clause-line c =
     let small : c.in-EepromRead.count < 256 = omega arith in
-    let said : AreBytes c.in-EepromRead.at c.in-EepromRead.count = rw c.in-EepromRead.is at c.requires in
+    let said : AreInEeprom c.in-EepromRead.at c.in-EepromRead.count = rw c.in-EepromRead.is at c.requires in
     rw c.in-EepromRead.is (bytes_text c.in-EepromRead.at c.in-EepromRead.count, refl, bytes_written c.in-EepromRead.at c.in-EepromRead.count small said)
 
 pub returns-in-EepromWrite-clause-line : goal.returns-in-EepromWrite-clause-line
 unfolding line_of
 returns-in-EepromWrite-clause-line c =
     let small : c.in-EepromWrite.count < 256 = omega arith in
-    let said : AreBytes c.in-EepromWrite.at c.in-EepromWrite.count = rw c.in-EepromWrite.is at c.requires in
+    let said : AreInEeprom c.in-EepromWrite.at c.in-EepromWrite.count = rw c.in-EepromWrite.is at c.requires in
     rw c.in-EepromWrite.is (bytes_text c.in-EepromWrite.at c.in-EepromWrite.count, refl, bytes_written c.in-EepromWrite.at c.in-EepromWrite.count small said)
 
 pub returns-in-SetPeriod-clause-line : goal.returns-in-SetPeriod-clause-line
