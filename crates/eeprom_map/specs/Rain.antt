@@ -1,4 +1,4 @@
--- What one tip of the rain collector stands for.
+-- What one tip of the rain collector stands for (Davis serial manual, "EEPROM Configuration Settings").
 use Rattle.std.specs.Prelude.{ℕ, ◌/◌, ◌%◌, ◌==◌, if◌then◌else◌, Some, None}
 use Rattle.std.specs.declared.option.Option.{Option}
 use Rattle.eeprom_map.specs.declared.rain.RainUnit.{RainUnit}
@@ -8,7 +8,7 @@ use Rattle.eeprom_map.specs.declared.rain.RainUnit.TheVariants.{Hundredths, Fift
 abbrev pub collector : ℕ → ℕ
 collector setup = setup / 16 % 4
 
--- the unit that these setup bits name (Davis serial manual, "EEPROM Configuration Settings")
+-- the unit that these setup bits name, where they name one
 abbrev pub unit_of : ℕ → Option RainUnit
 unit_of setup =
     if collector setup == 0 then Some Hundredths
