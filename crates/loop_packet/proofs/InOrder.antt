@@ -1,11 +1,13 @@
 -- Parts that stand one behind the other: what is spelled of them is read again, and what is read is spelled again.
-use Rattle.std.proofs.Common.{◌≡◌, ℕ, ◌+◌, ◌*◌, ◌/◌, ◌%◌, ◌<◌, ◌≤◌, Bool, true, false, ◌&&◌, List, [], ◌∷◌, ◌++◌, length, take, drop, get_or, refl, sym, ap, subst, ◌∙◌, arith, append_assoc, length-append, length-drop, nat_eq}
+use Rattle.std.proofs.Common.{◌≡◌, ℕ, ◌+◌, ◌*◌, ◌/◌, ◌%◌, ◌<◌, ◌≤◌, Bool, true, ◌&&◌, List, [], ◌∷◌, ◌++◌, length, take, drop, refl, sym, ap, subst, ◌∙◌, arith, append_assoc, length-append, length-drop, nat_eq}
 use Rattle.std.specs.Prelude.{ℤ, pos, negsuc, FitsSigned}
 use Rattle.std.specs.Int.{w8, w16, to_le_bytes, cast_signed, cast_unsigned}
 use Rattle.std.proofs.Math.Seq.{drop-append_seam, take-append_seam, take-add}
-use Rattle.std.proofs.lemmas.Bool.{eqb-true}
+use Rattle.std.proofs.lemmas.Bool.{and_parts, eqb-true}
 use Rattle.std.proofs.lemmas.Int.{of_z-to_z, to_z-of_z}
-use Rattle.std.proofs.lemmas.List.{get_or-drop, drop-drop}
+use Rattle.std.proofs.lemmas.List.{drop-drop}
+use Rattle.causes.specs.Lists.{AreBytes}
+use Rattle.causes.proofs.Bytes.{bytes_behind}
 use Rattle.loop_packet.specs.Part.{Part, Value, values_in, spelled, byte_in, signed_byte_in, word_in, signed_word_in, signed_byte_of, word_of, signed_word_of}
 use Rattle.loop_packet.specs.Part.Part.{Fixed, Byte, SignedByte, Word, SignedWord, Bytes}
 use Rattle.loop_packet.specs.Part.Value.{Number, Signed, Many}
@@ -34,14 +36,6 @@ abbrev pub HasFixed : List (ℕ × Part) → List ℕ → Type 0
 HasFixed [] bytes = Unit {0}
 HasFixed ((place, Fixed text) ∷ parts) bytes = (take (length text) (drop place bytes) ≡ text) × HasFixed parts bytes
 HasFixed (part ∷ parts) bytes = HasFixed parts bytes
-
--- each is below 256
-abbrev pub AreBytes : List ℕ → Type 0
-AreBytes bytes = (i : ℕ) → get_or bytes i 0 < 256
-
-order_parts : (a b : Bool) → (a && b) ≡ true → (a ≡ true) × (b ≡ true)
-order_parts true b both = (refl, both)
-order_parts false b both = (both, cc)
 
 -- one byte, read and spelled
 byte_again : (xs : List ℕ) → 1 ≤ length xs → byte_in xs ∷ [] ≡ take 1 xs
@@ -97,10 +91,6 @@ signed_word_again (x ∷ y ∷ xs) long fits =
     let small : x + y * 256 < 65536 = omega arith in
     ap (to_le_bytes w16) (of_z-to_z w16 (x + y * 256) small) ∙ low_and_high x y x_small y_small
 
--- what stands behind a place are bytes too
-bytes_behind : (place : ℕ) (bytes : List ℕ) → AreBytes bytes → AreBytes (drop place bytes)
-bytes_behind place bytes fits i = rw (get_or-drop place bytes i 0) (fits (place + i))
-
 -- one part more
 step : (cell rest : List ℕ) (place w n : ℕ) (bytes : List ℕ) → cell ≡ take w (drop place bytes) → rest ≡ take n (drop (place + w) bytes) → cell ++ rest ≡ take (w + n) (drop place bytes)
 step cell rest place w n bytes front behind =
@@ -117,42 +107,42 @@ pub spelled_again : (parts : List (ℕ × Part)) (place : ℕ) (bytes : List ℕ
     spelled parts (values_in parts bytes) ≡ take (size parts) (drop place bytes)
 spelled_again [] place bytes order fixed long fits = refl
 spelled_again ((at, Fixed text) ∷ parts) place bytes order fixed long fits =
-    let both = order_parts (nat_eq at place) (is_in_order (place + length text) parts) order in
+    let both = and_parts (nat_eq at place) (is_in_order (place + length text) parts) order in
     let here : at ≡ place = eqb-true at place both.0 in
     let rest : (place + length text) + size parts ≤ length bytes = omega arith in
     let stands : text ≡ take (length text) (drop place bytes) = sym fixed.0 ∙ ap (λ (n : ℕ). take (length text) (drop n bytes)) here in
     step text (spelled parts (values_in parts bytes)) place (length text) (size parts) bytes stands
     (spelled_again parts (place + length text) bytes both.1 fixed.1 rest fits)
 spelled_again ((at, Byte) ∷ parts) place bytes order fixed long fits =
-    let both = order_parts (nat_eq at place) (is_in_order (place + 1) parts) order in
+    let both = and_parts (nat_eq at place) (is_in_order (place + 1) parts) order in
     let here : at ≡ place = eqb-true at place both.0 in
     let rest : (place + 1) + size parts ≤ length bytes = omega arith in
     let cell : byte_in (drop at bytes) ∷ [] ≡ take 1 (drop place bytes) = rw here (byte_again (drop place bytes) (behind_place place 1 bytes (omega arith))) in
     step (byte_in (drop at bytes) ∷ []) (spelled parts (values_in parts bytes)) place 1 (size parts) bytes cell
     (spelled_again parts (place + 1) bytes both.1 fixed rest fits)
 spelled_again ((at, SignedByte) ∷ parts) place bytes order fixed long fits =
-    let both = order_parts (nat_eq at place) (is_in_order (place + 1) parts) order in
+    let both = and_parts (nat_eq at place) (is_in_order (place + 1) parts) order in
     let here : at ≡ place = eqb-true at place both.0 in
     let rest : (place + 1) + size parts ≤ length bytes = omega arith in
     let cell : signed_byte_of (signed_byte_in (drop at bytes)) ≡ take 1 (drop place bytes) = rw here (signed_byte_again (drop place bytes) (behind_place place 1 bytes (omega arith)) (bytes_behind place bytes fits)) in
     step (signed_byte_of (signed_byte_in (drop at bytes))) (spelled parts (values_in parts bytes)) place 1 (size parts) bytes cell
     (spelled_again parts (place + 1) bytes both.1 fixed rest fits)
 spelled_again ((at, Word) ∷ parts) place bytes order fixed long fits =
-    let both = order_parts (nat_eq at place) (is_in_order (place + 2) parts) order in
+    let both = and_parts (nat_eq at place) (is_in_order (place + 2) parts) order in
     let here : at ≡ place = eqb-true at place both.0 in
     let rest : (place + 2) + size parts ≤ length bytes = omega arith in
     let cell : word_of (word_in (drop at bytes)) ≡ take 2 (drop place bytes) = rw here (word_again (drop place bytes) (behind_place place 2 bytes (omega arith)) (bytes_behind place bytes fits)) in
     step (word_of (word_in (drop at bytes))) (spelled parts (values_in parts bytes)) place 2 (size parts) bytes cell
     (spelled_again parts (place + 2) bytes both.1 fixed rest fits)
 spelled_again ((at, SignedWord) ∷ parts) place bytes order fixed long fits =
-    let both = order_parts (nat_eq at place) (is_in_order (place + 2) parts) order in
+    let both = and_parts (nat_eq at place) (is_in_order (place + 2) parts) order in
     let here : at ≡ place = eqb-true at place both.0 in
     let rest : (place + 2) + size parts ≤ length bytes = omega arith in
     let cell : signed_word_of (signed_word_in (drop at bytes)) ≡ take 2 (drop place bytes) = rw here (signed_word_again (drop place bytes) (behind_place place 2 bytes (omega arith)) (bytes_behind place bytes fits)) in
     step (signed_word_of (signed_word_in (drop at bytes))) (spelled parts (values_in parts bytes)) place 2 (size parts) bytes cell
     (spelled_again parts (place + 2) bytes both.1 fixed rest fits)
 spelled_again ((at, Bytes count) ∷ parts) place bytes order fixed long fits =
-    let both = order_parts (nat_eq at place) (is_in_order (place + count) parts) order in
+    let both = and_parts (nat_eq at place) (is_in_order (place + count) parts) order in
     let here : at ≡ place = eqb-true at place both.0 in
     let rest : (place + count) + size parts ≤ length bytes = omega arith in
     let cell : take count (drop at bytes) ≡ take count (drop place bytes) = ap (λ (n : ℕ). take count (drop n bytes)) here in
@@ -235,31 +225,31 @@ pub values_again : (parts : List (ℕ × Part)) (vs : List Value) (front rest : 
     values_in parts (front ++ (spelled parts vs ++ rest)) ≡ vs
 values_again [] [] front rest place long order are = refl
 values_again ((at, Fixed text) ∷ parts) vs front rest place long order are =
-    let both = order_parts (nat_eq at place) (is_in_order (place + length text) parts) order in
+    let both = and_parts (nat_eq at place) (is_in_order (place + length text) parts) order in
     ap (values_in parts) (regrouped front text (spelled parts vs) rest)
     ∙ values_again parts vs (front ++ text) rest (place + length text) (longer front text place (length text) long refl) both.1 are
 values_again ((at, Byte) ∷ parts) (Number n ∷ vs) front rest place long order are =
-    let both = order_parts (nat_eq at place) (is_in_order (place + 1) parts) order in
+    let both = and_parts (nat_eq at place) (is_in_order (place + 1) parts) order in
     value_and_more (λ xs. Number (byte_in xs)) (Number n) parts vs front (n ∷ []) (spelled parts vs) rest at place long (sym (eqb-true at place both.0))
     (ap Number (byte_read n (spelled parts vs ++ rest)))
     (values_again parts vs (front ++ n ∷ []) rest (place + 1) (longer front (n ∷ []) place 1 long refl) both.1 are.1)
 values_again ((at, SignedByte) ∷ parts) (Signed z ∷ vs) front rest place long order are =
-    let both = order_parts (nat_eq at place) (is_in_order (place + 1) parts) order in
+    let both = and_parts (nat_eq at place) (is_in_order (place + 1) parts) order in
     value_and_more (λ xs. Signed (signed_byte_in xs)) (Signed z) parts vs front (signed_byte_of z) (spelled parts vs) rest at place long (sym (eqb-true at place both.0))
     (ap Signed (signed_byte_read z (spelled parts vs ++ rest) are.0))
     (values_again parts vs (front ++ signed_byte_of z) rest (place + 1) (longer front (signed_byte_of z) place 1 long (one_byte z)) both.1 are.1)
 values_again ((at, Word) ∷ parts) (Number n ∷ vs) front rest place long order are =
-    let both = order_parts (nat_eq at place) (is_in_order (place + 2) parts) order in
+    let both = and_parts (nat_eq at place) (is_in_order (place + 2) parts) order in
     value_and_more (λ xs. Number (word_in xs)) (Number n) parts vs front (word_of n) (spelled parts vs) rest at place long (sym (eqb-true at place both.0))
     (ap Number (word_read n (spelled parts vs ++ rest) are.0))
     (values_again parts vs (front ++ word_of n) rest (place + 2) (longer front (word_of n) place 2 long (two_bytes n)) both.1 are.1)
 values_again ((at, SignedWord) ∷ parts) (Signed z ∷ vs) front rest place long order are =
-    let both = order_parts (nat_eq at place) (is_in_order (place + 2) parts) order in
+    let both = and_parts (nat_eq at place) (is_in_order (place + 2) parts) order in
     value_and_more (λ xs. Signed (signed_word_in xs)) (Signed z) parts vs front (signed_word_of z) (spelled parts vs) rest at place long (sym (eqb-true at place both.0))
     (ap Signed (signed_word_read z (spelled parts vs ++ rest) are.0))
     (values_again parts vs (front ++ signed_word_of z) rest (place + 2) (longer front (signed_word_of z) place 2 long (two_signed_bytes z)) both.1 are.1)
 values_again ((at, Bytes count) ∷ parts) (Many bytes ∷ vs) front rest place long order are =
-    let both = order_parts (nat_eq at place) (is_in_order (place + count) parts) order in
+    let both = and_parts (nat_eq at place) (is_in_order (place + count) parts) order in
     value_and_more (λ xs. Many (take count xs)) (Many bytes) parts vs front bytes (spelled parts vs) rest at place long (sym (eqb-true at place both.0))
     (ap Many (front_of count bytes (spelled parts vs ++ rest) are.0))
     (values_again parts vs (front ++ bytes) rest (place + count) (longer front bytes place count long are.0) both.1 are.1)
@@ -270,7 +260,7 @@ pub fixed_again : (parts : List (ℕ × Part)) (vs : List Value) (front rest : L
     HasFixed parts (front ++ (spelled parts vs ++ rest))
 fixed_again [] [] front rest place long order are = tt
 fixed_again ((at, Fixed text) ∷ parts) vs front rest place long order are =
-    let both = order_parts (nat_eq at place) (is_in_order (place + length text) parts) order in
+    let both = and_parts (nat_eq at place) (is_in_order (place + length text) parts) order in
     let others : List ℕ = spelled parts vs in
     let P : List ℕ → Type 0 = λ xs. HasFixed parts xs in
     let same : front ++ ((text ++ others) ++ rest) ≡ front ++ (text ++ (others ++ rest)) = simp append_assoc in (
@@ -280,23 +270,23 @@ fixed_again ((at, Fixed text) ∷ parts) vs front rest place long order are =
       subst P (sym (regrouped front text others rest)) (fixed_again parts vs (front ++ text) rest (place + length text) (longer front text place (length text) long refl) both.1 are),
     )
 fixed_again ((at, Byte) ∷ parts) (Number n ∷ vs) front rest place long order are =
-    let both = order_parts (nat_eq at place) (is_in_order (place + 1) parts) order in
+    let both = and_parts (nat_eq at place) (is_in_order (place + 1) parts) order in
     let P : List ℕ → Type 0 = λ xs. HasFixed parts xs in
     subst P (sym (regrouped front (n ∷ []) (spelled parts vs) rest)) (fixed_again parts vs (front ++ (n ∷ [])) rest (place + 1) (longer front (n ∷ []) place 1 long refl) both.1 are.1)
 fixed_again ((at, SignedByte) ∷ parts) (Signed z ∷ vs) front rest place long order are =
-    let both = order_parts (nat_eq at place) (is_in_order (place + 1) parts) order in
+    let both = and_parts (nat_eq at place) (is_in_order (place + 1) parts) order in
     let P : List ℕ → Type 0 = λ xs. HasFixed parts xs in
     subst P (sym (regrouped front (signed_byte_of z) (spelled parts vs) rest)) (fixed_again parts vs (front ++ (signed_byte_of z)) rest (place + 1) (longer front (signed_byte_of z) place 1 long (one_byte z)) both.1 are.1)
 fixed_again ((at, Word) ∷ parts) (Number n ∷ vs) front rest place long order are =
-    let both = order_parts (nat_eq at place) (is_in_order (place + 2) parts) order in
+    let both = and_parts (nat_eq at place) (is_in_order (place + 2) parts) order in
     let P : List ℕ → Type 0 = λ xs. HasFixed parts xs in
     subst P (sym (regrouped front (word_of n) (spelled parts vs) rest)) (fixed_again parts vs (front ++ (word_of n)) rest (place + 2) (longer front (word_of n) place 2 long (two_bytes n)) both.1 are.1)
 fixed_again ((at, SignedWord) ∷ parts) (Signed z ∷ vs) front rest place long order are =
-    let both = order_parts (nat_eq at place) (is_in_order (place + 2) parts) order in
+    let both = and_parts (nat_eq at place) (is_in_order (place + 2) parts) order in
     let P : List ℕ → Type 0 = λ xs. HasFixed parts xs in
     subst P (sym (regrouped front (signed_word_of z) (spelled parts vs) rest)) (fixed_again parts vs (front ++ (signed_word_of z)) rest (place + 2) (longer front (signed_word_of z) place 2 long (two_signed_bytes z)) both.1 are.1)
 fixed_again ((at, Bytes count) ∷ parts) (Many bytes ∷ vs) front rest place long order are =
-    let both = order_parts (nat_eq at place) (is_in_order (place + count) parts) order in
+    let both = and_parts (nat_eq at place) (is_in_order (place + count) parts) order in
     let P : List ℕ → Type 0 = λ xs. HasFixed parts xs in
     subst P (sym (regrouped front bytes (spelled parts vs) rest)) (fixed_again parts vs (front ++ bytes) rest (place + count) (longer front bytes place count long are.0) both.1 are.1)
 fixed_again parts vs front rest place long order are = absurd are

@@ -4,16 +4,16 @@ use Rattle.std.specs.Prelude.{Ok, Err, slice_index}
 use Rattle.std.specs.declared.result.Result.{Result}
 use Rattle.std.proofs.lemmas.List.{get_or-drop}
 use Rattle.std.proofs.Math.Seq.{drop-cons}
+use Rattle.causes.specs.Lists.{AreBytes}
 use Rattle.crc_ccitt.specs.Check.{check_bytes, sealed}
 use Rattle.crc_ccitt.proofs.Sealed.{check-sealed}
 use Rattle.loop_packet.specs.declared.packet.LoopPacket.{LoopPacket}
 use Rattle.loop_packet.specs.declared.fault.LoopFault.{LoopFault}
 use Rattle.loop_packet.specs.declared.fault.LoopFault.TheVariants.{BadMark, BadType, BadEnd, BadCheck}
-use Rattle.loop_packet.specs.Layout.{layout}
+use Rattle.loop_packet.specs.Layout.{layout, values}
 use Rattle.loop_packet.specs.Part.{spelled}
-use Rattle.loop_packet.specs.Values.{values}
 use Rattle.loop_packet.specs.Reading.{Tells, HasValues, IsMarked, IsLoop, IsEnded, packet_bytes, frame_of}
-use Rattle.loop_packet.proofs.InOrder.{AreBytes, AreOf, spelled_again, values_again, fixed_again}
+use Rattle.loop_packet.proofs.InOrder.{AreOf, spelled_again, values_again, fixed_again}
 use Rattle.loop_packet.proofs.SamePacket.{same_packet}
 
 -- one answer is told of a packet

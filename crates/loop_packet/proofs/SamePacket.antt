@@ -2,9 +2,9 @@
 use Rattle.std.proofs.Common.{◌≡◌, ℕ, ◌∙◌, List, [], get_or, refl, sym, ap}
 use Rattle.std.specs.Prelude.{ℤ, pos}
 use Rattle.loop_packet.specs.declared.packet.LoopPacket.{LoopPacket}
+use Rattle.loop_packet.specs.Layout.{values}
 use Rattle.loop_packet.specs.Part.{Value}
 use Rattle.loop_packet.specs.Part.Value.{Number, Signed, Many}
-use Rattle.loop_packet.specs.Values.{values}
 
 -- what a value is, where it is of that kind
 number_of : Value → ℕ

@@ -1,4 +1,4 @@
+pub mod Blank
 pub mod Layout
 pub mod Part
 pub mod Reading
-pub mod Values

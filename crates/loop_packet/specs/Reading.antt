@@ -1,4 +1,4 @@
--- What the reading of a packet answers.
+-- What the reading of a packet answers (the order of its faults is this project's profile).
 use Rattle.std.specs.Prelude.{ℕ, ◌≡◌, ◌≢◌, List, [], ◌∷◌, codes, take, drop, slice_index, Ok, Err}
 use Rattle.std.specs.declared.result.Result.{Result}
 use Rattle.crc_ccitt.specs.Check.{check, sealed}
@@ -6,8 +6,7 @@ use Rattle.loop_packet.specs.declared.packet.LoopPacket.{LoopPacket}
 use Rattle.loop_packet.specs.declared.fault.LoopFault.{LoopFault}
 use Rattle.loop_packet.specs.declared.fault.LoopFault.TheVariants.{BadMark, BadType, BadEnd, BadCheck}
 use Rattle.loop_packet.specs.Part.{values_in, spelled}
-use Rattle.loop_packet.specs.Layout.{layout}
-use Rattle.loop_packet.specs.Values.{values}
+use Rattle.loop_packet.specs.Layout.{layout, values}
 
 -- the first three bytes are LOO
 abbrev pub IsMarked : List ℕ → Type 0

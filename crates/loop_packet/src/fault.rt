@@ -1,4 +1,4 @@
-/// Why bytes are no LOOP packet, the first of these that holds.
+/// Why bytes are no LOOP packet, the first of these that holds. Their order is this project's profile.
 #[derive(Clone, Copy, Debug, PartialEq, Eq)]
 pub enum LoopFault {
     /// The first three bytes are not `LOO`.

@@ -1,4 +1,4 @@
-ghost use Rattle.loop_packet.specs.Values.{IsBlank};
+ghost use Rattle.loop_packet.specs.Blank.{IsBlank};
 
 /// What a console's sensors say at one moment: the LOOP packet (Davis serial manual, "LOOP data format").
 ///

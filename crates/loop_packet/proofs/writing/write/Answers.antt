@@ -2,10 +2,9 @@ use Rattle.std.proofs.Common.{ap, subst, sym, ◌∙◌, refl, ◌≡◌, [], �
 use Rattle.std.proofs.lemmas.Int.{to_z-of_z}
 use Rattle.std.specs.Int.{w8, w16}
 use Rattle.std.specs.Prelude.{FitsSigned, Ok}
-use Rattle.loop_packet.specs.Layout.{layout}
+use Rattle.loop_packet.specs.Layout.{layout, values}
 use Rattle.loop_packet.specs.Part.{signed_byte_of, word_of, signed_word_of}
 use Rattle.loop_packet.specs.Reading.{Tells, packet_bytes, frame_of}
-use Rattle.loop_packet.specs.Values.{values}
 use Rattle.loop_packet.proofs.InOrder.{AreOf}
 use Rattle.loop_packet.proofs.Inverse.{told_of_packet}
 use Rattle.loop_packet.proofs.Pieces.{joins, keeps, keeps_byte}
