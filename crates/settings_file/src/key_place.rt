@@ -2,7 +2,7 @@ ghost use Rattle.std.specs.Prelude.{◌≡◌, ◌<◌, IfOk, MatchResult, Ok, E
 ghost use Rattle.toml.specs.View.{view, table_view};
 
 use crate::fault::{Section, SettingsFault};
-use station_base::{FIELD_COUNT, FieldId};
+use station_base::FieldId;
 use toml::{Table, Value};
 
 // Where a key stands: its section, the field in whose table it is, and its place in its table.
@@ -43,11 +43,7 @@ impl KeyPlace {
         ensures exact { result ≡ field_at self.now key.now }
         ensures range { IfOk result (λ field. field < 37) }
     {
-        let Some(field) = FieldId::by_name(key) else {
-            return Err(self.unknown_key());
-        };
-        prove!(field.index() < FIELD_COUNT);
-        Ok(field)
+        FieldId::by_name(key).ok_or(self.unknown_key())
     }
 
     // The table that the key's value is.

@@ -1,10 +1,11 @@
 ghost use Rattle.std.specs.Prelude.{◌≡◌, ◌+◌, ◌≤◌, ◌++◌, length, codes};
 ghost use Rattle.arrayvec.specs.ArrayVec.{array_vec_len};
+ghost use Rattle.station_base.specs.Fields.{name_of};
 ghost use Rattle.settings_file.specs.FaultLine.{fault_line, key_text, section_name, field_name};
 
 use crate::fault::{Section, SettingsFault};
 use arrayvec::ArrayVec;
-use station_base::{FieldId, push_bytes, push_number};
+use station_base::{FIELD_COUNT, FieldId, push_bytes, push_number};
 
 /// The most bytes that the line of a fault can have.
 pub const LINE_ROOM: usize = 64;
@@ -14,7 +15,6 @@ pub type Line = ArrayVec<u8, LINE_ROOM>;
 
 impl SettingsFault {
     /// The line that tells an observer of the fault, with its LF. Want of memory has none: the bytes are then empty.
-    #[tactic(auto, using(crate::proofs::Widths::name_width))]
     pub fn line(&self) -> Line
         ensures { result.items ≡ fault_line self.now }
     {
@@ -39,7 +39,7 @@ impl SettingsFault {
             }
             SettingsFault::LimitsCrossed(field) => {
                 push_bytes(&mut line, b"settings crossed ");
-                push_bytes(&mut line, field.name().as_bytes());
+                push_bytes(&mut line, name_of(*field).as_bytes());
                 push_bytes(&mut line, b"\n");
             }
             SettingsFault::BadPeriod => push_bytes(&mut line, b"settings bad period\n"),
@@ -74,14 +74,23 @@ fn name_of_section(section: Section) -> &'static str
     }
 }
 
-// The name of a field, or a dash where there is none.
-#[tactic(auto, using(crate::proofs::Widths::name_width))]
+// The name of a field, which is short.
+#[tactic(auto, using(station_base::proofs::FieldTexts::name_width))]
+fn name_of(field: FieldId) -> &'static str
+    ensures name { result.now ≡ name_of field }
+    ensures width { length result.now ≤ 13 }
+{
+    prove!(field.index() < FIELD_COUNT);
+    field.name()
+}
+
+// The same, or a dash where there is no field.
 fn name_of_field(field: &Option<FieldId>) -> &'static str
     ensures name { result.now ≡ field_name field.now }
     ensures width { length result.now ≤ 13 }
 {
     match field {
-        Some(field) => field.name(),
+        Some(field) => name_of(*field),
         None => "-",
     }
 }

@@ -18,7 +18,7 @@ const MOST_ROWS: u32 = 1_048_576;
 
 const ROWS: Range = Range {
     least: 1,
-    greatest: 1_048_576,
+    greatest: MOST_ROWS as i32,
 };
 
 // The minutes between two records, where the file does not name them.
