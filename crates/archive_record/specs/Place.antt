@@ -34,7 +34,8 @@ means_missing place value (Some mark) = int_eq value (value_of place.kind mark)
 abbrev pub can_hold : Place → Option ℤ → Bool
 can_hold place None = is_some place.mark
 can_hold place (Some value) =
-    int_le (least_of place.kind) value && int_le value (greatest_of place.kind) && not (means_missing place value place.mark)
+    int_le (least_of place.kind) value && int_le value (greatest_of place.kind)
+    && not (means_missing place value place.mark)
 
 -- a place within a record, behind the stamp, whose mark has room in it
 pub record IsPlace (place : Place) : Type 0 where

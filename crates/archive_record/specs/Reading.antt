@@ -31,4 +31,5 @@ dated bytes interval (Some stamp) = ReadRow (record { stamp = stamp; interval = 
 unfoldable pub reading : List ℕ → ℕ → RecordRead
 reading bytes interval =
     if is_unwritten bytes then Empty
-    else (if slice_index bytes 42 == 0 then dated bytes interval (stamp_in bytes) else OtherRevision (slice_index bytes 42))
+    else if slice_index bytes 42 == 0 then dated bytes interval (stamp_in bytes)
+    else OtherRevision (slice_index bytes 42)

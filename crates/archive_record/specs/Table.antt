@@ -17,8 +17,8 @@ place offset kind mark = record { offset = offset; kind = kind; mark = mark }
 abbrev pub field : List ℕ → ℕ → Kind → Option ℕ → FieldPlace
 field name offset kind mark = record { name = name; place = place offset kind mark }
 
--- the fields by their numbers (Davis serial manual, "DMP and DMPAFT data format"; the marks are this project's profile).
--- A mark is told as the bytes are, without a sign: 32,768 is the least of the signed numbers.
+-- the fields by their numbers (Davis serial manual, "DMP and DMPAFT data format"; names and marks are this project's
+-- profile). A mark is told as the bytes are, without a sign: 32,768 is the least of the signed numbers.
 unfoldable pub table : List FieldPlace
 table =
     field (codes "outTemp") 4 SignedWord (Some 32767)

@@ -1,5 +1,5 @@
--- What becomes of a row before it is kept: each value is calibrated, and then held against its limits (the order of WeeWX's
--- services StdCalibrate and StdQC).
+-- What becomes of a row before it is kept: each value is calibrated, and then held against its limits (the order of
+-- WeeWX's services StdCalibrate and StdQC).
 use Rattle.std.specs.Prelude.{ℕ, ℤ, ◌+◌, ◌+ℤ◌, ◌*ℤ◌, int_le, ◌&&◌, Bool, true, if◌then◌else◌, List, [], ◌∷◌, Option, Some, None}
 use Rattle.std.specs.Int.{int_div_euclid}
 use Rattle.std.specs.Option.{option_map_or}
@@ -24,7 +24,8 @@ calibrated c value = scaled c value +ℤ c.add
 -- at least the least and at most the greatest, where there are such
 abbrev pub is_kept : Limits → ℤ → Bool
 is_kept l value =
-    option_map_or (λ least. int_le least value) l.least true && option_map_or (λ greatest. int_le value greatest) l.greatest true
+    option_map_or (λ least. int_le least value) l.least true
+    && option_map_or (λ greatest. int_le value greatest) l.greatest true
 
 -- the value, or none where the limits refuse it
 abbrev pub kept : Limits → ℤ → Option ℤ

@@ -1,4 +1,5 @@
--- Calibrations, with which a value is multiplied by `num`, divided by `den` and raised by `add` (this project's profile).
+-- Calibrations, with which a value is multiplied by `num`, divided by `den` and raised by `add` (this project's
+-- profile).
 use Rattle.std.specs.Prelude.{pos, neg_ℤ, ◌≤ℤ◌}
 use Rattle.settings_file.specs.declared.calibration.Calibration.{Calibration}
 

@@ -25,7 +25,8 @@ key_text section field index =
 -- the line of a fault; want of memory is no fault of the file and has none
 abbrev pub fault_line : SettingsFault → List ℕ
 fault_line Syntax = codes "settings syntax\n"
-fault_line (UnknownKey section field index) = codes "settings unknown key " ++ key_text section field index ++ codes "\n"
+fault_line (UnknownKey section field index) =
+    codes "settings unknown key " ++ key_text section field index ++ codes "\n"
 fault_line (BadNumber section field index) = codes "settings bad number " ++ key_text section field index ++ codes "\n"
 fault_line (LimitsCrossed field) = codes "settings crossed " ++ name_of field ++ codes "\n"
 fault_line BadPeriod = codes "settings bad period\n"

@@ -1,5 +1,5 @@
--- A walk over the keys of a table, up to the first fault. A document has its keys in the order of their bytes, as the crate
--- `toml` inserts each at its place (this project's profile).
+-- A walk over the keys of a table, up to the first fault. A document has its keys in the order of their bytes, as the
+-- crate `toml` inserts each at its place (this project's profile).
 use Rattle.std.specs.Prelude.{ℕ, ◌+◌, List, Option, Result, Ok, Err}
 use Rattle.toml.specs.Data.{Data, Members, no_members, member}
 use Rattle.settings_file.specs.declared.fault.Section.{Section}

@@ -1,5 +1,5 @@
--- The header that begins a dump: how many pages come, and where in the first of them the first record stands
--- (Davis serial manual, "Download Protocol"; that there are at most 513 pages, and five places, is this project's profile).
+-- The header that begins a dump: how many pages come, and where in the first of them the first record stands (Davis
+-- serial manual, "Download Protocol"; that there are at most 513 pages, and five places, is this project's profile).
 use Rattle.std.specs.Prelude.{ℕ, ◌≡◌, ◌≢◌, ◌⊎◌, ◌<◌, ◌≤◌, List, drop}
 use Rattle.std.specs.Int.{w16, from_le_bytes}
 use Rattle.vantage_frames.specs.Words.{frame_of_words}

@@ -59,12 +59,19 @@ period_in digits = do
   minutes ← number_in 10 3 digits
   only_if (not (slice_index digits 0 == 48) && is_period minutes) minutes
 
+-- the command that reads bytes, so many from a place on, and the one that writes them
+abbrev pub read_from : ℕ × ℕ → Command
+read_from bytes = EepromRead bytes.0 bytes.1
+
+abbrev pub written_from : ℕ × ℕ → Command
+written_from bytes = EepromWrite bytes.0 bytes.1
+
 -- the command whose name has numbers behind it
 unfoldable pub numbered_command_of : List ℕ → Option Command
 numbered_command_of line =
     if begins_with line (codes "LOOP ") then option_map LoopFor (packets_in (drop 5 line))
-    else if begins_with line (codes "EEBRD ") then option_map (λ bytes. EepromRead bytes.0 bytes.1) (bytes_in (drop 6 line))
-    else if begins_with line (codes "EEBWR ") then option_map (λ bytes. EepromWrite bytes.0 bytes.1) (bytes_in (drop 6 line))
+    else if begins_with line (codes "EEBRD ") then option_map read_from (bytes_in (drop 6 line))
+    else if begins_with line (codes "EEBWR ") then option_map written_from (bytes_in (drop 6 line))
     else if begins_with line (codes "SETPER ") then option_map SetPeriod (period_in (drop 7 line))
     else None
 

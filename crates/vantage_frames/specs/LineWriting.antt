@@ -28,7 +28,9 @@ two_digits n = digit_glyph true (n / 16) ∷ digit_glyph true (n % 16) ∷ []
 
 -- two such digits, or three where a place needs them
 abbrev pub place_text : ℕ → List ℕ
-place_text place = if nat_lt place 256 then two_digits place else digit_glyph true (place / 256) ∷ two_digits (place % 256)
+place_text place =
+    if nat_lt place 256 then two_digits place
+    else digit_glyph true (place / 256) ∷ two_digits (place % 256)
 
 -- a place and a count, one space between them
 unfoldable pub bytes_text : ℕ → ℕ → List ℕ
