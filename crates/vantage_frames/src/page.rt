@@ -1,4 +1,4 @@
-ghost use Rattle.std.specs.Prelude.{◌≡◌, ◌<◌, length, slice_index};
+ghost use Rattle.std.specs.Prelude.{◌≡◌, ◌<◌, slice_index};
 ghost use Rattle.vantage_frames.specs.Slots.{slot_at};
 ghost use Rattle.vantage_frames.specs.Reading.{TellsPage};
 
@@ -17,11 +17,13 @@ const UNUSED_SIZE: usize = 4;
 
 const CHECK_SIZE: usize = 2;
 
-/// The bytes of a page, 267.
+/// The bytes of a page.
 pub const PAGE_SIZE: usize = SEQUENCE_SIZE
     + SLOTS as usize * RECORD_SIZE
     + UNUSED_SIZE
     + CHECK_SIZE;
+
+const _: () = prove!(PAGE_SIZE == 267);
 
 /// A page of the console's archive whose check is good (Davis serial manual, "Download Protocol").
 ///
@@ -57,8 +59,7 @@ pub enum PageRead<'a> {
 ///
 /// Neither the sequence nor the unused bytes are tested.
 pub fn read_page<'a>(bytes: &'a [u8; PAGE_SIZE]) -> PageRead<'a>
-    ensures read { TellsPage bytes.now result }
-    ensures size { length bytes.now ≡ 267 }
+    ensures { TellsPage bytes.now result }
 {
     if crc_ccitt::is_good(bytes) {
         PageRead::Good(Page { bytes })
