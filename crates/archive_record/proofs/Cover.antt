@@ -8,7 +8,7 @@ use Rattle.archive_record.specs.Kind.{word_at}
 use Rattle.archive_record.specs.Place.{value_in}
 use Rattle.archive_record.specs.Reading.{values_in}
 use Rattle.archive_record.specs.Record.{IsRecord}
-use Rattle.archive_record.specs.Table.{place, table, places, place_of}
+use Rattle.archive_record.specs.Table.{place, field_places, places, place_of}
 use Rattle.archive_record.proofs.Once.{told_once, raw_small, raw_once, word_once}
 use Rattle.archive_record.proofs.Tiles.{all_below, all_below-at, or_parts, end_of}
 
@@ -24,7 +24,7 @@ covers i =
     nat_lt i 4 || (nat_eq i 42 || (nat_lt field 37 && (nat_le (place_of field).offset i && nat_lt i (end_of (place_of field)))))
 
 all_covered : all_below 52 covers ≡ true
-unfolding all_below covers owner places table
+unfolding all_below covers owner places field_places
 all_covered = refl
 
 record IsOfField (i field : ℕ) : Type 0 where
@@ -58,7 +58,7 @@ halves i = grind arith
 
 -- what a record tells of a field
 pub values_in-at : (bytes : List ℕ) (field : ℕ) → field < 37 → get_or (values_in bytes) field None ≡ value_in bytes (place_of field)
-unfolding places table
+unfolding places field_places
 values_in-at bytes field within = get_or-map (value_in bytes) places field (place 0 Byte None) None within
 
 -- so two records that tell the same are the same

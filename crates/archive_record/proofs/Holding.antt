@@ -8,7 +8,7 @@ use Rattle.std.proofs.lemmas.Bool.Decides.{Decides-int_eq}
 use Rattle.archive_record.specs.declared.place.Place.{Place}
 use Rattle.archive_record.specs.Kind.{value_of, least_of, greatest_of}
 use Rattle.archive_record.specs.Place.{CanHold, means_missing, can_hold}
-use Rattle.archive_record.specs.Table.{table, places, place}
+use Rattle.archive_record.specs.Table.{field_places, places, place}
 use Rattle.archive_record.specs.declared.kind.Kind.TheVariants.{Byte}
 use Rattle.archive_record.specs.Writing.{CanHoldAll, can_hold_all}
 
@@ -65,7 +65,7 @@ all_from (p ∷ ps) (v ∷ vs) d h =
     rw (first, rest) refl
 
 length-places : length places ≡ 37
-unfolding places table
+unfolding places field_places
 length-places = refl
 
 -- values that pass the test are those that a record can hold

@@ -7,7 +7,7 @@ use Rattle.std.proofs.lemmas.List.{get_or_default}
 use Rattle.archive_record.specs.declared.place.Place.{Place}
 use Rattle.archive_record.specs.Kind.{width_of}
 use Rattle.archive_record.specs.Place.{IsPlace}
-use Rattle.archive_record.specs.Table.{place, table, places, place_of}
+use Rattle.archive_record.specs.Table.{place, field_places, places, place_of}
 use Rattle.archive_record.specs.declared.kind.Kind.TheVariants.{Byte}
 
 -- where a place ends
@@ -43,7 +43,7 @@ fits field =
     && (nat_le (end_of place) 42 || nat_le 43 place.offset)
 
 all_fit : all_below 37 fits ≡ true
-unfolding all_below fits mark_fits places table
+unfolding all_below fits mark_fits places field_places
 all_fit = refl
 
 parts_of : (a b c d : Bool) → (a && b && c && d) ≡ true → (a ≡ true) × (b ≡ true) × (c ≡ true) × (d ≡ true)
@@ -86,14 +86,14 @@ beside_revision field within =
 
 -- a read of the table at any default
 pub place_at : (field : ℕ) (d : Place) → field < 37 → get_or places field d ≡ place_of field
-unfolding places table
+unfolding places field_places
 place_at field d within = get_or_default places field d (place 0 Byte None) within
 
 follows : ℕ → ℕ → Bool
 follows later earlier = nat_le (end_of (place_of earlier)) (place_of later).offset
 
 all_follow : all_below 37 (λ later. all_below later (follows later)) ≡ true
-unfolding all_below follows places table
+unfolding all_below follows places field_places
 all_follow = refl
 
 -- a place ends where a later one begins, or before it

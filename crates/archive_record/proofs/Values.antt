@@ -3,7 +3,7 @@ use Rattle.std.proofs.Common.{◌≡◌, ◌≢◌, ℕ, ℤ, ◌+◌, ◌<◌, 
 use Rattle.std.proofs.lemmas.List.{ext_get_or, get_or-map}
 use Rattle.archive_record.specs.declared.kind.Kind.TheVariants.{Byte}
 use Rattle.archive_record.specs.Place.{value_in}
-use Rattle.archive_record.specs.Table.{place, table, places, place_of}
+use Rattle.archive_record.specs.Table.{place, field_places, places, place_of}
 
 -- one more value
 pub values_more : (values : List (Option ℤ)) (field : ℕ) (value : Option ℤ) (f : ℕ → Option ℤ) → field < length values → value ≡ f field →
@@ -16,7 +16,7 @@ values_more values field value f within is before =
 -- all of them
 pub values_all : (values : List (Option ℤ)) (bytes : List ℕ) → length values ≡ 37 →
     ((k : ℕ) → k < 37 → get_or values k None ≡ value_in bytes (place_of k)) → values ≡ map (value_in bytes) places
-unfolding places table
+unfolding places field_places
 values_all values bytes long each =
     ext_get_or None values (map (value_in bytes) places) long
     (λ k h. each k (omega arith) ∙ sym (get_or-map (value_in bytes) places k (place 0 Byte None) None (omega arith)))

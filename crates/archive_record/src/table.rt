@@ -64,7 +64,7 @@ static PLACES: [Place; FIELD_COUNT] = [
 ];
 
 /// The place of each field, in the order of their numbers.
-#[tactic(auto, unfolding(crate::specs::Table::places, crate::specs::Table::table))]
+#[tactic(auto, unfolding(crate::specs::Table::places, crate::specs::Table::field_places))]
 pub fn places() -> &'static [Place; FIELD_COUNT]
     ensures { result.now ≡ places }
 {

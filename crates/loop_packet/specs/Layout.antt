@@ -7,36 +7,36 @@ use Rattle.loop_packet.specs.Part.Part.{Fixed, Byte, SignedByte, Word, SignedWor
 use Rattle.loop_packet.specs.Part.Value.{Number, Signed, Many}
 
 -- A field: its offset, its kind, and the value that a packet has of it, where it is none that every packet has.
-pub record Field : Type 0 where
+pub record PacketField : Type 0 where
   pub offset : ℕ
   pub part : Part
   pub value : LoopPacket → List Value
 
 -- bytes that every packet has
-abbrev pub fixed : ℕ → List ℕ → Field
+abbrev pub fixed : ℕ → List ℕ → PacketField
 fixed offset text = record { offset = offset; part = Fixed text; value = λ packet. [] }
 
 -- a number of one byte or of two
-abbrev pub byte : ℕ → (LoopPacket → ℕ) → Field
+abbrev pub byte : ℕ → (LoopPacket → ℕ) → PacketField
 byte offset number = record { offset = offset; part = Byte; value = λ packet. Number (number packet) ∷ [] }
 
-abbrev pub word : ℕ → (LoopPacket → ℕ) → Field
+abbrev pub word : ℕ → (LoopPacket → ℕ) → PacketField
 word offset number = record { offset = offset; part = Word; value = λ packet. Number (number packet) ∷ [] }
 
 -- the same with a sign
-abbrev pub signed_byte : ℕ → (LoopPacket → ℤ) → Field
+abbrev pub signed_byte : ℕ → (LoopPacket → ℤ) → PacketField
 signed_byte offset number = record { offset = offset; part = SignedByte; value = λ packet. Signed (number packet) ∷ [] }
 
-abbrev pub signed_word : ℕ → (LoopPacket → ℤ) → Field
+abbrev pub signed_word : ℕ → (LoopPacket → ℤ) → PacketField
 signed_word offset number = record { offset = offset; part = SignedWord; value = λ packet. Signed (number packet) ∷ [] }
 
 -- so many bytes
-abbrev pub bytes : ℕ → ℕ → (LoopPacket → List ℕ) → Field
+abbrev pub bytes : ℕ → ℕ → (LoopPacket → List ℕ) → PacketField
 bytes offset count many = record { offset = offset; part = Bytes count; value = λ packet. Many (many packet) ∷ [] }
 
 -- the fields in their order; the check stands behind them
-abbrev pub fields : List Field
-fields =
+abbrev pub packet_fields : List PacketField
+packet_fields =
     fixed 0 (codes "LOO")
     ∷ signed_byte 3 (λ packet. packet.trend)
     ∷ fixed 4 (0 ∷ [])
@@ -78,8 +78,8 @@ fields =
 
 -- each part at its offset
 abbrev pub layout : List (ℕ × Part)
-layout = map (λ field. (field.offset, field.part)) fields
+layout = map (λ field. (field.offset, field.part)) packet_fields
 
 -- the values of a packet, in the order of their fields
 abbrev pub values : LoopPacket → List Value
-values packet = flat_map (λ field. field.value packet) fields
+values packet = flat_map (λ field. field.value packet) packet_fields
