@@ -14,7 +14,9 @@ use Rattle.station_base.specs.RowLine.{IsPrintable}
 use Rattle.station_base.proofs.Printable.{printable_some, printable_none}
 use Rattle.byteorder.specs.Endian.{little_bytes}
 use Rattle.row_slot.specs.Values.{bit_of, presence_of, numbers_of, spelled, number_in, is_allowed, before, at_end, values_in}
-use Rattle.row_slot.proofs.Bytes.{AreBytes, bytes_behind, number_again, number_read}
+use Rattle.causes.specs.Lists.{AreBytes}
+use Rattle.causes.proofs.Bytes.{bytes_behind}
+use Rattle.row_slot.proofs.Bytes.{number_again, number_read}
 
 -- a value within the bound
 record IsNear (z : ℤ) : Type 0 where

@@ -2,7 +2,7 @@
 use Rattle.std.proofs.Common.{◌≡◌, ℕ, ℤ, suc, ◌+◌, ◌*◌, ◌%◌, ◌^◌, ◌<◌, ◌≤◌, ◌==◌, ◌&&◌, Bool, true, false, List, [], ◌∷◌, ◌++◌, length, take, drop, get_or, All, Option, Some, None, cond, refl, sym, ap, subst, ◌∙◌, arith}
 use Rattle.std.specs.Prelude.{slice_index}
 use Rattle.std.proofs.Math.Seq.{drop-append_seam, drop-cons}
-use Rattle.std.proofs.lemmas.Bool.{eqb-true, false≢true}
+use Rattle.std.proofs.lemmas.Bool.{and_parts, eqb-true}
 use Rattle.std.proofs.lemmas.List.{length-drop, drop-drop, drop_all, take-append-drop}
 use Rattle.byteorder.specs.Endian.{little_bytes, little_number}
 use Rattle.byteorder.specs.Numbers.{little_number-reads_back}
@@ -16,7 +16,9 @@ use Rattle.station_base.proofs.Periods.{period_bound}
 use Rattle.station_base.proofs.Words.{stamp_of_words-of, words_of-stamp}
 use Rattle.row_slot.specs.Values.{presence_of, numbers_of, spelled, values_in}
 use Rattle.row_slot.specs.Slot.{slot_of, number_at, is_marked, stamp_in, interval_in, row_of, row_in}
-use Rattle.row_slot.proofs.Bytes.{AreBytes, bytes_behind, bytes_again}
+use Rattle.causes.specs.Lists.{AreBytes}
+use Rattle.causes.proofs.Bytes.{bytes_behind}
+use Rattle.row_slot.proofs.Bytes.{bytes_again}
 use Rattle.row_slot.proofs.Inverse.{AreTold, values_back, values_again}
 use Rattle.row_slot.proofs.Presence.{presence_below}
 
@@ -73,18 +75,14 @@ marks_by kind gate batch spare rest k g b s r = rw (k, g, b, s, r) refl
 pub is_marked-marks : (slot : List ℕ) → AreMarks slot → is_marked slot ≡ true
 is_marked-marks slot are = marks_by _ _ _ _ _ are.kind are.gate are.batch are.spare are.rest
 
-and_parts : (a b c d e : Bool) → (a && b && c && d && e) ≡ true → (a ≡ true) × (b ≡ true) × (c ≡ true) × (d ≡ true) × (e ≡ true)
-and_parts true true true true e all = (refl, refl, refl, refl, all)
-and_parts true true true false e all = absurd (false≢true all)
-and_parts true true false d e all = absurd (false≢true all)
-and_parts true false c d e all = absurd (false≢true all)
-and_parts false b c d e all = absurd (false≢true all)
-
 parts_marked : (kind gate batch spare rest : ℕ) → ((kind == 1) && (gate == 0) && (batch == 0) && (spare == 0) && (rest == 0)) ≡ true →
     (kind ≡ 1) × (gate ≡ 0) × (batch ≡ 0) × (spare ≡ 0) × (rest ≡ 0)
 parts_marked kind gate batch spare rest all =
-    let parts = and_parts (kind == 1) (gate == 0) (batch == 0) (spare == 0) (rest == 0) all in
-    (eqb-true kind 1 parts.0, eqb-true gate 0 parts.1, eqb-true batch 0 parts.2, eqb-true spare 0 parts.3, eqb-true rest 0 parts.4)
+    let first = and_parts ((kind == 1) && (gate == 0) && (batch == 0) && (spare == 0)) (rest == 0) all in
+    let second = and_parts ((kind == 1) && (gate == 0) && (batch == 0)) (spare == 0) first.0 in
+    let third = and_parts ((kind == 1) && (gate == 0)) (batch == 0) second.0 in
+    let last = and_parts (kind == 1) (gate == 0) third.0 in
+    (eqb-true kind 1 last.0, eqb-true gate 0 last.1, eqb-true batch 0 third.1, eqb-true spare 0 second.1, eqb-true rest 0 first.1)
 
 pub marks-is_marked : (slot : List ℕ) → is_marked slot ≡ true → AreMarks slot
 marks-is_marked slot marked =

@@ -26,7 +26,8 @@ number_at count place slot = little_number count (drop place slot)
 -- a slot of a row, whose bytes that belong to no part are 0
 abbrev pub is_marked : List ℕ → Bool
 is_marked slot =
-    (slice_index slot 1 == 1) && (slice_index slot 0 == 0) && (number_at 2 2 slot == 0) && (number_at 2 10 slot == 0) && (number_at 8 168 slot == 0)
+    (slice_index slot 1 == 1) && (slice_index slot 0 == 0) && (number_at 2 2 slot == 0) && (number_at 2 10 slot == 0) &&
+    (number_at 8 168 slot == 0)
 
 -- the stamp that the two words name, if they name one
 abbrev pub stamp_in : List ℕ → Option CivilMinute
@@ -42,7 +43,8 @@ row_of false stamp periodic interval values = None
 row_of true None periodic interval values = None
 row_of true (Some stamp) false interval values = None
 row_of true (Some stamp) true interval None = None
-row_of true (Some stamp) true interval (Some values) = Some (record { stamp = stamp; interval = interval; values = values })
+row_of true (Some stamp) true interval (Some values) =
+    Some (record { stamp = stamp; interval = interval; values = values })
 
 -- the row of a slot, and none where it is ill-formed
 unfoldable pub row_in : List ℕ → Option Row

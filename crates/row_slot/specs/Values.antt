@@ -1,5 +1,6 @@
 -- The values of the fields in a slot: bits that say which there are, and their numbers.
-use Rattle.std.specs.Prelude.{ℕ, zero, suc, ℤ, pos, ◌+◌, ◌*◌, ◌/◌, ◌%◌, ◌==◌, Bool, true, false, nat_le, unsigned_abs, List, [], ◌∷◌, map, flat_map, drop, Some, None}
+use Rattle.std.specs.Prelude.{ℕ, zero, suc, ℤ, pos, ◌+◌, ◌*◌, ◌/◌, ◌%◌, ◌==◌, Bool, true, false, nat_le, unsigned_abs}
+use Rattle.std.specs.Prelude.{List, [], ◌∷◌, map, flat_map, drop, Some, None}
 use Rattle.std.specs.Bool.{then_some}
 use Rattle.std.specs.Int.{w32, cast_signed, cast_unsigned}
 use Rattle.std.specs.Option.{unwrap_or}

@@ -5,7 +5,8 @@ use Rattle.station_base.specs.Period.{IsPeriod}
 use Rattle.row_slot.specs.Values.{number_in, is_allowed}
 use Rattle.row_slot.specs.Slot.{number_at, stamp_in, interval_in}
 
--- the kind is that of a row, the words name a stamp and the interval is a period, each value is allowed, and all else is 0
+-- the kind is that of a row, the words name a stamp and the interval is a period, each value is allowed, and all else
+-- is 0
 pub record IsWellFormed (slot : List ℕ) : Type 0 where
   pub gate : slice_index slot 0 ≡ 0
   pub kind : slice_index slot 1 ≡ 1

@@ -1,5 +1,5 @@
-/// The bytes of a slot.
-pub const SLOT_SIZE: usize = 176;
+/// The bytes of a row: those of a slot of the log.
+pub const ROW_SIZE: usize = 176;
 
 // Where the parts of a slot stand. Numbers have their low byte first.
 

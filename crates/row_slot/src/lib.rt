@@ -6,7 +6,7 @@ mod reading;
 mod values;
 mod writing;
 
-pub use layout::SLOT_SIZE;
+pub use layout::ROW_SIZE;
 pub use reading::read;
 pub use writing::write;
 

@@ -3,7 +3,7 @@ ghost use Rattle.station_base.specs.RowLine.{IsPrintable};
 ghost use Rattle.row_slot.specs.Slot.{is_marked, number_at, row_in, slot_of};
 ghost use Rattle.row_slot.specs.WellFormed.{IsWellFormed};
 
-use crate::layout::{BATCH, DATE, GATE, INTERVAL, KIND, REST, ROW, SLOT_SIZE, SPARE, TIME};
+use crate::layout::{BATCH, DATE, GATE, INTERVAL, KIND, REST, ROW, ROW_SIZE, SPARE, TIME};
 use crate::values::values_in;
 use byteorder::{ByteOrder, LittleEndian};
 use station_base::{Period, Row, Stamp};
@@ -14,7 +14,7 @@ use station_base::{Period, Row, Stamp};
 ///
 /// The gate and the number of slots are to be 0, as they are in a slot that is handed to a log.
 #[tactic(auto, unfolding(crate::specs::Slot::row_in))]
-pub fn read(slot: &[u8; SLOT_SIZE]) -> Option<Row>
+pub fn read(slot: &[u8; ROW_SIZE]) -> Option<Row>
     ensures row { result ≡ row_in slot.now }
     ensures well_formed { IsSome result ↔ IsWellFormed slot.now }
     ensures printable { IfSome result (λ row. All IsPrintable row.values) }
@@ -34,7 +34,7 @@ pub fn read(slot: &[u8; SLOT_SIZE]) -> Option<Row>
 }
 
 // Whether the slot is one of a row, and its bytes that belong to no part are 0.
-fn is_marked(slot: &[u8; SLOT_SIZE]) -> bool
+fn is_marked(slot: &[u8; ROW_SIZE]) -> bool
     ensures { result ≡ is_marked slot.now }
 {
     slot[KIND] == ROW
@@ -45,8 +45,8 @@ fn is_marked(slot: &[u8; SLOT_SIZE]) -> bool
 }
 
 // The number of two bytes at a place.
-fn word_at(slot: &[u8; SLOT_SIZE], place: usize) -> u16
-    requires { place + 2 ≤ SLOT_SIZE }
+fn word_at(slot: &[u8; ROW_SIZE], place: usize) -> u16
+    requires { place + 2 ≤ ROW_SIZE }
     ensures { result ≡ number_at 2 place slot.now }
 {
     LittleEndian::read_u16(&slot[place..])

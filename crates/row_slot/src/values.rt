@@ -2,7 +2,7 @@ ghost use Rattle.std.specs.Prelude.{◌≡◌, ◌+◌, ◌*◌, ◌<◌, drop, 
 ghost use Rattle.row_slot.specs.Slot.{number_at};
 ghost use Rattle.row_slot.specs.Values.{is_allowed, number_in, numbers_of, presence_of, spelled, values_in};
 
-use crate::layout::{PRESENCE, REST, SLOT_SIZE, VALUES};
+use crate::layout::{PRESENCE, REST, ROW_SIZE, VALUES};
 use byteorder::{ByteOrder, LittleEndian};
 use station_base::FIELD_COUNT;
 
@@ -38,7 +38,7 @@ pub fn spelled(values: &[Option<i32>; FIELD_COUNT]) -> [u8; REST - VALUES]
 
 // The values of the fields, where each is allowed and no bit is set for further fields.
 #[tactic(auto, unfolding(crate::specs::Values::values_in))]
-pub fn values_in(slot: &[u8; SLOT_SIZE]) -> Option<[Option<i32>; FIELD_COUNT]>
+pub fn values_in(slot: &[u8; ROW_SIZE]) -> Option<[Option<i32>; FIELD_COUNT]>
     ensures { result ≡ values_in 37 (number_at 8 12 slot.now) (drop 20 slot.now) }
 {
     let presence = presence_in(slot);
@@ -58,14 +58,14 @@ pub fn values_in(slot: &[u8; SLOT_SIZE]) -> Option<[Option<i32>; FIELD_COUNT]>
 }
 
 // The presence bits.
-fn presence_in(slot: &[u8; SLOT_SIZE]) -> u64
+fn presence_in(slot: &[u8; ROW_SIZE]) -> u64
     ensures { result ≡ number_at 8 12 slot.now }
 {
     LittleEndian::read_u64(&slot[PRESENCE..])
 }
 
 // The number of a field.
-fn number_of(slot: &[u8; SLOT_SIZE], field: usize) -> i32
+fn number_of(slot: &[u8; ROW_SIZE], field: usize) -> i32
     requires { field < FIELD_COUNT }
     ensures { result ≡ number_in (drop (20 + 4 * field) slot.now) }
 {

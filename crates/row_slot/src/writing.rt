@@ -5,7 +5,7 @@ ghost use Rattle.station_base.specs.Period.{IsPeriod};
 ghost use Rattle.station_base.specs.RowLine.{IsPrintable};
 ghost use Rattle.row_slot.specs.Slot.{head_of, row_in, slot_of};
 
-use crate::layout::{DATE, INTERVAL, KIND, PRESENCE, REST, ROW, SLOT_SIZE, TIME, VALUES};
+use crate::layout::{DATE, INTERVAL, KIND, PRESENCE, REST, ROW, ROW_SIZE, TIME, VALUES};
 use crate::values::{presence_of, spelled};
 use byteorder::{ByteOrder, LittleEndian};
 use station_base::Row;
@@ -15,19 +15,19 @@ use station_base::Row;
 /// The gate and the number of slots are 0, as a log takes them, which fills them in where a batch begins. Values are to
 /// lie within 2,000,000 either way.
 #[tactic(auto, unfolding(crate::specs::Slot::slot_of))]
-pub fn write(row: &Row) -> [u8; SLOT_SIZE]
+pub fn write(row: &Row) -> [u8; ROW_SIZE]
     requires { All IsPrintable row.now.values }
     ensures bytes { result ≡ slot_of row.now }
     ensures read_back { row_in result ≡ Some row.now }
 {
-    joined(&head_of(row), &spelled(&row.values))
+    whole_slot(&head_of(row), &spelled(&row.values))
 }
 
 // A head and the numbers of the fields, and 0 behind them.
-fn joined(head: &[u8; VALUES], numbers: &[u8; REST - VALUES]) -> [u8; SLOT_SIZE]
+fn whole_slot(head: &[u8; VALUES], numbers: &[u8; REST - VALUES]) -> [u8; ROW_SIZE]
     ensures { result ≡ head.now ++ (numbers.now ++ little_bytes 8 0) }
 {
-    let mut slot = [0; SLOT_SIZE];
+    let mut slot = [0; ROW_SIZE];
     slot[..VALUES].copy_from_slice(head);
     slot[VALUES..REST].copy_from_slice(numbers);
     slot

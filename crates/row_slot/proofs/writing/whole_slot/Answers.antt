@@ -1,5 +1,5 @@
 use Rattle.row_slot.proofs.Bytes.{copied}
-use Rattle.row_slot.proofs.writing.joined.Goals as goal
+use Rattle.row_slot.proofs.writing.whole_slot.Goals as goal
 
 pub returns : goal.returns
 returns c =
