@@ -148,7 +148,7 @@ not_both : (b : Bool) → b ≡ true → b ≡ false → ⊥
 not_both b e f = cc
 
 -- two talks that begin with a line feed and its settling and go on so
-whole_again : (said : TalkItem) (x y s t r1 r2 : List TalkItem) → x ≡ said ∷ s ++ r1 → y ≡ said ∷ t ++ r2 → s ≡ t → r1 ≡ r2 → x ≡ y
+pub whole_again : (said : TalkItem) (x y s t r1 r2 : List TalkItem) → x ≡ said ∷ s ++ r1 → y ≡ said ∷ t ++ r2 → s ≡ t → r1 ≡ r2 → x ≡ y
 whole_again said x y s t r1 r2 f g e h = cc
 
 same_awake : (s t : List TalkItem) (v : Bool) → s ≡ t → ends_awake (heard s) ≡ v → ends_awake (heard t) ≡ v
