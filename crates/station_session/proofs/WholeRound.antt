@@ -1,0 +1,202 @@
+-- What a round's attempts come to.
+use Rattle.std.proofs.Common.{◌≡◌, ℕ, ◌+◌, ◌<◌, ◌≤◌, Bool, false, inl, List, [], ◌∷◌, ◌++◌, length, refl, sym, ◌∙◌, ap, subst, arith, length-append, Option}
+use Rattle.disk_model.specs.Disk.{Begins, Faults}
+use Rattle.serial_link.specs.Traffic.{Traffic}
+use Rattle.disk_model.specs.Medium.{Medium}
+use Rattle.causes.specs.Cause.{RoseBy}
+use Rattle.serial_link.proofs.Growing.{adds_none}
+use Rattle.station_base.specs.CivilMinute.{CivilMinute}
+use Rattle.station_base.specs.declared.row.Row.{Row}
+use Rattle.settings_file.specs.StationSettings.{StationSettings}
+use Rattle.weather_book.specs.declared.book.Book.{Book}
+use Rattle.weather_book.specs.Book.{StandsFor, IsSameBook, len_of, last_of, most_of, is_stale}
+use Rattle.weather_book.specs.Rising.{last_stamp}
+use Rattle.weather_book.specs.Stands.{StandsOn}
+use Rattle.causes.specs.declared.stored.Stored.{Stored}
+use Rattle.causes.specs.declared.stored.Stored.TheVariants.{Done, Full, Stale, DiskFault}
+use Rattle.dmpaft_driver.specs.declared.outcome.Tally.{Tally}
+use Rattle.dmpaft_driver.specs.Keeper.{Delivery}
+use Rattle.station_session.specs.declared.report.Mark.{Mark}
+use Rattle.station_session.specs.declared.report.Report.{Report}
+use Rattle.station_session.specs.declared.round_end.RoundEnd.{RoundEnd}
+use Rattle.station_session.specs.declared.round_end.RoundEnd.TheVariants as round
+use Rattle.station_session.specs.declared.session.Session.{Session}
+use Rattle.station_session.specs.Attempts.{Attempts, EndsBefore, all_batches, kept_total}
+use Rattle.station_session.specs.Batches.{kept_of, kept_records, last_answer, Fit, stale_after}
+use Rattle.station_session.specs.Report.{rows_marked, mark_for, marks_for, acked, IsNew}
+use Rattle.station_session.specs.declared.limits.TheConstants.{MOST_BATCHES, MOST_CHANGES}
+use Rattle.station_session.specs.Holding.{Holding, holding, Stores}
+use Rattle.station_session.specs.Round.{IsTally, RoundHost, round_host, Serves, AnswersRound, LeavesRound, answer_by, stale_with}
+use Rattle.station_session.specs.Acknowledged.{AcknowledgedAreMarked}
+use Rattle.station_session.specs.AttemptsMade.{MakesAttempts}
+use Rattle.station_session.proofs.StoredBatches.{InOrder, stores_none, stores_all}
+use Rattle.station_session.proofs.BookAfter.{chain_most, chain_faults, chain_begun, chain_moved, chain_stale, chain_rose}
+use Rattle.station_session.proofs.Marked.{marked_for}
+use Rattle.station_session.proofs.Acknowledging.{acknowledged_are_marked}
+use Rattle.station_session.proofs.Ends.{in_order, last_by, answer_at, never_stale, gave_up_quiets, kept_is, batch_count}
+
+-- a book of these rows has this last stamp
+stamp_is : (book : Book) (rows : List Row) → StandsFor book rows → last_of book ≡ last_stamp rows
+stamp_is book rows h = ap (λ (x : List Row). last_stamp x) h
+
+held_is : (book : Book) (rows : List Row) → StandsFor book rows → len_of book ≡ length rows
+held_is book rows h = ap (λ (x : List Row). length x) h
+
+answer_is : (end : RoundEnd) → (end ≡ round.Stale → ⊥) → answer_at end ≡ answer_by end
+answer_is round.Done h = refl
+answer_is round.GaveUp h = refl
+answer_is round.LinkFault h = refl
+answer_is round.DiskFault h = refl
+answer_is round.Flood h = refl
+answer_is round.ArchiveFull h = refl
+answer_is round.Stale h = absurd (h refl)
+answer_is round.OutOfMemory h = refl
+
+none_by : (end : RoundEnd) → EndsBefore end → Done ≡ answer_by end
+none_by round.Stale h = refl
+none_by round.OutOfMemory h = refl
+none_by round.Done h = absurd h
+none_by round.GaveUp h = absurd h
+none_by round.LinkFault h = absurd h
+none_by round.DiskFault h = absurd h
+none_by round.Flood h = absurd h
+none_by round.ArchiveFull h = absurd h
+
+stale_by : (end : RoundEnd) (b : Bool) → stale_after (answer_at end) b ≡ stale_with end b
+stale_by round.Done b = refl
+stale_by round.GaveUp b = refl
+stale_by round.LinkFault b = refl
+stale_by round.DiskFault b = refl
+stale_by round.Flood b = refl
+stale_by round.ArchiveFull b = refl
+stale_by round.Stale b = refl
+stale_by round.OutOfMemory b = refl
+
+module _ {D : Type 0} (medium : Medium D) where
+  shows : (old b : Book) (disk : D) (rows : List Row) → IsSameBook old b → StandsOn medium old disk rows → StandsOn medium b disk rows
+  shows old b disk rows same st = record { stands_for = same.rows rows st.stands_for; slots = st.slots; rows_are = st.rows_are; log = st.log }
+
+  -- the same, of a book that stands for the same
+  stores_from : (settings : StationSettings) (old b : Book) (disk : D) (marks : List Mark) (rows : List Row) (ss : List Delivery) (l : Holding D) → IsSameBook old b → marks ≡ []
+      → Stores medium settings rows ss (holding b disk marks) l → Stores medium settings rows ss (holding old disk []) l
+  stores_from settings old b disk marks rows ss l same none x = record {
+    fit = subst (λ (n : ℕ). Fit n (length rows) ss) same.most x.fit;
+    stands_for = x.stands_for;
+    failed = x.failed;
+    begun = x.begun;
+    moved = x.moved;
+    went_on = x.went_on;
+    noted = x.noted ∙ ap (λ (m : List Mark). m ++ marks_for (medium.moment disk) (length rows) ss) none;
+    images = λ st. x.images (shows old b disk rows same st);
+    gate = λ e st. x.gate e (shows old b disk rows same st);
+    marked = λ st mk. x.marked (shows old b disk rows same st) (subst (λ (m : List Mark). Rattle.station_session.specs.Marks.IsMarked medium disk rows m) (sym none) tt);
+    stands = λ ne st. x.stands ne (shows old b disk rows same st);
+    still = λ e st. x.still e (shows old b disk rows same st);
+  }
+
+module _ {L D : Type 0} {traffic : Traffic L} {medium : Medium D} where
+  module _ {old : Session} {b b' : Book} {link link' : L} {disk disk' : D} {marks : List Mark} {end : RoundEnd} (report : Report)
+      (same : IsSameBook old.book b) (fresh : is_stale old.book ≡ false) (none : marks ≡ []) (some : 0 < report.attempts)
+      (made : MakesAttempts traffic medium old.settings end (holding b disk marks) link (holding b' disk' report.marks.items) link' report.attempts report.tally) where
+    batches : List Delivery
+    batches = all_batches (last_of b) made.tries
+
+    order : InOrder (all_batches (last_of b) made.tries)
+    order = in_order 0 (last_of b) made.tries end made.attempts
+
+    last : last_answer (all_batches (last_of b) made.tries) ≡ answer_at end
+    last = last_by (last_of b) made.tries end (omega (arith, some, made.count)) made.attempts
+
+    stores : (rows : List Row) → StandsFor old.book rows → Stores medium old.settings rows (all_batches (last_of b) made.tries) (holding old.book disk []) (holding b' disk' report.marks.items)
+    stores rows h =
+        stores_from medium old.settings old.book b disk marks rows (all_batches (last_of b) made.tries) (holding b' disk' report.marks.items) same none
+        (stores_all medium old.settings rows (holding b disk marks) (all_batches (last_of b) made.tries) (holding b' disk' report.marks.items) order made.chain (same.rows rows h) (same.stale ∙ fresh))
+
+    pub not_stale : end ≡ round.Stale → ⊥
+    not_stale e = never_stale (most_of old.book) (length old.book.rows.items) (all_batches (last_of b) made.tries) (stores old.book.rows.items refl).fit (last ∙ ap answer_at e)
+
+    -- what is said of a round, by the stamp that it began after
+    record Served (rows : List Row) (stamp : Option CivilMinute) : Type 0 where
+      pub attempts : Attempts 0 stamp made.tries end
+      pub stores : Stores medium old.settings rows (all_batches stamp made.tries) (holding old.book disk []) (holding b' disk' report.marks.items)
+      pub tally : IsTally stamp made.tries report.tally
+      pub kept : acked report ≡ report.rows_before + kept_total stamp made.tries
+      pub answered : last_answer (all_batches stamp made.tries) ≡ answer_by end
+      pub acknowledged : AcknowledgedAreMarked stamp made.tries report.rows_before report.marks.items
+
+    served : (rows : List Row) → StandsFor old.book rows → report.rows_before ≡ len_of old.book → Served rows (last_of b)
+    served rows h before =
+        let count : report.rows_before ≡ length rows = before ∙ held_is old.book rows h in
+        record {
+          attempts = made.attempts;
+          stores = stores rows h;
+          tally = made.counted;
+          kept =
+              ap (λ (x : List Mark). rows_marked report.rows_before x) (stores rows h).noted ∙ ap (λ (n : ℕ). rows_marked n (marks_for (medium.moment disk) (length rows) (all_batches (last_of b) made.tries))) count
+              ∙ marked_for (medium.moment disk) (length rows) (all_batches (last_of b) made.tries) order
+              ∙ omega (arith, count, kept_is (last_of b) made.tries);
+          answered = last ∙ answer_is end not_stale;
+          acknowledged =
+              acknowledged_are_marked (last_of b) made.tries end (medium.moment disk) report.rows_before report.marks.items made.attempts
+              ((stores rows h).noted ∙ ap (λ (n : ℕ). marks_for (medium.moment disk) n (all_batches (last_of b) made.tries)) (sym count));
+        }
+
+    pub serves : (settings : StationSettings) (rows : List Row) → StandsFor old.book rows → report.rows_before ≡ len_of old.book
+        → Serves traffic medium rows end (round_host old link disk) (round_host (record { book = b'; settings = settings }) link' disk') report
+    serves settings rows h before =
+        let s = subst (λ (x : Option CivilMinute). Served rows x) (stamp_is b rows (same.rows rows h)) (served rows h before) in
+        record {
+          tries = made.tries;
+          attempts = s.attempts;
+          adds = made.adds;
+          stores = s.stores;
+          answered = s.answered;
+          made = made.count;
+          tally = s.tally;
+          kept = s.kept;
+          acknowledged = s.acknowledged;
+        }
+
+    pub cause : Faults medium disk disk' (end ≡ round.DiskFault)
+    cause = record {
+      never_falls = chain_faults medium old.settings (holding b disk marks) (all_batches (last_of b) made.tries) (holding b' disk' report.marks.items) made.chain;
+      rose = λ e. chain_rose medium old.settings (holding b disk marks) (all_batches (last_of b) made.tries) (holding b' disk' report.marks.items) (last ∙ ap answer_at e) made.chain;
+    }
+
+    pub waited : end ≡ round.GaveUp → RoseBy 18 (traffic.quiets link) (traffic.quiets link')
+    waited e = let n = gave_up_quiets 0 (last_of b) made.tries end e made.attempts in let w = made.adds.waits in omega (arith, n, w)
+
+    pub stale_is : is_stale b' ≡ stale_with end (is_stale old.book)
+    stale_is =
+        chain_stale medium old.settings (holding b disk marks) (all_batches (last_of b) made.tries) (holding b' disk' report.marks.items) order made.chain
+        ∙ ap (λ (a : Stored). stale_after a (is_stale b)) last ∙ stale_by end (is_stale b) ∙ ap (λ (x : Bool). stale_with end x) same.stale
+
+    pub most_is : most_of b' ≡ most_of old.book
+    most_is = chain_most medium old.settings (holding b disk marks) (all_batches (last_of b) made.tries) (holding b' disk' report.marks.items) made.chain ∙ same.most
+
+    pub begun_is : report.tally.pages ≤ MOST_BATCHES → Begins medium MOST_CHANGES disk disk'
+    begun_is few = (
+      chain_begun medium old.settings (holding b disk marks) (all_batches (last_of b) made.tries) (holding b' disk' report.marks.items) made.chain,
+      omega (arith, few, made.counted.pages, batch_count (last_of b) made.tries, chain_moved medium old.settings (holding b disk marks) (all_batches (last_of b) made.tries) (holding b' disk' report.marks.items) made.chain),
+    )
+
+  -- a round that ends before its first attempt
+  pub serves_none : {old : Session} {link : L} {disk : D} {end : RoundEnd} {new : Session} {report : Report} (rows : List Row) → EndsBefore end → IsNew report → StandsFor old.book rows → IsSameBook old.book new.book
+      → Serves traffic medium rows end (round_host old link disk) (round_host new link disk) report
+  serves_none {old} {link} {disk} {end} {new} {report} rows before fresh h same = record {
+    tries = [];
+    attempts = inl (refl, before);
+    adds = adds_none traffic link;
+    stores =
+        let x = stores_none medium old.settings rows (holding new.book disk []) (same.rows rows h) in
+        subst (λ (m : List Mark). Stores medium old.settings rows [] (holding old.book disk []) (holding new.book disk m)) (sym fresh.marks)
+        (stores_from medium old.settings old.book new.book disk [] rows [] (holding new.book disk []) same refl x);
+    answered = none_by end before;
+    made = fresh.attempts;
+    tally = record { pages = ap (λ (t : Tally). t.pages) fresh.tally; skipped = ap (λ (t : Tally). t.skipped) fresh.tally; newest = ap (λ (t : Tally). t.last) fresh.tally };
+    kept = ap (λ (x : List Mark). rows_marked report.rows_before x) fresh.marks ∙ omega arith;
+    acknowledged = acknowledged_are_marked (last_stamp rows) [] end 0 report.rows_before report.marks.items (inl (refl, before)) fresh.marks;
+  }
+
+pub same_book : (b : Book) → IsSameBook b b
+same_book b = record { rows = λ rows h. h; len = refl; last = refl; most = refl; stale = refl }

@@ -1,0 +1,51 @@
+-- What batches make of a book that keeps the records of a dump.
+use Rattle.std.specs.Prelude.{◌≡◌, List, ◌++◌, refl}
+use Rattle.std.proofs.Common.{◌∙◌, subst}
+use Rattle.station_session.specs.Room.{batch_room}
+use Rattle.weather_book.specs.Book.{last_of}
+use Rattle.dmpaft_driver.specs.Ledger.{Ledger}
+use Rattle.disk_model.specs.Medium.{Medium}
+use Rattle.dmpaft_driver.specs.Keeper.{Delivery}
+use Rattle.station_session.specs.declared.book_keeper.BookKeeper.{BookKeeper}
+use Rattle.station_session.specs.Holding.{Holding, holding}
+use Rattle.station_session.specs.OneBatch.{AddsBatch, Chain, chain_joins}
+
+-- the settings, and what is borrowed, stay the same
+pub record IsSameKeeper {D : Type 0} (old new : BookKeeper D) : Type 0 where
+  pub settings : new.settings.now ≡ old.settings.now
+  pub book : new.book.ghost_name ≡ old.book.ghost_name
+  pub disk : new.disk.ghost_name ≡ old.disk.ghost_name
+  pub marks : new.marks.ghost_name ≡ old.marks.ghost_name
+
+pub same_none : {D : Type 0} (k : BookKeeper D) → IsSameKeeper k k
+same_none k = record { settings = refl; book = refl; disk = refl; marks = refl }
+
+pub same_joins : {D : Type 0} (k l m : BookKeeper D) → IsSameKeeper k l → IsSameKeeper l m → IsSameKeeper k m
+same_joins k l m one two = record { settings = two.settings ∙ one.settings; book = two.book ∙ one.book; disk = two.disk ∙ one.disk; marks = two.marks ∙ one.marks }
+
+-- the book, the disk and the marks
+abbrev pub held_by : {D : Type 0} → BookKeeper D → Holding D
+held_by k = holding k.book.now k.disk.now k.marks.now.items
+
+-- batches were given one after another
+pub record GivenInTurn {D : Type 0} (medium : Medium D) (k : BookKeeper D) (steps : List Delivery) (l : BookKeeper D) : Type 0 where
+  pub chain : Chain (AddsBatch medium k.settings.now) (held_by k) steps (held_by l)
+  pub same : IsSameKeeper k l
+
+pub keeps_joins : {D : Type 0} (medium : Medium D) (k l m : BookKeeper D) (first later : List Delivery)
+    → GivenInTurn medium k first l → GivenInTurn medium l later m → GivenInTurn medium k (first ++ later) m
+keeps_joins medium k l m first later one two = record {
+  chain = chain_joins (AddsBatch medium k.settings.now) (held_by k) (held_by l) (held_by m) first later one.chain
+      (subst (λ (s : _). Chain (AddsBatch medium s) (held_by l) later (held_by m)) one.same.settings two.chain);
+  same = same_joins k l m one.same two.same;
+}
+
+-- what a book that keeps the records of a dump tells, on a disk that tells this
+abbrev pub book_ledger : {D : Type 0} → Medium D → Ledger (BookKeeper D)
+book_ledger medium = record {
+  last = λ k. last_of k.book.now;
+  room = λ k. batch_room k.book.now (medium.moment k.disk.now) k.marks.now;
+  keeps = λ k steps l. GivenInTurn medium k steps l;
+  keeps_none = λ k. record { chain = refl; same = same_none k };
+  keeps_joins = λ k l m first later one two. keeps_joins medium k l m first later one two;
+}

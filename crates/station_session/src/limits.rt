@@ -1,0 +1,17 @@
+use dmpaft_driver::MOST_RECORDS;
+use vantage_frames::MOST_PAGES;
+
+// How often a dump is tried within a round.
+pub const ATTEMPTS: u8 = 3;
+
+// The most batches of a round: one for each page of each attempt.
+pub const MOST_BATCHES: usize = ATTEMPTS as usize * MOST_PAGES as usize;
+
+// The most slots that the pages of one attempt skip, and the most rows that they give.
+pub const MOST_SLOTS: usize = MOST_RECORDS * MOST_PAGES as usize;
+
+// How many changes of the disk a batch takes.
+const CHANGES: usize = 4;
+
+// The most changes of the disk that a round begins.
+pub const MOST_CHANGES: usize = CHANGES * MOST_BATCHES;
