@@ -1,0 +1,8 @@
+pub mod Joining
+pub mod Summing
+pub mod Fields
+pub mod Pieces
+pub mod Entries
+pub mod PartsLaws
+pub mod Extremes
+pub mod Typed
