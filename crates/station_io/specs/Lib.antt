@@ -1,3 +1,4 @@
 pub mod Files
 pub mod Memory
 pub mod Named
+pub mod Sink

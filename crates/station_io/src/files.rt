@@ -1,13 +1,9 @@
-ghost use Rattle.std.specs.Prelude.{◌≡◌, ◌≤◌, List, ℕ, [], length};
-ghost use Rattle.std.specs.declared.option.Option.{Option};
-ghost use Rattle.causes.specs.Cause.{Cause};
-ghost use Rattle.causes.specs.Told.{WhereTold};
-ghost use Rattle.station_io.specs.Files.{Reads};
-ghost use Rattle.station_io.specs.declared.files.TextRead.{TextRead};
+ghost use Rattle.std.specs.Prelude.{◌≡◌, []};
+ghost use Rattle.station_io.specs.Files.{Loads, Shelf};
 
 use std::alloc::Global;
 
-/// The most bytes that a file may have: 16 MiB.
+/// The most bytes that a file may have: 16 MiB, by this project's profile.
 pub const LONGEST: usize = 16_777_216;
 
 /// What came of the reading of a file.
@@ -25,21 +21,12 @@ pub enum TextRead {
 
 /// Files that are read whole, by name.
 pub trait Files {
-    /// What the named file holds, where that is told.
-    ghost file_bytes: { Self → List ℕ → Option (List ℕ) };
+    /// What is told of the files.
+    ghost shelf: { Shelf Self };
 
-    /// How often the outside failed, a count that stops at 2^64 - 1.
-    ghost faults: { Self → ℕ };
-
-    /// These files became those by one reading of the name with this answer.
-    ghost loaded: { Self → List ℕ → TextRead → Self → Type 0 };
-
-    /// Reads the named file into an empty buffer. What every name holds stays as it was.
+    /// Reads the named file into an empty buffer. What every name holds stays as it was, and only
+    /// a reading that failed is counted.
     fn text(&mut self, alloc: Global, name: &str, into: &mut Vec<u8>) -> TextRead
         requires { into.old.items ≡ [] }
-        ensures bytes { WhereTold (file_bytes self.old name.now) (λ file. Reads file result into.new.items) }
-        ensures within { length into.new.items ≤ LONGEST }
-        ensures stay { (other : List ℕ) → file_bytes self.new other ≡ file_bytes self.old other }
-        ensures call { loaded self.old name.now result self.new }
-        ensures cause { Cause (faults self.old) (faults self.new) (result ≡ TextRead.Failed) };
+        ensures { Loads shelf self.old name.now result into.new.items self.new };
 }

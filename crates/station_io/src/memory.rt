@@ -1,5 +1,5 @@
 ghost use Rattle.std.specs.Prelude.{◌≡◌, ◌≢◌, ◌≤◌, ◌+◌, ◌⊎◌, ◌++◌, [], length, option_copied};
-ghost use Rattle.station_io.specs.Files.{Reads};
+ghost use Rattle.station_io.specs.Files.{Gives, most_bytes};
 ghost use Rattle.station_io.specs.Named.{named};
 
 use crate::files::{Files, LONGEST, TextRead};
@@ -26,9 +26,9 @@ pub struct MemFiles {
 }
 
 impl Model for MemFiles {
-    ghost use Rattle.station_io.specs.Memory.{Shelf};
+    ghost use Rattle.station_io.specs.Memory.{Folder};
 
-    ghost Value = { Shelf };
+    ghost Value = { Folder };
 
     ghost view = { λ a. record { files = a.files.items; failing = a.failing.items; calls = a.calls; faults = a.faults } };
 }
@@ -52,14 +52,9 @@ impl MemFiles {
 }
 
 impl Files for MemFiles {
-    ghost use Rattle.station_io.specs.Named.{named};
-    ghost use Rattle.station_io.specs.Memory.{IsOneCall};
+    ghost use Rattle.station_io.specs.Memory.{folder_shelf};
 
-    ghost file_bytes = { λ shelf name. named shelf.files name };
-
-    ghost faults = { λ shelf. shelf.faults };
-
-    ghost loaded = { IsOneCall };
+    ghost shelf = { folder_shelf };
 
     fn text(&mut self, _alloc: Global, name: &str, into: &mut Vec<u8>) -> TextRead {
         self.calls = raised(self.calls);
@@ -92,8 +87,9 @@ fn find<'a>(files: &'a [MemFile], name: &str) -> Option<&'a [u8]>
 // Copies what a file may have at most.
 fn copy(bytes: &[u8], into: &mut Vec<u8>) -> TextRead
     requires { into.old.items ≡ [] }
-    ensures read { Reads bytes.now result into.new.items }
-    ensures within { length into.new.items ≤ LONGEST }
+    ensures gives { Gives bytes.now result into.new.items }
+    ensures within { length into.new.items ≤ most_bytes }
+    ensures full { result ≡ TextRead.TooLong → length into.new.items ≡ most_bytes }
     ensures never { result ≢ TextRead.Failed }
 {
     if bytes.len() > LONGEST {

@@ -1,7 +1,6 @@
 ghost use Rattle.std.specs.Prelude.{◌≡◌, ◌≢◌, ◌↔◌, ◌≤◌, ◌+◌, [], IfOk, Some, length};
-ghost use Rattle.std.specs.Io.KnownBytes.{Appends};
-ghost use Rattle.causes.specs.Cause.{Cause};
-ghost use Rattle.causes.specs.Written.{WritesPart};
+ghost use Rattle.station_io.specs.Memory.{bucket_outlet};
+ghost use Rattle.station_io.specs.Sink.{Emits};
 
 use crate::sink::{Put, Sink};
 use causes::{OutOfMemory, raised};
@@ -50,17 +49,12 @@ impl MemSink {
 }
 
 impl Sink for MemSink {
-    ghost taken = { λ sink. Some sink.bytes };
-
-    ghost faults = { λ sink. sink.faults };
+    ghost outlet = { bucket_outlet };
 
     #[tactic(auto, using(causes::proofs::Writing::writes_nothing))]
     /// A piece that does not fit is a counted fault, and nothing of it is taken.
     fn put(&mut self, bytes: &[u8]) -> Put
-        ensures done { result ≡ Put.Done → Appends (Some self.old.bytes) (Some self.new.bytes) bytes.now }
-        ensures failed { result ≡ Put.Failed → WritesPart (Some self.old.bytes) (Some self.new.bytes) bytes.now }
-        ensures cause { Cause self.old.faults self.new.faults (result ≡ Put.Failed) }
-
+        ensures emits { Emits bucket_outlet self.old bytes.now result self.new }
         ensures fits { result ≡ Put.Done ↔ (length self.old.bytes + length bytes.now ≤ self.old.capacity) }
         ensures refused { result ≡ Put.Failed → self.new.bytes ≡ self.old.bytes }
         ensures capacity { self.new.capacity ≡ self.old.capacity }

@@ -1,8 +1,5 @@
-ghost use Rattle.std.specs.Prelude.{◌≡◌, ◌<◌, List, ℕ, length};
-ghost use Rattle.std.specs.declared.option.Option.{Option};
-ghost use Rattle.std.specs.Io.KnownBytes.{Appends};
-ghost use Rattle.causes.specs.Cause.{Cause};
-ghost use Rattle.causes.specs.Written.{WritesPart};
+ghost use Rattle.std.specs.Prelude.{◌<◌, length};
+ghost use Rattle.station_io.specs.Sink.{Emits, Outlet};
 
 /// What came of a write.
 #[derive(Clone, Copy, Debug, PartialEq, Eq)]
@@ -15,16 +12,12 @@ pub enum Put {
 
 /// Takes bytes, in order.
 pub trait Sink {
-    /// The bytes that were taken, where that is told.
-    ghost taken: { Self → Option (List ℕ) };
+    /// What is told of the sink.
+    ghost outlet: { Outlet Self };
 
-    /// How often the outside failed, a count that stops at 2^64 - 1.
-    ghost faults: { Self → ℕ };
-
-    /// Appends the bytes. After `Failed` a front of them may have been appended.
+    /// Appends the bytes. After `Failed` a front of them may have been appended. Only a write that
+    /// failed is counted.
     fn put(&mut self, bytes: &[u8]) -> Put
         requires { 0 < length bytes.now }
-        ensures done { result ≡ Put.Done → Appends (taken self.old) (taken self.new) bytes.now }
-        ensures failed { result ≡ Put.Failed → WritesPart (taken self.old) (taken self.new) bytes.now }
-        ensures cause { Cause (faults self.old) (faults self.new) (result ≡ Put.Failed) };
+        ensures { Emits outlet self.old bytes.now result self.new };
 }
