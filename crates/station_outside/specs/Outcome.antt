@@ -1,0 +1,10 @@
+-- What the answer of one read or write of the system means.
+use Rattle.std.specs.Prelude.{ℕ, ◌≡◌, ◌<◌, Result, Ok, IsErr}
+use Rattle.station_outside.specs.declared.outcome.Outcome.{Outcome}
+use Rattle.station_outside.specs.declared.outcome.Outcome.TheVariants.{Moved, Ended}
+
+-- what was answered: a count is that of the bytes, a count of 0 an end, and all else an error
+abbrev pub MeansBy : {E : Type 0} → Outcome → Result ℕ E → Type 0
+MeansBy (Moved n) answer = (answer ≡ Ok n) × (0 < n)
+MeansBy Ended answer = answer ≡ Ok 0
+MeansBy other answer = IsErr answer

@@ -1,0 +1,161 @@
+ghost use Rattle.std.specs.Prelude.{◌≤◌, IfOk};
+
+use crate::std_files::read_front;
+use crate::std_sink::write_whole;
+use crate::{StdFiles, hold_standard_streams};
+use station_io::{Files, LONGEST, Put, TextRead};
+use std::fs::{self, File};
+use std::io::{self, ErrorKind, Read, Write};
+use std::rt;
+use std::test::Fail;
+
+// What a call of the system is made to answer.
+#[derive(Clone, Copy)]
+enum Step {
+    Moves(usize),
+    Fails(ErrorKind),
+}
+
+// Reads or writes by a script, and ends where it ends.
+#[derive(Drop)]
+struct Scripted<'a> {
+    steps: &'a [Step],
+    calls: usize,
+    // Of a writer, how many bytes it took.
+    taken: usize,
+}
+
+impl<'a> Scripted<'a> {
+    fn new(steps: &'a [Step]) -> Self {
+        Scripted {
+            steps,
+            calls: 0,
+            taken: 0,
+        }
+    }
+
+    fn step(&mut self, room: usize) -> io::Result<usize>
+        ensures { IfOk result (λ n. n ≤ room) }
+    {
+        let step = self.steps.get(self.calls).copied();
+        self.calls = self.calls.saturating_add(1);
+        match step {
+            Some(Step::Moves(count)) => Ok(count.min(room)),
+            Some(Step::Fails(kind)) => Err(kind.into()),
+            None => Ok(0),
+        }
+    }
+}
+
+impl Read for Scripted<'_> {
+    fn read(&mut self, buf: &mut [u8]) -> io::Result<usize> {
+        let count = self.step(buf.len())?;
+        buf[..count].fill(7);
+        Ok(count)
+    }
+}
+
+impl Write for Scripted<'_> {
+    fn write(&mut self, buf: &[u8]) -> io::Result<usize> {
+        let count = self.step(buf.len())?;
+        self.taken = self.taken.saturating_add(count);
+        Ok(count)
+    }
+
+    fn flush(&mut self) -> io::Result<()> {
+        Ok(())
+    }
+}
+
+#[test]
+fn a_file_is_read_in_pieces(rt: HostRuntime) -> Result<(), Fail> {
+    let mut into = Vec::new(rt.alloc());
+    let steps = [
+        Step::Moves(2),
+        Step::Fails(ErrorKind::Interrupted),
+        Step::Moves(3),
+    ];
+    let mut file = Scripted::new(&steps);
+    assert_eq!(rt;
+        read_front(rt.alloc(), &mut file, &mut into),
+        TextRead::Done
+    );
+    assert_eq!(rt; into.as_slice(), [7, 7, 7, 7, 7].as_slice());
+    Ok(())
+}
+
+#[test]
+fn a_read_that_fails_ends_the_reading(rt: HostRuntime) -> Result<(), Fail> {
+    let mut into = Vec::new(rt.alloc());
+    let steps = [
+        Step::Moves(2),
+        Step::Fails(ErrorKind::PermissionDenied),
+        Step::Moves(3),
+    ];
+    let mut file = Scripted::new(&steps);
+    assert_eq!(rt;
+        read_front(rt.alloc(), &mut file, &mut into),
+        TextRead::Failed
+    );
+    assert_eq!(rt; file.calls, 2);
+    Ok(())
+}
+
+#[test]
+fn a_write_goes_on_to_its_end(rt: HostRuntime) -> Result<(), Fail> {
+    let steps = [
+        Step::Moves(2),
+        Step::Fails(ErrorKind::Interrupted),
+        Step::Moves(9),
+    ];
+    let mut writer = Scripted::new(&steps);
+    assert_eq!(rt; write_whole(&mut writer, b"hello"), Put::Done);
+    assert_eq!(rt; writer.taken, 5);
+    assert_eq!(rt; writer.calls, 3);
+    Ok(())
+}
+
+#[test]
+fn a_write_of_no_byte_is_a_fault(rt: HostRuntime) -> Result<(), Fail> {
+    let steps = [Step::Moves(2), Step::Moves(0), Step::Moves(9)];
+    let mut writer = Scripted::new(&steps);
+    assert_eq!(rt; write_whole(&mut writer, b"hello"), Put::Failed);
+    assert_eq!(rt; writer.taken, 2);
+    let steps = [Step::Moves(2), Step::Fails(ErrorKind::StorageFull)];
+    let mut writer = Scripted::new(&steps);
+    assert_eq!(rt; write_whole(&mut writer, b"hello"), Put::Failed);
+    Ok(())
+}
+
+// What came of the reading of that name, and how many bytes it gave.
+fn reading(rt: &(impl rt::Files + AllocGlobal), name: &str) -> (TextRead, usize) {
+    let mut into = Vec::new(rt.alloc());
+    let answer = StdFiles::new(rt).text(rt.alloc(), name, &mut into);
+    (answer, into.len())
+}
+
+#[test]
+fn names_and_lengths_of_real_files_decide(rt: HostRuntime) -> Result<(), Fail> {
+    const NAME: &str = "station_outside_file";
+    let _ = fs::remove_file(&rt, NAME);
+    assert_eq!(rt; reading(&rt, NAME), (TextRead::Failed, 0), "no such file");
+    assert_eq!(rt; reading(&rt, "/"), (TextRead::Failed, 0), "a folder");
+    let file = File::create(&rt, NAME)?;
+    for (length, answer, given) in [
+        (0, TextRead::Done, 0),
+        (LONGEST, TextRead::Done, LONGEST),
+        (LONGEST + 1, TextRead::TooLong, LONGEST),
+    ] {
+        file.set_len(length as u64)?;
+        assert_eq!(rt; reading(&rt, NAME), (answer, given));
+    }
+    fs::remove_file(&rt, NAME)?;
+    Ok(())
+}
+
+#[test]
+fn open_streams_are_left_alone(rt: HostRuntime) -> Result<(), Fail> {
+    hold_standard_streams(&rt)?;
+    hold_standard_streams(&rt)?;
+    Ok(())
+}
