@@ -27,25 +27,26 @@ pub data Judged : Type 0 where
   accepted : StationSettings → Judged
 
 -- what may come of a text: its settings or its first fault, or want of memory
-abbrev pub JudgesText : List ℕ → Judged → Type 0
-JudgesText text (accepted settings) = settings_of text ≡ Ok settings
-JudgesText text (refused output) = (output ≡ no_memory) ⊎ ((fault : SettingsFault) × (settings_of text ≡ Err fault) × (output ≡ bad_settings fault))
+abbrev pub MayComeOfText : List ℕ → Judged → Type 0
+MayComeOfText text (accepted settings) = settings_of text ≡ Ok settings
+MayComeOfText text (refused output) =
+    (output ≡ no_memory) ⊎ ((fault : SettingsFault) × (settings_of text ≡ Err fault) × (output ≡ bad_settings fault))
 
 -- what may come of a reading, by its answer and the text that was read
-abbrev pub Judges : TextRead → List ℕ → Judged → Type 0
-Judges reads.Done text judged = JudgesText text judged
-Judges reads.Failed text judged = judged ≡ refused read_fault
-Judges reads.TooLong text judged = judged ≡ refused too_long
-Judges reads.OutOfMemory text judged = judged ≡ refused no_memory
+abbrev pub MayComeOf : TextRead → List ℕ → Judged → Type 0
+MayComeOf reads.Done text judged = MayComeOfText text judged
+MayComeOf reads.Failed text judged = judged ≡ refused read_fault
+MayComeOf reads.TooLong text judged = judged ≡ refused too_long
+MayComeOf reads.OutOfMemory text judged = judged ≡ refused no_memory
 
 -- the settings file could not be read
 abbrev pub IsReadFault : Judged → Type 0
 IsReadFault (refused output) = output.status ≡ ends.ReadFault
 IsReadFault (accepted settings) = ⊥
 
--- the run goes on, or ends for want of memory
+-- the run goes on, or ends for want of memory or a read fault
 abbrev pub MayGoOn : Judged → Type 0
-MayGoOn (refused output) = output.status ≡ ends.OutOfMemory
+MayGoOn (refused output) = (output.status ≡ ends.OutOfMemory) ⊎ (output.status ≡ ends.ReadFault)
 MayGoOn (accepted settings) = Unit {0}
 
 -- no write has failed yet

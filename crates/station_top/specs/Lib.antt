@@ -3,7 +3,7 @@ pub mod StyleRead
 pub mod SlotText
 pub mod Output
 pub mod PageText
-pub mod Report
+pub mod Listing
 pub mod Command
 pub mod GoodFile
 pub mod Judged

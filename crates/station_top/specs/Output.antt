@@ -11,11 +11,11 @@ pub record Output : Type 0 where
   pub status : Status
 
 -- the text first, and then the rest
-abbrev pub after : List ℕ → Output → Output
-after text rest = record { text = text ++ rest.text; status = rest.status }
+abbrev pub led_by : List ℕ → Output → Output
+led_by text rest = record { text = text ++ rest.text; status = rest.status }
 
 -- A run wrote it all and ends so, or a write failed after a front of it.
-abbrev pub Ends : Option (List ℕ) → Option (List ℕ) → Output → Status → Type 0
-Ends old new output status =
+abbrev pub Finishes : Option (List ℕ) → Option (List ℕ) → Output → Status → Type 0
+Finishes old new output status =
     ((status ≡ output.status) × Appends old new output.text)
     ⊎ ((status ≡ WriteFault) × WritesPart old new output.text)

@@ -1,5 +1,5 @@
 ghost use Rattle.std.specs.Prelude.{◌≡◌, ◌⊎◌, ◌≤◌, length};
-ghost use Rattle.station_top.specs.Judged.{IsEnding, Judges, JudgesText};
+ghost use Rattle.station_top.specs.Judged.{IsEnding, MayComeOf, MayComeOfText};
 ghost use Rattle.station_top.specs.Output.{Output};
 
 use crate::status::Status;
@@ -36,7 +36,7 @@ ghost use Rattle.station_top.specs.JudgedRead.{ending_output, judged_of};
 
 /// The settings in a text, by what came of its reading, or how the run ends without them.
 pub fn judge(alloc: Global, read: TextRead, text: &[u8]) -> Result<Settings, Ending>
-    ensures exact { Judges read text.now (judged_of result) }
+    ensures exact { MayComeOf read text.now (judged_of result) }
     ensures ending { IsEnding (judged_of result) }
 {
     match read {
@@ -49,7 +49,7 @@ pub fn judge(alloc: Global, read: TextRead, text: &[u8]) -> Result<Settings, End
 
 // The settings in a text, or how the run ends without them.
 fn judge_text(alloc: Global, text: &[u8]) -> Result<Settings, Ending>
-    ensures exact { JudgesText text.now (judged_of result) }
+    ensures exact { MayComeOfText text.now (judged_of result) }
     ensures ending { IsEnding (judged_of result) }
 {
     match Settings::read(alloc, text) {

@@ -2,10 +2,10 @@ ghost use Rattle.std.specs.Prelude.{◌≡◌, ◌≢◌, ◌⊎◌, ◌+◌, �
 ghost use Rattle.arrayvec.specs.ArrayVec.{array_vec_len};
 ghost use Rattle.causes.specs.Written.{Leaves, WritesPart};
 ghost use Rattle.causes.specs.Cause.{Cause};
-ghost use Rattle.station_io.specs.declared.files.TheConstants.{LONGEST};
+ghost use Rattle.station_io.specs.Files.{most_bytes};
 ghost use Rattle.station_top.specs.PageText.{page_text};
-ghost use Rattle.station_top.specs.Output.{Ends};
-ghost use Rattle.station_top.specs.Report.{bad_page_text, report};
+ghost use Rattle.station_top.specs.Output.{Finishes};
+ghost use Rattle.station_top.specs.Listing.{bad_page_text, listing};
 ghost use Rattle.station_top.specs.StyleRead.{style_of};
 
 use crate::status::Status;
@@ -18,10 +18,11 @@ use vantage_frames::{PAGE_SIZE, Page, PageRead, SLOTS, read_page};
 
 /// Prints the lines of a file's pages, up to the first page that is short or has a bad check.
 pub fn print_pages<K: Sink>(file: &[u8], style: &Style<'_>, out: &mut K) -> Status
-    requires { length file.now ≤ LONGEST }
-    ensures ends { Ends (K.taken out.old) (K.taken out.new) (report (style_of style.now) file.now) result }
+    requires { length file.now ≤ most_bytes }
+    ensures ends { Finishes (K.outlet.taken out.old) (K.outlet.taken out.new) (listing (style_of style.now) file.now) result }
     ensures kind { result ≢ Status.ReadFault }
-    ensures cause { Cause (K.faults out.old) (K.faults out.new) (result ≡ Status.WriteFault) }
+    ensures cause { Cause (K.outlet.faults out.old) (K.outlet.faults out.new) (result ≡ Status.WriteFault) }
+    ensures still { result ≢ Status.WriteFault → K.outlet.faults out.new ≡ K.outlet.faults out.old }
 {
     let (pages, short) = file.as_chunks::<PAGE_SIZE>();
     let mut pending = Text::new();
@@ -46,9 +47,11 @@ pub fn print_pages<K: Sink>(file: &[u8], style: &Style<'_>, out: &mut K) -> Stat
 
 /// Writes the last text of a run, where there is any.
 pub fn finish<K: Sink>(text: &[u8], status: Status, out: &mut K) -> Status
-    ensures ends { Ends (K.taken out.old) (K.taken out.new) (record { text = text.now; status = status }) result }
+    ensures ends { Finishes (K.outlet.taken out.old) (K.outlet.taken out.new)
+        (record { text = text.now; status = status }) result }
     ensures kind { (result ≡ status) ⊎ (result ≡ Status.WriteFault) }
-    ensures cause { Cause (K.faults out.old) (K.faults out.new) (result ≢ status) }
+    ensures cause { Cause (K.outlet.faults out.old) (K.outlet.faults out.new) (result ≢ status) }
+    ensures still { result ≡ status → result ≢ Status.WriteFault → K.outlet.faults out.new ≡ K.outlet.faults out.old }
 {
     if text.is_empty() {
         return status;
@@ -62,9 +65,12 @@ pub fn finish<K: Sink>(text: &[u8], status: Status, out: &mut K) -> Status
 // Writes what is held back, where it is enough for a piece.
 fn make_room<K: Sink>(pending: &mut Text, out: &mut K) -> Put
     ensures room { array_vec_len pending.new + PAGE ≤ ROOM }
-    ensures done { result ≡ Put.Done → Leaves (K.taken out.old) (K.taken out.new) pending.old.items pending.new.items }
-    ensures failed { result ≡ Put.Failed → WritesPart (K.taken out.old) (K.taken out.new) pending.old.items }
-    ensures cause { Cause (K.faults out.old) (K.faults out.new) (result ≡ Put.Failed) }
+    ensures done { result ≡ Put.Done
+        → Leaves (K.outlet.taken out.old) (K.outlet.taken out.new) pending.old.items pending.new.items }
+    ensures failed { result ≡ Put.Failed
+        → WritesPart (K.outlet.taken out.old) (K.outlet.taken out.new) pending.old.items }
+    ensures cause { Cause (K.outlet.faults out.old) (K.outlet.faults out.new) (result ≡ Put.Failed) }
+    ensures still { result ≢ Put.Failed → K.outlet.faults out.new ≡ K.outlet.faults out.old }
 {
     if pending.len() < PIECE {
         return Put::Done;
@@ -88,7 +94,7 @@ fn push_page(text: &mut Text, number: u32, style: &Style<'_>, page: &Page<'_>)
 }
 
 // Appends the line that names a bad page.
-#[tactic(auto, using(station_base::proofs::NumberWidths::number_text_width), unfolding(crate::specs::Report::bad_page_text))]
+#[tactic(auto, using(station_base::proofs::NumberWidths::number_text_width), unfolding(crate::specs::Listing::bad_page_text))]
 fn push_bad_page(text: &mut Text, number: u32)
     requires { array_vec_len text.old + PAGE ≤ ROOM }
     ensures { text.new.items ≡ text.old.items ++ bad_page_text number }

@@ -1,12 +1,12 @@
-ghost use Rattle.std.specs.Prelude.{◌≡◌, ◌⊎◌, ◌≤◌, List, ℕ, length, IfSome, IfNone, IsSomeAnd};
+ghost use Rattle.std.specs.Prelude.{◌≡◌, ◌≢◌, ◌⊎◌, ◌≤◌, List, ℕ, length, IfSome, IfNone, IsSomeAnd};
 ghost use Rattle.causes.specs.Cause.{Cause, Rose};
-ghost use Rattle.station_io.specs.declared.files.TheConstants.{LONGEST};
-ghost use Rattle.station_top.specs.Output.{Ends};
+ghost use Rattle.station_io.specs.Files.{most_bytes};
+ghost use Rattle.station_top.specs.Output.{Finishes};
 ghost use Rattle.station_top.specs.Command.{command_of, texts};
 ghost use Rattle.station_top.specs.GoodFile.{IsGoodFile};
 ghost use Rattle.station_top.specs.Judged.{IsEnding, IsReadFault, MayGoOn};
 ghost use Rattle.station_top.specs.JudgedRead.{judged_of};
-ghost use Rattle.station_top.specs.Run.{GoesOn, HasGoodInput, IsAccepted, IsUsage, Performs, PrintsCorrected, PrintsFile, code, output_of};
+ghost use Rattle.station_top.specs.Run.{FilesStill, GoesOn, HasGoodInput, IsAccepted, IsDoneOrHindered, IsUsage, Performs, PrintsCorrected, PrintsFile, code, output_of};
 ghost use Rattle.station_top.specs.StyleRead.{style_of};
 
 use crate::command::Command;
@@ -22,21 +22,24 @@ use std::alloc::Global;
 pub fn run<F: Files, K: Sink>(alloc: Global, words: &[&str], files: &mut F, out: &mut K) -> u8
     // Words outside the table are answered by a line of their own, and no file is read.
     ensures usage { IfNone (command_of (texts words.now))
-        (IsUsage files.old files.new (K.taken out.old) (K.taken out.new) result) }
+        (IsUsage K.outlet files.old out.old files.new out.new result) }
 
     // The files that the words name are each read once, in the order of the words, and decide what is written and how the
     // program ends.
     ensures command { IfSome (command_of (texts words.now)) (λ command.
-        Performs F.loaded F.file_bytes command files.old files.new (K.taken out.old) (K.taken out.new) result) }
+        Performs F.shelf K.outlet command files.old out.old files.new out.new result) }
 
     // The faults of the outside have a cause.
-    ensures read_fault { Cause (F.faults files.old) (F.faults files.new) (result ≡ 8) }
-    ensures write_fault { Cause (K.faults out.old) (K.faults out.new) (result ≡ 9) }
+    ensures read_fault { Cause (F.shelf.faults files.old) (F.shelf.faults files.new) (result ≡ 8) }
+    ensures write_fault { Cause (K.outlet.faults out.old) (K.outlet.faults out.new) (result ≡ 9) }
 
-    // Over good input, and where no count of faults rose, only want of memory keeps the command from being done.
-    ensures complete { IfSome (command_of (texts words.now)) (λ command. HasGoodInput F.file_bytes command files.old
-        → ¬ Rose (F.faults files.old) (F.faults files.new) → ¬ Rose (K.faults out.old) (K.faults out.new)
-        → (result ≡ 0) ⊎ (result ≡ 12)) }
+    // Where none is answered, no fault was counted. A read fault whose line could not be written ends with 9.
+    ensures files_still { result ≢ 8 → result ≢ 9 → F.shelf.faults files.new ≡ F.shelf.faults files.old }
+    ensures sink_still { result ≢ 9 → K.outlet.faults out.new ≡ K.outlet.faults out.old }
+
+    // Over good input only such a fault and want of memory keep the command from being done.
+    ensures complete { IfSome (command_of (texts words.now)) (λ command. HasGoodInput F.shelf command files.old
+        → (result ≡ 0) ⊎ (result ≡ 8) ⊎ (result ≡ 9) ⊎ (result ≡ 12)) }
 {
     let status = match Command::read(words) {
         Some(Command::Pages(file)) => pages(alloc, file, &Style::Short, files, out),
@@ -56,12 +59,13 @@ fn corrected_pages<F: Files, K: Sink>(
     files: &mut F,
     out: &mut K,
 ) -> Status
-    ensures pages { PrintsCorrected F.loaded F.file_bytes settings.now file.now files.old files.new (K.taken out.old) (K.taken out.new) (code result) }
-    ensures read_fault { Cause (F.faults files.old) (F.faults files.new) (result ≡ Status.ReadFault) }
-    ensures write_fault { Cause (K.faults out.old) (K.faults out.new) (result ≡ Status.WriteFault) }
-    ensures complete { IsSomeAnd (F.file_bytes files.old settings.now) IsAccepted → IsSomeAnd (F.file_bytes files.old file.now) IsGoodFile
-        → ¬ Rose (F.faults files.old) (F.faults files.new) → ¬ Rose (K.faults out.old) (K.faults out.new)
-        → (result ≡ Status.Done) ⊎ (result ≡ Status.OutOfMemory) }
+    ensures pages { PrintsCorrected F.shelf K.outlet settings.now file.now files.old out.old files.new out.new (code result) }
+    ensures read_fault { Cause (F.shelf.faults files.old) (F.shelf.faults files.new) (result ≡ Status.ReadFault) }
+    ensures write_fault { Cause (K.outlet.faults out.old) (K.outlet.faults out.new) (result ≡ Status.WriteFault) }
+    ensures still { FilesStill F.shelf result files.old files.new }
+    ensures sink_still { result ≢ Status.WriteFault → K.outlet.faults out.new ≡ K.outlet.faults out.old }
+    ensures complete { IsSomeAnd (F.shelf.held files.old settings.now) IsAccepted
+        → IsSomeAnd (F.shelf.held files.old file.now) IsGoodFile → IsDoneOrHindered result }
 {
     let mut text = Vec::new(alloc);
     let read = files.text(alloc, settings, &mut text);
@@ -77,13 +81,16 @@ fn go_on<F: Files, K: Sink>(
     out: &mut K,
 ) -> Status
     requires { IsEnding (judged_of judged) }
-    ensures goes_on { GoesOn F.loaded F.file_bytes (judged_of judged) file.now files.old files.new (K.taken out.old) (K.taken out.new) (code result) }
-    ensures read_fault { result ≡ Status.ReadFault → IsReadFault (judged_of judged) ⊎ Rose (F.faults files.old) (F.faults files.new) }
-    ensures never_falls { F.faults files.old ≤ F.faults files.new }
-    ensures write_fault { Cause (K.faults out.old) (K.faults out.new) (result ≡ Status.WriteFault) }
-    ensures complete { MayGoOn (judged_of judged) → IsSomeAnd (F.file_bytes files.old file.now) IsGoodFile
-        → ¬ Rose (F.faults files.old) (F.faults files.new) → ¬ Rose (K.faults out.old) (K.faults out.new)
-        → (result ≡ Status.Done) ⊎ (result ≡ Status.OutOfMemory) }
+    ensures goes_on { GoesOn F.shelf K.outlet (judged_of judged) file.now files.old out.old files.new out.new (code result) }
+    ensures read_fault { result ≡ Status.ReadFault
+        → IsReadFault (judged_of judged) ⊎ Rose (F.shelf.faults files.old) (F.shelf.faults files.new) }
+    ensures reported { IsReadFault (judged_of judged) → (result ≡ Status.ReadFault) ⊎ (result ≡ Status.WriteFault) }
+    ensures never_falls { F.shelf.faults files.old ≤ F.shelf.faults files.new }
+    ensures write_fault { Cause (K.outlet.faults out.old) (K.outlet.faults out.new) (result ≡ Status.WriteFault) }
+    ensures still { FilesStill F.shelf result files.old files.new }
+    ensures sink_still { result ≢ Status.WriteFault → K.outlet.faults out.new ≡ K.outlet.faults out.old }
+    ensures complete { MayGoOn (judged_of judged) → IsSomeAnd (F.shelf.held files.old file.now) IsGoodFile
+        → IsDoneOrHindered result }
 {
     match judged {
         Ok(settings) => pages(alloc, file, &Style::Corrected(&settings), files, out),
@@ -99,11 +106,12 @@ fn pages<F: Files, K: Sink>(
     files: &mut F,
     out: &mut K,
 ) -> Status
-    ensures pages { PrintsFile F.loaded F.file_bytes (style_of style.now) name.now files.old files.new (K.taken out.old) (K.taken out.new) (code result) }
-    ensures read_fault { Cause (F.faults files.old) (F.faults files.new) (result ≡ Status.ReadFault) }
-    ensures write_fault { Cause (K.faults out.old) (K.faults out.new) (result ≡ Status.WriteFault) }
-    ensures complete { IsSomeAnd (F.file_bytes files.old name.now) IsGoodFile → ¬ Rose (F.faults files.old) (F.faults files.new)
-        → ¬ Rose (K.faults out.old) (K.faults out.new) → (result ≡ Status.Done) ⊎ (result ≡ Status.OutOfMemory) }
+    ensures pages { PrintsFile F.shelf K.outlet (style_of style.now) name.now files.old out.old files.new out.new (code result) }
+    ensures read_fault { Cause (F.shelf.faults files.old) (F.shelf.faults files.new) (result ≡ Status.ReadFault) }
+    ensures write_fault { Cause (K.outlet.faults out.old) (K.outlet.faults out.new) (result ≡ Status.WriteFault) }
+    ensures still { FilesStill F.shelf result files.old files.new }
+    ensures sink_still { result ≢ Status.WriteFault → K.outlet.faults out.new ≡ K.outlet.faults out.old }
+    ensures complete { IsSomeAnd (F.shelf.held files.old name.now) IsGoodFile → IsDoneOrHindered result }
 {
     let mut bytes = Vec::new(alloc);
     let read = files.text(alloc, name, &mut bytes);
@@ -112,10 +120,12 @@ fn pages<F: Files, K: Sink>(
 
 // Writes what came of the reading of a file.
 fn print_reading<K: Sink>(read: TextRead, bytes: &[u8], style: &Style<'_>, out: &mut K) -> Status
-    requires { length bytes.now ≤ LONGEST }
-    ensures ends { Ends (K.taken out.old) (K.taken out.new) (output_of (style_of style.now) read bytes.now) result }
+    requires { length bytes.now ≤ most_bytes }
+    ensures ends { Finishes (K.outlet.taken out.old) (K.outlet.taken out.new) (output_of (style_of style.now) read bytes.now) result }
     ensures read_fault { result ≡ Status.ReadFault → read ≡ TextRead.Failed }
-    ensures write_fault { Cause (K.faults out.old) (K.faults out.new) (result ≡ Status.WriteFault) }
+    ensures reported { read ≡ TextRead.Failed → (result ≡ Status.ReadFault) ⊎ (result ≡ Status.WriteFault) }
+    ensures write_fault { Cause (K.outlet.faults out.old) (K.outlet.faults out.new) (result ≡ Status.WriteFault) }
+    ensures sink_still { result ≢ Status.WriteFault → K.outlet.faults out.new ≡ K.outlet.faults out.old }
 {
     match read {
         TextRead::Done => print_pages(bytes, style, out),

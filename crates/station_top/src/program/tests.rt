@@ -128,8 +128,10 @@ fn pages_are_printed_up_to_the_first_bad_one(rt: HostRuntime) -> Result<(), Fail
 fn each_trouble_has_its_status(rt: HostRuntime) -> Result<(), Fail> {
     let alloc = rt.alloc();
     let good = page(&[RECORD], [0x00, 0xA9]);
-    let (status, text) = printed(alloc, &["replay", "a"], Vec::new(alloc), "", &[], 100)?;
-    assert_eq!(rt; (status, text.as_slice()), (1, b"usage\n".as_slice()));
+    for words in [&[][..], &["pages"], &["replay", "a"]] {
+        let (status, text) = printed(alloc, words, Vec::new(alloc), "", &[], 100)?;
+        assert_eq!(rt; (status, text.as_slice()), (1, b"usage\n".as_slice()));
+    }
     let (status, text) = printed(alloc, &["pages", "dump"], Vec::new(alloc), "", &[1], 100)?;
     assert_eq!(rt; (status, text.as_slice()), (8, b"read fault\n".as_slice()));
     for (count, status, line) in [
