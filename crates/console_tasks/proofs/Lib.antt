@@ -1,0 +1,9 @@
+pub mod Onward
+pub mod Troubles
+pub mod Replying
+pub mod Finishing
+pub mod Reading
+pub mod Comparing
+pub mod Packing
+pub mod Clocks
+pub mod Endings

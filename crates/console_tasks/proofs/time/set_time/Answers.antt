@@ -1,0 +1,12 @@
+use Rattle.std.proofs.Common.{[], ◌∷◌}
+use Rattle.console_tasks.specs.Exchange.{ack}
+use Rattle.console_tasks.specs.Tasks.{setting_time}
+use Rattle.console_tasks.specs.TaskTalk.{TaskTalk}
+use Rattle.console_tasks.proofs.Finishing.{answer_done, answer_err}
+use Rattle.console_tasks.proofs.time.set_time.Goals as goal
+
+pub returns-in-Ok : goal.returns-in-Ok
+returns-in-Ok g c = answer_done (TaskTalk (setting_time c.args.time.now)) (λ (done : Unit {0}). ack ∷ ack ∷ []) tt c.in-Ok.ensures
+
+pub returns-in-Err : goal.returns-in-Err
+returns-in-Err g c = answer_err (TaskTalk (setting_time c.args.time.now)) (λ (done : Unit {0}). ack ∷ ack ∷ []) c.in-Err.end _ c.in-Err.ensures
