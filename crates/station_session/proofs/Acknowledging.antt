@@ -1,19 +1,16 @@
 -- What was acknowledged had been kept and marked.
-use Rattle.std.proofs.Common.{◌≡◌, ◌≢◌, ℕ, ◌+◌, inl, inr, List, [], ◌∷◌, ◌++◌, length, refl, sym, ◌∙◌, ap, subst, append_assoc, Option}
+use Rattle.std.proofs.Common.{◌≡◌, ℕ, ◌+◌, inl, inr, List, [], ◌∷◌, ◌++◌, length, refl, sym, ◌∙◌, ap, subst, append_assoc, Option}
 use Rattle.causes.specs.Lists.{IsFrontOf}
 use Rattle.causes.specs.declared.stored.Stored.TheVariants.{Done}
 use Rattle.station_base.specs.CivilMinute.{CivilMinute}
-use Rattle.vantage_frames.specs.StampFrame.{stamp_frame_of}
 use Rattle.dmpaft_driver.specs.Batch.{batches, answered}
 use Rattle.dmpaft_driver.specs.Keeper.{Delivery}
-use Rattle.dmpaft_driver.specs.OneAttempt.{Acknowledges}
 use Rattle.dmpaft_driver.proofs.Acknowledging.{acknowledged_are_kept}
 use Rattle.station_session.specs.declared.round_end.RoundEnd.{RoundEnd}
 use Rattle.station_session.specs.declared.report.Mark.{Mark}
 use Rattle.station_session.specs.Attempts.{Tried, Attempts, IsTried, batches_in, stamp_after, stamp_behind, all_batches}
-use Rattle.station_session.specs.Batches.{kept_records}
-use Rattle.station_session.specs.Report.{rows_marked, mark_for, marks_for}
-use Rattle.station_session.specs.Acknowledged.{kept_up_to, AreMarked, AcknowledgedAreMarked}
+use Rattle.station_session.specs.Report.{mark_for, marks_for}
+use Rattle.station_session.specs.Acknowledged.{kept_up_to, AcknowledgedAreMarked}
 use Rattle.station_session.proofs.StoredBatches.{InOrder}
 use Rattle.station_session.proofs.Ends.{AllDone, answered_done, went_on}
 use Rattle.station_session.proofs.Marked.{marked_for}
@@ -35,8 +32,8 @@ record Behind (last : Option CivilMinute) (earlier : List Tried) (t : Tried) (al
   pub all_are : all ≡ all_batches last earlier ++ (batches_in (stamp_behind last earlier) t ++ rest)
 
 nothing : (xs later : List Tried) (t : Tried) → xs ++ t ∷ later ≡ [] → ⊥
-nothing [] later t no = cc
-nothing (y ∷ xs) later t no = cc
+nothing [] later t none = cc
+nothing (y ∷ xs) later t none = cc
 
 behind : (made : ℕ) (last : Option CivilMinute) (earlier : List Tried) (t : Tried) (later : List Tried) (end : RoundEnd) → Attempts made last (earlier ++ t ∷ later) end → Behind last earlier t (all_batches last (earlier ++ t ∷ later))
 behind made last [] t later end (less, tried, how) = record { tried = tried; done = tt; rest = all_batches (stamp_after last t) later; all_are = refl }
@@ -60,9 +57,10 @@ marks_first m held (x ∷ xs) ys =
 
 -- two fronts, one behind the other
 front_behind : (A D B rest all : List Delivery) → all ≡ A ++ (B ++ rest) → IsFrontOf D B → IsFrontOf (A ++ D) all
-front_behind A D B rest all e (r, f) =
-    (r ++ rest,
-      append_assoc A D (r ++ rest) ∙ ap (λ (z : List Delivery). A ++ z) (sym (append_assoc D r rest) ∙ ap (λ (z : List Delivery). z ++ rest) f) ∙ sym e)
+front_behind A D B rest all e (r, f) = (
+  r ++ rest,
+  append_assoc A D (r ++ rest) ∙ ap (λ (z : List Delivery). A ++ z) (sym (append_assoc D r rest) ∙ ap (λ (z : List Delivery). z ++ rest) f) ∙ sym e,
+)
 
 pub acknowledged_are_marked : (last : Option CivilMinute) (tries : List Tried) (end : RoundEnd) (m before : ℕ) (marks : List Mark) → Attempts 0 last tries end → marks ≡ marks_for m before (all_batches last tries) → AcknowledgedAreMarked last tries before marks
 acknowledged_are_marked last tries end m before marks attempts noted earlier t later place pages is acked =

@@ -1,5 +1,5 @@
 -- A batch that is added is taken as its answer says.
-use Rattle.std.proofs.Common.{◌≡◌, ◌↔◌, ℕ, ◌+◌, ◌-◌, ◌*◌, ◌<◌, ◌≤◌, Bool, true, false, inl, inr, List, [], ◌∷◌, ◌++◌, length, take, refl, sym, ◌∙◌, ap, subst, arith, append-nil, length-append, None}
+use Rattle.std.proofs.Common.{◌≡◌, ◌↔◌, ℕ, ◌+◌, ◌-◌, ◌*◌, ◌<◌, ◌≤◌, Bool, true, false, inl, inr, List, [], ◌∷◌, ◌++◌, length, take, refl, sym, ◌∙◌, ap, subst, arith, append-nil}
 use Rattle.disk_model.specs.Medium.{Medium}
 use Rattle.disk_model.specs.Disk.{Faults, LeavesOnly}
 use Rattle.disk_model.specs.declared.disk.Disked.{Disked}
@@ -8,48 +8,39 @@ use Rattle.gated_log.specs.Calls.{up_to, four_changes}
 use Rattle.station_base.specs.declared.row.Row.{Row}
 use Rattle.settings_file.specs.StationSettings.{StationSettings}
 use Rattle.weather_book.specs.declared.book.Book.{Book}
-use Rattle.weather_book.specs.declared.added.Added.{Added}
-use Rattle.weather_book.specs.declared.added.Added.TheVariants as added
 use Rattle.weather_book.specs.Adding.{OnAdded, OnUndone, OnRefused, Moved, rows_after}
-use Rattle.weather_book.specs.Adding as adding
+use Rattle.causes.specs.Stored.{stale_after}
+use Rattle.disk_model.specs.Stored.{disk_answer}
 use Rattle.weather_book.specs.Book.{StandsFor, len_of, last_of, most_of, is_stale}
-use Rattle.weather_book.specs.Rising as rising
+use Rattle.weather_book.specs.Rising as book
 use Rattle.weather_book.specs.Rows.{slot_total}
 use Rattle.gated_log.specs.Appending.{ByGate}
 use Rattle.weather_book.specs.Stands.{HasRows, NowHasRows, RowsOldOrAll, StandsOn, StandsToReadOn}
 use Rattle.causes.specs.declared.stored.Stored.{Stored}
 use Rattle.causes.specs.declared.stored.Stored.TheVariants as stored
-use Rattle.station_base.specs.LastStamp.{last_stamp}
-use Rattle.archive_record.specs.Reading.{stamp_in}
 use Rattle.dmpaft_driver.specs.Keeper.{delivery}
 use Rattle.station_session.specs.declared.report.Mark.{Mark}
 use Rattle.station_session.specs.Records.{stored_rows, AllRead}
 use Rattle.station_session.specs.Report.{mark, mark_for}
 use Rattle.station_session.specs.Holding.{holding}
 use Rattle.station_session.specs.OneBatch.{AddsBatch}
-use Rattle.station_session.proofs.Stamps.{same_count, last_is, last_append}
-
--- how the keeper answers what the book answered
-abbrev pub kept_by : Added → Stored
-kept_by added.Done = stored.Done
-kept_by added.Full = stored.Full
-kept_by added.Stale = stored.Stale
-kept_by added.DiskFault = stored.DiskFault
+use Rattle.station_session.proofs.Stamps.{same_count, last_is}
 
 -- what an add of these rows tells
 pub record Tells {D : Type 0} (medium : Medium D)
-    (a : Added) (rows : List Row) (old : Book) (disk : D) (new : Book) (disk' : D) : Type 0 where
-  pub stale : (a ≡ added.Stale) ↔ (is_stale old ≡ true)
-  pub full : (a ≡ added.Full) ↔ ((is_stale old ≡ false) × (most_of old < len_of old + length rows))
-  pub cause : Faults medium disk disk' (a ≡ added.DiskFault)
-  pub marked : is_stale new ≡ adding.stale_after a (is_stale old)
+    (a : Stored) (rows : List Row) (old : Book) (disk : D) (new : Book) (disk' : D) : Type 0 where
+  pub stale : (a ≡ stored.Stale) ↔ (is_stale old ≡ true)
+  pub full : (a ≡ stored.Full) ↔ ((is_stale old ≡ false) × (most_of old < len_of old + length rows))
+  pub cause : Faults medium disk disk' (a ≡ stored.DiskFault)
+  pub marked : is_stale new ≡ stale_after a (is_stale old)
   pub most : most_of new ≡ most_of old
   pub rows_are : (l : List Row) → StandsFor old l → StandsFor new (rows_after a l rows)
+  pub newest : last_of new ≡ book.last_after (last_of old) (rows_after a [] rows)
   pub moved : Moved a (medium.moment disk) (medium.moment disk')
   pub untouched : OnRefused a ((new ≡ old) × (disk' ≡ disk))
-  pub went_on : (l : List Row) → StandsFor old l → medium.went disk (up_to (take (medium.moment disk' - medium.moment disk) (four_changes (176 * (slot_total l + 1)) (176 * length rows))) (adding.disk_answer a)) disk'
+  pub went_on : (l : List Row) → StandsFor old l → medium.went disk (up_to (take (medium.moment disk' - medium.moment disk) (four_changes (176 * (slot_total l + 1)) (176 * (slot_total (l ++ rows) - slot_total l)))) (disk_answer a)) disk'
   pub images : (l : List Row) → StandsOn medium old disk l → LeavesOnly medium (RowsOldOrAll l rows (medium.moment disk + 3 ≤ medium.moment disk')) disk disk'
-  pub gate : a ≡ added.DiskFault → (l : List Row) → StandsOn medium old disk l
+  pub gate : a ≡ stored.DiskFault → (l : List Row) → StandsOn medium old disk l
       → ByGate medium (medium.moment disk + 3 ≤ medium.moment disk') (176 * (slot_total l + 1)) (HasRows l) (HasRows (l ++ rows)) disk'
   pub still : OnUndone a ((l : List Row) → StandsOn medium old disk l → StandsToReadOn medium new disk' l)
   pub now : OnAdded a ((l : List Row) → StandsOn medium old disk l → NowHasRows medium disk' (l ++ rows))
@@ -68,34 +59,32 @@ kept_same settings l = sym (append-nil l)
 
 module _ {D : Type 0} (medium : Medium D)
     (settings : StationSettings) (records : List (List ℕ)) (read : AllRead records) (old : Book) (disk : D) (marks : List Mark) (new : Book) (disk' : D) (marks' : List Mark) where
-  abbrev AreTold : Added → Type 0
+  abbrev AreTold : Stored → Type 0
   AreTold a = Tells medium a (stored_rows settings records) old disk new disk'
 
-  abbrev AreTaken : Added → Type 0
-  AreTaken a = (marks' ≡ marks ++ mark_for (kept_by a) (medium.moment disk') (len_of old + length records)) → AddsBatch medium settings (holding old disk marks) (delivery records (kept_by a)) (holding new disk' marks')
+  abbrev AreTaken : Stored → Type 0
+  AreTaken a = (marks' ≡ marks ++ mark_for a (medium.moment disk') (len_of old + length records)) → AddsBatch medium settings (holding old disk marks) (delivery records a) (holding new disk' marks')
 
   count : length (stored_rows settings records) ≡ length records
   count = same_count settings records read
 
-  not_stale : (a : Added) → AreTold a → (a ≡ added.Stale → ⊥) → is_stale old ≡ false
+  not_stale : (a : Stored) → AreTold a → (a ≡ stored.Stale → ⊥) → is_stale old ≡ false
   not_stale a t h = false_true (is_stale old) (λ s. h (t.stale.1 s))
 
-  fits : (a : Added) → AreTold a → (a ≡ added.Stale → ⊥) → (a ≡ added.Full → ⊥) → len_of old + length records ≤ most_of old
+  fits : (a : Stored) → AreTold a → (a ≡ stored.Stale → ⊥) → (a ≡ stored.Full → ⊥) → len_of old + length records ≤ most_of old
   fits a t h k = let m = most_le (most_of old) (len_of old + length (stored_rows settings records)) (λ less. k (t.full.1 (not_stale a t h, less))) in omega (arith, m, count)
 
   book_same : (P : Book → Type 0) → new ≡ old → P old → P new
   book_same P e h = subst P (sym e) h
 
-  went_as : (a : Disked) (n : ℕ) (l : List Row) → medium.moment disk' - medium.moment disk ≡ n → medium.went disk (up_to (take (medium.moment disk' - medium.moment disk) (four_changes (176 * (slot_total l + 1)) (176 * length (stored_rows settings records)))) a) disk'
-      → medium.went disk (up_to (take n (four_changes (176 * (slot_total l + 1)) (176 * length records))) a) disk'
-  went_as a n l e h =
-      subst (λ (k : ℕ). medium.went disk (up_to (take k (four_changes (176 * (slot_total l + 1)) (176 * length records))) a) disk') e
-      (subst (λ (k : ℕ). medium.went disk (up_to (take (medium.moment disk' - medium.moment disk) (four_changes (176 * (slot_total l + 1)) (176 * k))) a) disk') count h)
+  went_as : (a : Disked) (n slots count : ℕ) → medium.moment disk' - medium.moment disk ≡ n → medium.went disk (up_to (take (medium.moment disk' - medium.moment disk) (four_changes slots count)) a) disk'
+      → medium.went disk (up_to (take n (four_changes slots count)) a) disk'
+  went_as a n slots count e h = subst (λ (k : ℕ). medium.went disk (up_to (take k (four_changes slots count)) a) disk') e h
 
-  taken_done : AreTold added.Done → AreTaken added.Done
+  taken_done : AreTold stored.Done → AreTaken stored.Done
   taken_done t noted = record {
-    newest = ap (λ (l : List Row). rising.last_stamp l) (t.rows_are old.rows.items refl) ∙ last_append None old.rows.items (stored_rows settings records) ∙ last_is settings records (last_of old) read;
-    judged = (not_stale added.Done t (λ e. cc), fits added.Done t (λ e. cc) (λ e. cc));
+    newest = t.newest ∙ last_is settings records (last_of old) read;
+    judged = (not_stale stored.Done t (λ e. cc), fits stored.Done t (λ e. cc) (λ e. cc));
     stale = t.marked;
     most = t.most;
     cause = record { never_falls = t.cause.never_falls; rose = λ e. cc };
@@ -104,7 +93,7 @@ module _ {D : Type 0} (medium : Medium D)
     failed = 0;
     begun = refl;
     moved = t.moved;
-    went_on = λ l h. went_as disked.Done 4 l (omega (arith, t.moved)) (t.went_on l h);
+    went_on = λ l h. went_as disked.Done 4 _ _ (omega (arith, t.moved)) (t.went_on l h);
     noted = noted;
     images = λ l h u c le lt. elim (t.images l h u c le lt) [ inl was ↦ inl was | inr now ↦ inr (elim now [ inl o ↦ inl o | inr x ↦ inr (tt, x.1) ]) ];
     gate = λ e. absurd (let y : stored.Done ≡ stored.DiskFault = e in cc);
@@ -113,10 +102,10 @@ module _ {D : Type 0} (medium : Medium D)
     still = λ e. cc;
   }
 
-  taken_fault : AreTold added.DiskFault → AreTaken added.DiskFault
+  taken_fault : AreTold stored.DiskFault → AreTaken stored.DiskFault
   taken_fault t noted = record {
-    newest = ap (λ (l : List Row). rising.last_stamp l) (t.rows_are old.rows.items refl);
-    judged = (not_stale added.DiskFault t (λ e. cc), fits added.DiskFault t (λ e. cc) (λ e. cc));
+    newest = t.newest;
+    judged = (not_stale stored.DiskFault t (λ e. cc), fits stored.DiskFault t (λ e. cc) (λ e. cc));
     stale = t.marked;
     most = t.most;
     cause = record { never_falls = t.cause.never_falls; rose = λ e. t.cause.rose refl };
@@ -125,7 +114,7 @@ module _ {D : Type 0} (medium : Medium D)
     failed = medium.moment disk' - medium.moment disk;
     begun = (omega (arith, t.moved.0), omega (arith, t.moved.0, t.moved.1));
     moved = omega (arith, t.moved.0);
-    went_on = λ l h. went_as disked.Failed (medium.moment disk' - medium.moment disk) l refl (t.went_on l h);
+    went_on = λ l h. went_as disked.Failed (medium.moment disk' - medium.moment disk) _ _ refl (t.went_on l h);
     noted = noted;
     images = λ l h u c le lt. elim (t.images l h u c le lt) [ inl was ↦ inl was | inr now ↦ inr (elim now [ inl o ↦ inl o | inr x ↦ inr (omega (arith, x.0), x.1) ]) ];
     gate = λ e l h. let q = t.gate refl l h in record {
@@ -138,9 +127,9 @@ module _ {D : Type 0} (medium : Medium D)
     still = λ e. t.still;
   }
 
-  taken_full : AreTold added.Full → AreTaken added.Full
+  taken_full : AreTold stored.Full → AreTaken stored.Full
   taken_full t noted = record {
-    newest = ap (λ (x : Book). last_of x) t.untouched.0;
+    newest = t.newest;
     judged = ((t.full.0 refl).0, omega (arith, (t.full.0 refl).1, count));
     stale = t.marked;
     most = t.most;
@@ -150,7 +139,7 @@ module _ {D : Type 0} (medium : Medium D)
     failed = 0;
     begun = refl;
     moved = omega (arith, t.moved);
-    went_on = λ l h. went_as disked.Failed 0 l (omega (arith, t.moved)) (t.went_on l h);
+    went_on = λ l h. went_as disked.Failed 0 _ _ (omega (arith, t.moved)) (t.went_on l h);
     noted = noted;
     images = λ l h u c le lt. inl (subst (λ (x : D). medium.left x u c) t.untouched.1 lt);
     gate = λ e. absurd (let y : stored.Full ≡ stored.DiskFault = e in cc);
@@ -159,9 +148,9 @@ module _ {D : Type 0} (medium : Medium D)
     still = λ e. cc;
   }
 
-  taken_stale : AreTold added.Stale → AreTaken added.Stale
+  taken_stale : AreTold stored.Stale → AreTaken stored.Stale
   taken_stale t noted = record {
-    newest = ap (λ (x : Book). last_of x) t.untouched.0;
+    newest = t.newest;
     judged = t.stale.0 refl;
     stale = t.marked;
     most = t.most;
@@ -171,7 +160,7 @@ module _ {D : Type 0} (medium : Medium D)
     failed = 0;
     begun = refl;
     moved = omega (arith, t.moved);
-    went_on = λ l h. went_as disked.Failed 0 l (omega (arith, t.moved)) (t.went_on l h);
+    went_on = λ l h. went_as disked.Failed 0 _ _ (omega (arith, t.moved)) (t.went_on l h);
     noted = noted;
     images = λ l h u c le lt. inl (subst (λ (x : D). medium.left x u c) t.untouched.1 lt);
     gate = λ e. absurd (let y : stored.Stale ≡ stored.DiskFault = e in cc);
@@ -180,26 +169,22 @@ module _ {D : Type 0} (medium : Medium D)
     still = λ e. cc;
   }
 
-  pub taken : (a : Added) → AreTold a → AreTaken a
-  taken added.Done t = taken_done t
-  taken added.Full t = taken_full t
-  taken added.Stale t = taken_stale t
-  taken added.DiskFault t = taken_fault t
+  pub taken : (a : Stored) → AreTold a → AreTaken a
+  taken stored.Done t = taken_done t
+  taken stored.Full t = taken_full t
+  taken stored.Stale t = taken_stale t
+  taken stored.DiskFault t = taken_fault t
 
   -- the same, of rows that are these, and by what the answer is
-  pub taken_as : (a b : Added) → a ≡ b → (rows : List Row) → rows ≡ stored_rows settings records → Tells medium a rows old disk new disk' → AreTaken b
-  taken_as a b e rows same t = subst (λ (x : Added). AreTaken x) e (taken a (subst (λ (x : List Row). Tells medium a x old disk new disk') same t))
-
--- the last stamp, where rows stand behind others
-pub last_with : (settings : StationSettings) (records : List (List ℕ)) (old : Book) (new : Book) (rows : List Row) → AllRead records → rows ≡ stored_rows settings records → new.rows.items ≡ old.rows.items ++ rows
-    → last_of new ≡ last_stamp stamp_in records (last_of old)
-last_with settings records old new rows read same e =
-    ap (λ (l : List Row). rising.last_stamp l) (e ∙ ap (λ (x : List Row). old.rows.items ++ x) same) ∙ last_append None old.rows.items (stored_rows settings records) ∙ last_is settings records (last_of old) read
-
--- and how many there are
-pub len_with : (settings : StationSettings) (records : List (List ℕ)) (old : Book) (new : Book) (rows : List Row) → AllRead records → rows ≡ stored_rows settings records → new.rows.items ≡ old.rows.items ++ rows
-    → len_of new ≡ len_of old + length records
-len_with settings records old new rows read same e = omega (arith, ap (λ (l : List Row). length l) e, length-append old.rows.items rows, ap (λ (l : List Row). length l) same, same_count settings records read)
+  pub taken_as : (a b : Stored) → a ≡ b → (rows : List Row) → rows ≡ stored_rows settings records → Tells medium a rows old disk new disk' → AreTaken b
+  taken_as a b e rows same t = subst (λ (x : Stored). AreTaken x) e (taken a (subst (λ (x : List Row). Tells medium a x old disk new disk') same t))
 
 pub mark_as : (marks : List Mark) (m n m' n' : ℕ) → m ≡ m' → n ≡ n' → marks ++ mark m n ∷ [] ≡ marks ++ mark m' n' ∷ []
 mark_as marks m n m' n' e f = ap (λ (x : ℕ). marks ++ mark x n ∷ []) e ∙ ap (λ (x : ℕ). marks ++ mark m' x ∷ []) f
+
+-- a batch that was not kept has no mark
+pub no_mark : (a : Stored) (marks : List Mark) (m n : ℕ) → (a ≡ stored.Done → ⊥) → marks ≡ marks ++ mark_for a m n
+no_mark stored.Done marks m n other = absurd (other refl)
+no_mark stored.Full marks m n other = sym (append-nil marks)
+no_mark stored.Stale marks m n other = sym (append-nil marks)
+no_mark stored.DiskFault marks m n other = sym (append-nil marks)

@@ -1,16 +1,17 @@
 -- What a chain of batches tells of a book, its disk and the last stamp.
-use Rattle.std.proofs.Common.{◌≡◌, ℕ, ◌+◌, ◌*◌, ◌≤◌, Bool, List, [], ◌∷◌, ◌++◌, length, refl, sym, ◌∙◌, ap, subst, arith, Option}
+use Rattle.std.proofs.Common.{◌≡◌, ℕ, ◌+◌, ◌*◌, ◌≤◌, Bool, true, false, List, [], ◌∷◌, ◌++◌, length, refl, sym, ◌∙◌, ap, subst, arith, Option}
 use Rattle.disk_model.specs.Medium.{Medium}
 use Rattle.causes.specs.Cause.{Rose}
 use Rattle.station_base.specs.CivilMinute.{CivilMinute}
 use Rattle.settings_file.specs.StationSettings.{StationSettings}
-use Rattle.weather_book.specs.Book.{last_of, most_of, is_stale}
+use Rattle.weather_book.specs.Book.{last_of, len_of, most_of, is_stale}
 use Rattle.causes.specs.declared.stored.Stored.{Stored}
 use Rattle.causes.specs.declared.stored.Stored.TheVariants.{Done, Full, Stale, DiskFault}
 use Rattle.dmpaft_driver.specs.Keeper.{Delivery, last_after, last_kept}
-use Rattle.station_session.specs.Batches.{IsBegun, begun_for, last_answer, stale_after}
+use Rattle.causes.specs.Stored.{stale_after}
+use Rattle.station_session.specs.Batches.{IsBegun, begun_for, last_answer}
 use Rattle.station_session.specs.Holding.{Holding}
-use Rattle.station_session.specs.OneBatch.{AddsBatch, Chain}
+use Rattle.station_session.specs.OneBatch.{AddsBatch, JudgesBatch, Chain}
 use Rattle.station_session.proofs.StoredBatches.{InOrder}
 
 pub last_kept_append : (xs ys : List Delivery) (before : Option CivilMinute) → last_kept (xs ++ ys) before ≡ last_kept ys (last_kept xs before)
@@ -54,3 +55,11 @@ module _ {D : Type 0} (medium : Medium D) (settings : StationSettings) where
   chain_rose k [] l e c = cc
   chain_rose k (s ∷ []) l e c = subst (λ (x : Holding D). Rose (medium.faults k.disk) (medium.faults x.disk)) (sym c.2) (c.1.cause.rose e)
   chain_rose k (s ∷ n ∷ ss) l e c = omega (arith, chain_rose c.0 (n ∷ ss) l e c.2, c.1.cause.never_falls)
+
+  -- a book that was not stale refuses no batch as stale, where all but the last were kept
+  pub chain_never_stale : (k : Holding D) (ss : List Delivery) (l : Holding D) → InOrder ss → is_stale k.book ≡ false → last_answer ss ≡ Stale → Chain (AddsBatch medium settings) k ss l → ⊥
+  chain_never_stale k [] l o fresh e c = cc
+  chain_never_stale k (s ∷ []) l o fresh e c =
+      let stale : is_stale k.book ≡ true = subst (λ (a : Stored). JudgesBatch a (is_stale k.book) (most_of k.book) (len_of k.book + length s.rows)) e c.1.judged in cc
+  chain_never_stale k (s ∷ n ∷ ss) l o fresh e c =
+      chain_never_stale c.0 (n ∷ ss) l o.1 (c.1.stale ∙ ap (λ (a : Stored). stale_after a (is_stale k.book)) o.0 ∙ fresh) e c.2

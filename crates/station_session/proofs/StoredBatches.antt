@@ -4,7 +4,6 @@ use Rattle.disk_model.specs.Medium.{Medium}
 use Rattle.disk_model.specs.Calls.{DiskCall}
 use Rattle.station_base.specs.declared.row.Row.{Row}
 use Rattle.settings_file.specs.StationSettings.{StationSettings}
-use Rattle.weather_book.specs.declared.book.Book.{Book}
 use Rattle.weather_book.specs.Book.{StandsFor, len_of, most_of, is_stale}
 use Rattle.weather_book.specs.Rows.{slot_total}
 use Rattle.weather_book.specs.Stands.{HasRows, NowHasRows, StandsOn, StandsToReadOn}
@@ -14,7 +13,7 @@ use Rattle.dmpaft_driver.specs.Keeper.{Delivery, delivery}
 use Rattle.station_session.specs.declared.report.Mark.{Mark}
 use Rattle.station_session.specs.Records.{stored_rows}
 use Rattle.gated_log.specs.Appending.{ByGate}
-use Rattle.station_session.specs.Batches.{kept_of, kept_records, all_records, one_kept, Fits, Fit, IsBegun, begun_for, batch_changes, changes_for}
+use Rattle.station_session.specs.Batches.{kept_of, kept_records, all_records, one_kept, Fits, Fit, IsBegun, begun_for, batch_changes, slots_more, changes_for}
 use Rattle.station_session.specs.Images.{MayStand, HasWhole}
 use Rattle.station_session.specs.Report.{mark, mark_for, marks_for}
 use Rattle.station_session.specs.Marks.{IsMarked}
@@ -28,10 +27,6 @@ abbrev pub InOrder : List Delivery → Type 0
 InOrder [] = Unit {0}
 InOrder (s ∷ []) = Unit {0}
 InOrder (s ∷ n ∷ ss) = (s.answer ≡ Done) × InOrder (n ∷ ss)
-
--- a book of these rows has so many
-pub held_is : (book : Book) (rows : List Row) → StandsFor book rows → len_of book ≡ length rows
-held_is book rows h = ap (λ (x : List Row). length x) h
 
 with_more : (settings : StationSettings) (rows : List Row) (r : List (List ℕ)) (ss : List Delivery) → rows_with settings (rows ++ stored_rows settings r) ss ≡ rows_with settings rows (delivery r Done ∷ ss)
 with_more settings rows r ss = append_assoc rows (stored_rows settings r) (stored_rows settings (kept_records ss)) ∙ ap (λ (x : List Row). rows ++ x) (sym (stored_append settings r (kept_records ss)))
@@ -62,12 +57,6 @@ noted_by Stale failed m n k k' e f = refl
 noted_by DiskFault failed m n k k' e f = refl
 
 module _ {D : Type 0} (medium : Medium D) (settings : StationSettings) where
-  Stored : List Row → List Delivery → Holding D → Holding D → Type 0
-  Stored rows ss k l = Stores medium settings rows ss k l
-
-  Took : Holding D → Delivery → Holding D → Type 0
-  Took k s l = AddsBatch medium settings k s l
-
   pub stores_none : (rows : List Row) (k : Holding D) → StandsFor k.book rows → Stores medium settings rows [] k k
   stores_none rows k h = record {
     fit = tt;
@@ -104,7 +93,7 @@ module _ {D : Type 0} (medium : Medium D) (settings : StationSettings) where
           let all : rows ++ stored_rows settings s.rows ≡ rows ++ stored_rows settings (kept_of s.answer s.rows) = ap (λ (x : Stored). rows ++ stored_rows settings (kept_of x s.rows)) (sym e) in
           let n : length (stored_rows settings s.rows) ≡ length s.rows = subst (λ (x : Stored). length (stored_rows settings (kept_of x s.rows)) ≡ length (kept_of x s.rows)) e t.count in (
             mark_now medium l.disk (rows ++ stored_rows settings (kept_of s.answer s.rows)) (medium.moment l.disk) (len_of k.book + length s.rows) refl
-                (omega (arith, held_is k.book rows h, n, length-append rows (stored_rows settings s.rows), ap (λ (x : List Row). length x) all))
+                (omega (arith, h.held_is, n, length-append rows (stored_rows settings s.rows), ap (λ (x : List Row). length x) all))
                 (subst (λ (x : List Row). NowHasRows medium l.disk x) all (t.now e rows st)),
             tt,
           )
@@ -114,13 +103,13 @@ module _ {D : Type 0} (medium : Medium D) (settings : StationSettings) where
 
   pub stores_last : (rows : List Row) (k : Holding D) (s : Delivery) (l : Holding D) → AddsBatch medium settings k s l → StandsFor k.book rows → is_stale k.book ≡ false → Stores medium settings rows (s ∷ []) k l
   stores_last rows k s l t h fresh = record {
-    fit = (fits_by s.answer (most_of k.book) (len_of k.book + length s.rows) (length rows + length s.rows) (omega (arith, held_is k.book rows h)) (subst (λ (b : Bool). JudgesBatch s.answer b (most_of k.book) (len_of k.book + length s.rows)) fresh t.judged), tt);
+    fit = (fits_by s.answer (most_of k.book) (len_of k.book + length s.rows) (length rows + length s.rows) (omega (arith, h.held_is)) (subst (λ (b : Bool). JudgesBatch s.answer b (most_of k.book) (len_of k.book + length s.rows)) fresh t.judged), tt);
     stands_for = subst (λ (x : List Row). StandsFor l.book x) (with_last settings rows s) (t.rows rows h);
     failed = t.failed;
     begun = t.begun;
     moved = moved_by s.answer t.failed (medium.moment k.disk) (medium.moment l.disk) t.begun t.moved;
-    went_on = subst (λ (x : List DiskCall). medium.went k.disk x l.disk) (sym (append-nil (batch_changes s.answer t.failed (slot_total rows) (length s.rows)))) (t.went_on rows h);
-    noted = t.noted ∙ ap (λ (x : List Mark). k.marks ++ x) (noted_by s.answer t.failed (medium.moment k.disk) (medium.moment l.disk) (len_of k.book + length s.rows) (length rows + length s.rows) t.moved (omega (arith, held_is k.book rows h)));
+    went_on = subst (λ (x : List DiskCall). medium.went k.disk x l.disk) (sym (append-nil (batch_changes s.answer t.failed (slot_total rows) (slots_more rows (stored_rows settings s.rows))))) (t.went_on rows h);
+    noted = t.noted ∙ ap (λ (x : List Mark). k.marks ++ x) (noted_by s.answer t.failed (medium.moment k.disk) (medium.moment l.disk) (len_of k.book + length s.rows) (length rows + length s.rows) t.moved (omega (arith, h.held_is)));
     images = λ st. t.images rows st;
     gate = λ e st. gate_as t.failed l.disk rows (rows ++ stored_rows settings (kept_of s.answer s.rows ++ [])) (rows ++ stored_rows settings s.rows) (rows ++ stored_rows settings (s.rows ++ [])) (still_rows s.answer e)
         (ap (λ (x : List (List ℕ)). rows ++ stored_rows settings x) (sym (append-nil s.rows))) (t.gate e rows st);
@@ -142,17 +131,17 @@ module _ {D : Type 0} (medium : Medium D) (settings : StationSettings) where
       let held : length (rows ++ stored_rows settings r) ≡ length rows + length r = omega (arith, length-append rows (stored_rows settings r), t.count) in
       let shown : StandsOn medium k.book k.disk rows → StandsOn medium m.book m.disk (rows ++ stored_rows settings r) = λ st. t.stands (λ e. cc) rows st in
       record {
-        fit = (omega (arith, t.judged.1, held_is k.book rows h), subst (λ (y : ℕ). Fit y (length rows + length r) (n ∷ ss)) t.most (subst (λ (y : ℕ). Fit (most_of m.book) y (n ∷ ss)) held x.fit));
+        fit = (omega (arith, t.judged.1, h.held_is), subst (λ (y : ℕ). Fit y (length rows + length r) (n ∷ ss)) t.most (subst (λ (y : ℕ). Fit (most_of m.book) y (n ∷ ss)) held x.fit));
         stands_for = subst (λ (y : List Row). StandsFor l.book y) more x.stands_for;
         failed = x.failed;
         begun = x.begun;
         moved = omega (arith, x.moved, t.moved);
-        went_on = medium.went_joins k.disk m.disk l.disk (batch_changes Done t.failed (slot_total rows) (length r)) (changes_for settings x.failed (rows ++ stored_rows settings r) (n ∷ ss)) (t.went_on rows h) x.went_on;
+        went_on = medium.went_joins k.disk m.disk l.disk (batch_changes Done t.failed (slot_total rows) (slots_more rows (stored_rows settings r))) (changes_for settings x.failed (rows ++ stored_rows settings r) (n ∷ ss)) (t.went_on rows h) x.went_on;
         noted =
             x.noted ∙ ap (λ (y : List Mark). y ++ marks_for (medium.moment m.disk) (length (rows ++ stored_rows settings r)) (n ∷ ss)) t.noted
             ∙ append_assoc k.marks (mark (medium.moment m.disk) (len_of k.book + length r) ∷ []) (marks_for (medium.moment m.disk) (length (rows ++ stored_rows settings r)) (n ∷ ss))
             ∙ ap (λ (y : ℕ). k.marks ++ (mark y (len_of k.book + length r) ∷ marks_for y (length (rows ++ stored_rows settings r)) (n ∷ ss))) t.moved
-            ∙ ap (λ (y : ℕ). k.marks ++ (mark (medium.moment k.disk + 4) (y + length r) ∷ marks_for (medium.moment k.disk + 4) (length (rows ++ stored_rows settings r)) (n ∷ ss))) (held_is k.book rows h)
+            ∙ ap (λ (y : ℕ). k.marks ++ (mark (medium.moment k.disk + 4) (y + length r) ∷ marks_for (medium.moment k.disk + 4) (length (rows ++ stored_rows settings r)) (n ∷ ss))) (h.held_is)
             ∙ ap (λ (y : ℕ). k.marks ++ (mark (medium.moment k.disk + 4) (length rows + length r) ∷ marks_for (medium.moment k.disk + 4) y (n ∷ ss))) held;
         images = λ st u c le lt. elim (x.images (shown st) u c (omega (arith, le, t.moved)) lt) [
           | inl was ↦ elim (t.images rows st u c le was) [ inl o ↦ inl o | inr y ↦ inr (elim y [ inl o ↦ inl o | inr z ↦ inr (tt, has_some settings (3 ≤ x.failed) (rows ++ stored_rows settings r) (n ∷ ss) c z.1) ]) ]

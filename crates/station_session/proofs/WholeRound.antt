@@ -1,5 +1,5 @@
 -- What a round's attempts come to.
-use Rattle.std.proofs.Common.{◌≡◌, ℕ, ◌+◌, ◌<◌, ◌≤◌, Bool, false, inl, List, [], ◌∷◌, ◌++◌, length, refl, sym, ◌∙◌, ap, subst, arith, length-append, Option}
+use Rattle.std.proofs.Common.{◌≡◌, ℕ, ◌+◌, ◌<◌, ◌≤◌, Bool, false, inl, List, [], ◌++◌, length, refl, sym, ◌∙◌, ap, subst, arith, Option}
 use Rattle.disk_model.specs.Disk.{Begins, Faults}
 use Rattle.serial_link.specs.Traffic.{Traffic}
 use Rattle.disk_model.specs.Medium.{Medium}
@@ -13,7 +13,7 @@ use Rattle.weather_book.specs.Book.{StandsFor, IsSameBook, len_of, last_of, most
 use Rattle.weather_book.specs.Rising.{last_stamp}
 use Rattle.weather_book.specs.Stands.{StandsOn}
 use Rattle.causes.specs.declared.stored.Stored.{Stored}
-use Rattle.causes.specs.declared.stored.Stored.TheVariants.{Done, Full, Stale, DiskFault}
+use Rattle.causes.specs.declared.stored.Stored.TheVariants.{Done}
 use Rattle.dmpaft_driver.specs.declared.outcome.Tally.{Tally}
 use Rattle.dmpaft_driver.specs.Keeper.{Delivery}
 use Rattle.station_session.specs.declared.report.Mark.{Mark}
@@ -22,25 +22,19 @@ use Rattle.station_session.specs.declared.round_end.RoundEnd.{RoundEnd}
 use Rattle.station_session.specs.declared.round_end.RoundEnd.TheVariants as round
 use Rattle.station_session.specs.declared.session.Session.{Session}
 use Rattle.station_session.specs.Attempts.{Attempts, EndsBefore, all_batches, kept_total}
-use Rattle.station_session.specs.Batches.{kept_of, kept_records, last_answer, Fit, stale_after}
-use Rattle.station_session.specs.Report.{rows_marked, mark_for, marks_for, acked, IsNew}
+use Rattle.causes.specs.Stored.{stale_after}
+use Rattle.station_session.specs.Batches.{last_answer, Fit}
+use Rattle.station_session.specs.Report.{rows_marked, marks_for, acked, IsNew}
 use Rattle.station_session.specs.declared.limits.TheConstants.{MOST_BATCHES, MOST_CHANGES}
 use Rattle.station_session.specs.Holding.{Holding, holding, Stores}
-use Rattle.station_session.specs.Round.{IsTally, RoundHost, round_host, Serves, AnswersRound, LeavesRound, answer_by, stale_with}
+use Rattle.station_session.specs.Round.{IsTally, round_host, Serves, answer_by, stale_with}
 use Rattle.station_session.specs.Acknowledged.{AcknowledgedAreMarked}
 use Rattle.station_session.specs.AttemptsMade.{MakesAttempts}
 use Rattle.station_session.proofs.StoredBatches.{InOrder, stores_none, stores_all}
-use Rattle.station_session.proofs.BookAfter.{chain_most, chain_faults, chain_begun, chain_moved, chain_stale, chain_rose}
+use Rattle.station_session.proofs.BookAfter.{chain_most, chain_faults, chain_begun, chain_moved, chain_stale, chain_never_stale, chain_rose}
 use Rattle.station_session.proofs.Marked.{marked_for}
 use Rattle.station_session.proofs.Acknowledging.{acknowledged_are_marked}
-use Rattle.station_session.proofs.Ends.{in_order, last_by, answer_at, never_stale, gave_up_quiets, kept_is, batch_count}
-
--- a book of these rows has this last stamp
-stamp_is : (book : Book) (rows : List Row) → StandsFor book rows → last_of book ≡ last_stamp rows
-stamp_is book rows h = ap (λ (x : List Row). last_stamp x) h
-
-held_is : (book : Book) (rows : List Row) → StandsFor book rows → len_of book ≡ length rows
-held_is book rows h = ap (λ (x : List Row). length x) h
+use Rattle.station_session.proofs.Ends.{in_order, last_by, answer_at, gave_up_quiets, kept_is, batch_count}
 
 answer_is : (end : RoundEnd) → (end ≡ round.Stale → ⊥) → answer_at end ≡ answer_by end
 answer_is round.Done h = refl
@@ -113,7 +107,7 @@ module _ {L D : Type 0} {traffic : Traffic L} {medium : Medium D} where
         (stores_all medium old.settings rows (holding b disk marks) (all_batches (last_of b) made.tries) (holding b' disk' report.marks.items) order made.chain (same.rows rows h) (same.stale ∙ fresh))
 
     pub not_stale : end ≡ round.Stale → ⊥
-    not_stale e = never_stale (most_of old.book) (length old.book.rows.items) (all_batches (last_of b) made.tries) (stores old.book.rows.items refl).fit (last ∙ ap answer_at e)
+    not_stale e = chain_never_stale medium old.settings (holding b disk marks) (all_batches (last_of b) made.tries) (holding b' disk' report.marks.items) order (same.stale ∙ fresh) (last ∙ ap answer_at e) made.chain
 
     -- what is said of a round, by the stamp that it began after
     record Served (rows : List Row) (stamp : Option CivilMinute) : Type 0 where
@@ -126,7 +120,7 @@ module _ {L D : Type 0} {traffic : Traffic L} {medium : Medium D} where
 
     served : (rows : List Row) → StandsFor old.book rows → report.rows_before ≡ len_of old.book → Served rows (last_of b)
     served rows h before =
-        let count : report.rows_before ≡ length rows = before ∙ held_is old.book rows h in
+        let count : report.rows_before ≡ length rows = before ∙ h.held_is in
         record {
           attempts = made.attempts;
           stores = stores rows h;
@@ -144,7 +138,7 @@ module _ {L D : Type 0} {traffic : Traffic L} {medium : Medium D} where
     pub serves : (settings : StationSettings) (rows : List Row) → StandsFor old.book rows → report.rows_before ≡ len_of old.book
         → Serves traffic medium rows end (round_host old link disk) (round_host (record { book = b'; settings = settings }) link' disk') report
     serves settings rows h before =
-        let s = subst (λ (x : Option CivilMinute). Served rows x) (stamp_is b rows (same.rows rows h)) (served rows h before) in
+        let s = subst (λ (x : Option CivilMinute). Served rows x) (same.rows rows h).stamp_is (served rows h before) in
         record {
           tries = made.tries;
           attempts = s.attempts;

@@ -17,7 +17,8 @@ use Rattle.station_session.specs.OneBatch.{AddsBatch, Chain}
 
 -- An attempt was made after the book's last stamp, its batches were given to the book, and its pages were tallied.
 pub record MakesAttempt {L D : Type 0} (traffic : Traffic L) (medium : Medium D)
-    (settings : StationSettings) (end : DumpEnd) (old : Holding D) (link : L) (tally : Tally) (new : Holding D) (link' : L) (tally' : Tally) : Type 0 where
+    (settings : StationSettings) (end : DumpEnd) (old : Holding D) (link : L) (tally : Tally)
+    (new : Holding D) (link' : L) (tally' : Tally) : Type 0 where
   pub tried : Tried
   pub ended : tried.end ≡ end
   pub attempt : IsTried (last_of old.book) tried
@@ -29,7 +30,8 @@ pub record MakesAttempt {L D : Type 0} (traffic : Traffic L) (medium : Medium D)
 
 -- A round's attempts were made, and their batches were given to the book.
 pub record MakesAttempts {L D : Type 0} (traffic : Traffic L) (medium : Medium D)
-    (settings : StationSettings) (end : RoundEnd) (old : Holding D) (link : L) (new : Holding D) (link' : L) (made : ℕ) (tally : Tally) : Type 0 where
+    (settings : StationSettings) (end : RoundEnd) (old : Holding D) (link : L) (new : Holding D) (link' : L)
+    (made : ℕ) (tally : Tally) : Type 0 where
   pub tries : List Tried
   pub attempts : Attempts 0 (last_of old.book) tries end
   pub adds : Adds traffic link (all_said tries) link'

@@ -21,14 +21,20 @@ pub same_none : {D : Type 0} (k : BookKeeper D) → IsSameKeeper k k
 same_none k = record { settings = refl; book = refl; disk = refl; marks = refl }
 
 pub same_joins : {D : Type 0} (k l m : BookKeeper D) → IsSameKeeper k l → IsSameKeeper l m → IsSameKeeper k m
-same_joins k l m one two = record { settings = two.settings ∙ one.settings; book = two.book ∙ one.book; disk = two.disk ∙ one.disk; marks = two.marks ∙ one.marks }
+same_joins k l m one two = record {
+  settings = two.settings ∙ one.settings;
+  book = two.book ∙ one.book;
+  disk = two.disk ∙ one.disk;
+  marks = two.marks ∙ one.marks;
+}
 
 -- the book, the disk and the marks
 abbrev pub held_by : {D : Type 0} → BookKeeper D → Holding D
 held_by k = holding k.book.now k.disk.now k.marks.now.items
 
 -- batches were given one after another
-pub record GivenInTurn {D : Type 0} (medium : Medium D) (k : BookKeeper D) (steps : List Delivery) (l : BookKeeper D) : Type 0 where
+pub record GivenInTurn {D : Type 0} (medium : Medium D) (k : BookKeeper D) (steps : List Delivery) (l : BookKeeper D)
+    : Type 0 where
   pub chain : Chain (AddsBatch medium k.settings.now) (held_by k) steps (held_by l)
   pub same : IsSameKeeper k l
 

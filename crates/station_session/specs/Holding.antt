@@ -31,8 +31,8 @@ holding book disk marks = record { book = book; disk = disk; marks = marks }
 abbrev pub rows_with : StationSettings → List Row → List Delivery → List Row
 rows_with settings rows steps = rows ++ stored_rows settings (kept_records steps)
 
--- A book of these rows was given these batches, and answered each of them so: the rows of those that were kept are its rows then, in
--- order and behind the old ones.
+-- A book of these rows was given these batches, and answered each of them so: the rows of those that were kept are its
+-- rows then, in order and behind the old ones.
 pub record Stores {D : Type 0} (medium : Medium D)
     (settings : StationSettings) (rows : List Row) (steps : List Delivery) (old new : Holding D) : Type 0 where
   pub fit : Fit (most_of old.book) (length rows) steps
@@ -43,13 +43,18 @@ pub record Stores {D : Type 0} (medium : Medium D)
   pub moved : medium.moment new.disk ≡ medium.moment old.disk + (4 * kept_count steps + failed)
   pub went_on : medium.went old.disk (changes_for settings failed rows steps) new.disk
   pub noted : new.marks ≡ old.marks ++ marks_for (medium.moment old.disk) (length rows) steps
-  -- a crash leaves the rows of a whole number of batches, and of one that met a disk fault only where its third change was begun
-  pub images : StandsOn medium old.book old.disk rows → LeavesOnly medium (HasWhole settings (3 ≤ failed) rows steps) old.disk new.disk
+  -- a crash leaves the rows of a whole number of batches, and of one that met a disk fault only where its third change
+  -- was begun
+  pub images : StandsOn medium old.book old.disk rows
+      → LeavesOnly medium (HasWhole settings (3 ≤ failed) rows steps) old.disk new.disk
   -- after a disk fault the gate behind the rows tells which of the two a crash now leaves
   pub gate : last_answer steps ≡ stored.DiskFault → StandsOn medium old.book old.disk rows
       → ByGate medium (3 ≤ failed) (176 * (slot_total (rows_with settings rows steps) + 1))
       (HasRows (rows_with settings rows steps)) (HasRows (rows ++ stored_rows settings (all_records steps))) new.disk
-  pub marked : StandsOn medium old.book old.disk rows → IsMarked medium old.disk rows old.marks → IsMarked medium new.disk (rows_with settings rows steps) new.marks
-  pub stands : last_answer steps ≢ stored.DiskFault → StandsOn medium old.book old.disk rows → StandsOn medium new.book new.disk (rows_with settings rows steps)
+  pub marked : StandsOn medium old.book old.disk rows → IsMarked medium old.disk rows old.marks
+      → IsMarked medium new.disk (rows_with settings rows steps) new.marks
+  pub stands : last_answer steps ≢ stored.DiskFault → StandsOn medium old.book old.disk rows
+      → StandsOn medium new.book new.disk (rows_with settings rows steps)
   -- after a disk fault the rows can still be read
-  pub still : last_answer steps ≡ stored.DiskFault → StandsOn medium old.book old.disk rows → StandsToReadOn medium new.book new.disk (rows_with settings rows steps)
+  pub still : last_answer steps ≡ stored.DiskFault → StandsOn medium old.book old.disk rows
+      → StandsToReadOn medium new.book new.disk (rows_with settings rows steps)

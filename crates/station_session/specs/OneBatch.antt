@@ -13,7 +13,8 @@ use Rattle.causes.specs.declared.stored.Stored.{Stored}
 use Rattle.causes.specs.declared.stored.Stored.TheVariants as stored
 use Rattle.dmpaft_driver.specs.Keeper.{Delivery, last_after}
 use Rattle.station_session.specs.Records.{stored_rows}
-use Rattle.station_session.specs.Batches.{kept_of, Fits, IsBegun, begun_for, batch_changes, stale_after}
+use Rattle.causes.specs.Stored.{stale_after}
+use Rattle.station_session.specs.Batches.{kept_of, Fits, IsBegun, begun_for, batch_changes, slots_more}
 use Rattle.station_session.specs.Images.{MayStand}
 use Rattle.station_session.specs.Report.{mark_for}
 use Rattle.station_session.specs.Holding.{Holding}
@@ -33,27 +34,35 @@ pub record AddsBatch {D : Type 0} (medium : Medium D)
   pub stale : is_stale new.book ≡ stale_after s.answer (is_stale old.book)
   pub most : most_of new.book ≡ most_of old.book
   pub cause : Faults medium old.disk new.disk (s.answer ≡ stored.DiskFault)
-  pub rows : (rows : List Row) → StandsFor old.book rows → StandsFor new.book (rows ++ stored_rows settings (kept_of s.answer s.rows))
+  pub rows : (rows : List Row) → StandsFor old.book rows
+      → StandsFor new.book (rows ++ stored_rows settings (kept_of s.answer s.rows))
   pub count : length (stored_rows settings (kept_of s.answer s.rows)) ≡ length (kept_of s.answer s.rows)
   pub failed : ℕ
   pub begun : IsBegun s.answer failed
   pub moved : medium.moment new.disk ≡ medium.moment old.disk + begun_for s.answer failed
-  pub went_on : (rows : List Row) → StandsFor old.book rows → medium.went old.disk (batch_changes s.answer failed (slot_total rows) (length s.rows)) new.disk
+  pub went_on : (rows : List Row) → StandsFor old.book rows
+      → medium.went old.disk
+      (batch_changes s.answer failed (slot_total rows) (slots_more rows (stored_rows settings s.rows))) new.disk
   pub noted : new.marks ≡ old.marks ++ mark_for s.answer (medium.moment new.disk) (len_of old.book + length s.rows)
   pub images : (rows : List Row) → StandsOn medium old.book old.disk rows
-      → LeavesOnly medium (RowsOldOrAll rows (stored_rows settings s.rows) (MayStand s.answer (3 ≤ failed))) old.disk new.disk
+      → LeavesOnly medium (RowsOldOrAll rows (stored_rows settings s.rows) (MayStand s.answer (3 ≤ failed)))
+      old.disk new.disk
   pub gate : s.answer ≡ stored.DiskFault → (rows : List Row) → StandsOn medium old.book old.disk rows
-      → ByGate medium (3 ≤ failed) (176 * (slot_total rows + 1)) (HasRows rows) (HasRows (rows ++ stored_rows settings s.rows)) new.disk
-  pub now : s.answer ≡ stored.Done → (rows : List Row) → StandsOn medium old.book old.disk rows → NowHasRows medium new.disk (rows ++ stored_rows settings s.rows)
+      → ByGate medium (3 ≤ failed) (176 * (slot_total rows + 1)) (HasRows rows)
+      (HasRows (rows ++ stored_rows settings s.rows)) new.disk
+  pub now : s.answer ≡ stored.Done → (rows : List Row) → StandsOn medium old.book old.disk rows
+      → NowHasRows medium new.disk (rows ++ stored_rows settings s.rows)
   pub stands : s.answer ≢ stored.DiskFault → (rows : List Row) → StandsOn medium old.book old.disk rows
       → StandsOn medium new.book new.disk (rows ++ stored_rows settings (kept_of s.answer s.rows))
-  pub still : s.answer ≡ stored.DiskFault → (rows : List Row) → StandsOn medium old.book old.disk rows → StandsToReadOn medium new.book new.disk rows
+  pub still : s.answer ≡ stored.DiskFault → (rows : List Row) → StandsOn medium old.book old.disk rows
+      → StandsToReadOn medium new.book new.disk rows
 
 -- one became the other by these batches, one after another
 abbrev pub Chain : {K : Type 0} → (K → Delivery → K → Type 0) → K → List Delivery → K → Type 0
 Chain one k [] l = l ≡ k
 Chain one k (s ∷ ss) l = (m : _) × one k s m × Chain one m ss l
 
-pub chain_joins : {K : Type 0} (one : K → Delivery → K → Type 0) (k l m : K) (first later : List Delivery) → Chain one k first l → Chain one l later m → Chain one k (first ++ later) m
+pub chain_joins : {K : Type 0} (one : K → Delivery → K → Type 0) (k l m : K) (first later : List Delivery)
+    → Chain one k first l → Chain one l later m → Chain one k (first ++ later) m
 chain_joins one k l m [] later x y = subst (λ (z : _). Chain one z later m) x y
 chain_joins one k l m (s ∷ first) later x y = (x.0, x.1, chain_joins one x.0 l m first later x.2 y)

@@ -1,5 +1,5 @@
 -- What a round takes of the slots that its attempts read.
-use Rattle.std.specs.Prelude.{◌≡◌, ℕ, List, [], ◌∷◌, ◌++◌}
+use Rattle.std.specs.Prelude.{ℕ, List, [], ◌∷◌, ◌++◌}
 use Rattle.dmpaft_driver.specs.Batch.{all_slots}
 use Rattle.station_session.specs.Attempts.{Tried}
 

@@ -11,7 +11,7 @@ use archive_record::Rec52;
 use disk_model::Disk;
 use dmpaft_driver::{Keeper, Kept};
 use settings_file::Settings;
-use weather_book::{Added, Book};
+use weather_book::Book;
 
 // A book that keeps the records of a dump: each batch is corrected and added, and then marked.
 #[derive(Drop)]
@@ -30,7 +30,7 @@ impl<'a, D: Disk> Keeper for BookKeeper<'a, D> {
     fn keep(&mut self, records: &[Rec52]) -> Kept {
         let rows = stored_rows(self.settings, records);
         match self.book.add(self.disk, &rows) {
-            Added::Done => {
+            Kept::Done => {
                 let mark = Mark {
                     moment: self.disk.moment(),
                     rows: self.book.len(),
@@ -38,9 +38,7 @@ impl<'a, D: Disk> Keeper for BookKeeper<'a, D> {
                 note(self.marks, mark);
                 Kept::Done
             }
-            Added::Full => Kept::Full,
-            Added::Stale => Kept::Stale,
-            Added::DiskFault => Kept::DiskFault,
+            refused => refused,
         }
     }
 }
