@@ -32,7 +32,7 @@ Over left k bytes rest (Came.Missed trouble) =
 Over left k bytes rest Came.Floods = (is_page_for k bytes ≡ false) × (is_ahead k bytes ≡ false) × (left ≢ 0) × Flooding 6 rest
 
 -- with these bytes they go on
-record GoesOn (left k : ℕ) (bytes : List ℕ) (rest : List TalkItem) (came : Came) : Type 0 where
+record AskedAgain (left k : ℕ) (bytes : List ℕ) (rest : List TalkItem) (came : Came) : Type 0 where
   pub not_this : is_page_for k bytes ≡ false
   pub not_ahead : is_ahead k bytes ≡ false
   pub s : List TalkItem
@@ -47,7 +47,7 @@ record First (left k b : ℕ) (talk : List TalkItem) (came : Came) : Type 0 wher
   pub rest : List TalkItem
   pub is : talk ≡ Said b true ∷ t ++ rest
   pub awaits : Awaits 3 267 t
-  pub how : Over left k (heard t) rest came ⊎ GoesOn left k (heard t) rest came
+  pub how : Over left k (heard t) rest came ⊎ AskedAgain left k (heard t) rest came
 
 unroll : (left k b : ℕ) (talk : List TalkItem) (came : Came) → Askings (suc left) k b talk came → First left k b talk came
 unroll left k b talk (Came.Page got) (t, rest, e, w, inl x) = record { t = t; rest = rest; is = e; awaits = w; how = inl x }
@@ -95,7 +95,7 @@ over_once left k bytes r1 r2 a c Came.Floods (Came.Missed u) x (g, inl y) e = ab
 over_once left k bytes r1 r2 a c Came.Floods (Came.Missed u) x (g, inr y) e = absurd (x.2 y.1)
 over_once left k bytes r1 r2 a c Came.Floods Came.Floods x y e = (refl, one_flood 6 (omega arith) r1 r2 a c x.3 y.3 e)
 
-over_not_on : (left k : ℕ) (bytes : List ℕ) (r1 r2 a c : List TalkItem) (p q : Came) → Over left k bytes r1 p → GoesOn left k bytes r2 q → r1 ++ a ≡ r2 ++ c → ⊥
+over_not_on : (left k : ℕ) (bytes : List ℕ) (r1 r2 a c : List TalkItem) (p q : Came) → Over left k bytes r1 p → AskedAgain left k bytes r2 q → r1 ++ a ≡ r2 ++ c → ⊥
 over_not_on left k bytes r1 r2 a c (Came.Page g) q x y e = clash _ x.0 y.not_this
 over_not_on left k bytes r1 r2 a c (Came.Missed t) q (f, inl x) y e = clash _ x.0 y.not_ahead
 over_not_on left k bytes r1 r2 a c (Came.Missed t) q (f, inr x) y e = none_left k (next_said k bytes) y.more q (subst (λ n. Askings n k (next_said k bytes) y.more q) x.1 y.later)
@@ -110,7 +110,7 @@ one_askings (suc left) k b x y a c p q f g e =
     let v = unroll left k b y q g in
     let first = one_answer 3 267 (omega arith) u.t v.t (u.rest ++ a) (v.rest ++ c) u.awaits v.awaits (behind_first (Said b true) x y u.t v.t u.rest v.rest a c u.is v.is e) in
     let bytes = heard v.t in
-    let how : Over left k bytes u.rest p ⊎ GoesOn left k bytes u.rest p = subst (λ (z : List TalkItem). Over left k (heard z) u.rest p ⊎ GoesOn left k (heard z) u.rest p) first.0 u.how in
+    let how : Over left k bytes u.rest p ⊎ AskedAgain left k bytes u.rest p = subst (λ (z : List TalkItem). Over left k (heard z) u.rest p ⊎ AskedAgain left k (heard z) u.rest p) first.0 u.how in
     elim how [
       | inl i ↦ elim v.how [
         | inl j ↦

@@ -16,7 +16,7 @@ use Rattle.dmpaft_driver.proofs.Askings.{Came, begins_saying, one_askings}
 
 -- One attempt is the front of another, with these items behind it: its pages are the first of the other's, at the same
 -- place; they are all of them where nothing is behind it, and where they are and the other was refused, nothing is.
-pub record Goes (place place' : ℕ) (taken taken' : List (List ℕ)) (end end' : End) (behind : List TalkItem) : Type 0 where
+pub record Extends (place place' : ℕ) (taken taken' : List (List ℕ)) (end end' : End) (behind : List TalkItem) : Type 0 where
   pub more : List (List ℕ)
   pub first : taken' ≡ taken ++ more
   pub places : taken ≢ [] → place ≡ place'
@@ -77,7 +77,7 @@ behind_two : (x y t1 r1 t2 r2 a : List TalkItem) → x ≡ t1 ++ r1 → y ≡ t2
 behind_two x y t1 r1 t2 r2 a e f g = sym (append_assoc t1 r1 a) ∙ ap (λ (z : List TalkItem). z ++ a) (sym e) ∙ g ∙ f
 
 -- no page on either side, and the same end
-no_pages : (p q : ℕ) (A B : List (List ℕ)) (e f : End) (a : List TalkItem) → A ≡ [] → B ≡ [] → e ≡ f → (f ≡ End.Refused → ⊥) → Goes p q A B e f a
+no_pages : (p q : ℕ) (A B : List (List ℕ)) (e f : End) (a : List TalkItem) → A ≡ [] → B ≡ [] → e ≡ f → (f ≡ End.Refused → ⊥) → Extends p q A B e f a
 no_pages p q A B e f a none also same other = record {
   more = [];
   first = also ∙ sym (append-nil A ∙ none);
@@ -87,7 +87,7 @@ no_pages p q A B e f a none also same other = record {
 }
 
 -- one page more in front of both
-page_more : (p : ℕ) (A B m1 m2 : List (List ℕ)) (by1 by2 : List ℕ) (e f : End) (a : List TalkItem) → A ≡ by1 ∷ m1 → B ≡ by2 ∷ m2 → by1 ≡ by2 → Goes p p m1 m2 e f a → Goes p p A B e f a
+page_more : (p : ℕ) (A B m1 m2 : List (List ℕ)) (by1 by2 : List ℕ) (e f : End) (a : List TalkItem) → A ≡ by1 ∷ m1 → B ≡ by2 ∷ m2 → by1 ≡ by2 → Extends p p m1 m2 e f a → Extends p p A B e f a
 page_more p A B m1 m2 by1 by2 e f a is are same g = record {
   more = g.more;
   first = are ∙ ap (λ (x : List ℕ). x ∷ m2) (sym same) ∙ ap (λ (x : List (List ℕ)). by1 ∷ x) g.first ∙ ap (λ (x : List (List ℕ)). x ++ g.more) (sym is);
@@ -96,7 +96,7 @@ page_more p A B m1 m2 by1 by2 e f a is are same g = record {
   refused = g.refused;
 }
 
-pub pages_go : (left k p : ℕ) (x y a : List TalkItem) (A B : List (List ℕ)) (e f : End) → Pages left k x A e → Pages left k y B f → x ++ a ≡ y → Goes p p A B e f a
+pub pages_go : (left k p : ℕ) (x y a : List TalkItem) (A B : List (List ℕ)) (e f : End) → Pages left k x A e → Pages left k y B f → x ++ a ≡ y → Extends p p A B e f a
 pages_go zero k p x y a A B e f g h i = record {
   more = [];
   first = h.1 ∙ sym (append-nil A ∙ g.1);
@@ -158,10 +158,10 @@ behind_message said x y t1 r1 t2 r2 a e f g =
     (sym (append_assoc (message said) (t1 ++ r1) a) ∙ ap (λ (z : List TalkItem). z ++ a) (sym e) ∙ g ∙ f)
 
 -- the same place by another name
-at_place : (p q : ℕ) (A B : List (List ℕ)) (e f : End) (a : List TalkItem) → p ≡ q → Goes p p A B e f a → Goes p q A B e f a
-at_place p q A B e f a is g = subst (λ n. Goes p n A B e f a) is g
+at_place : (p q : ℕ) (A B : List (List ℕ)) (e f : End) (a : List TalkItem) → p ≡ q → Extends p p A B e f a → Extends p q A B e f a
+at_place p q A B e f a is g = subst (λ n. Extends p n A B e f a) is g
 
-heads_by : (frame : List ℕ) (x y a : List TalkItem) (p q : ℕ) (A B : List (List ℕ)) (e f : End) → Heads frame x p A e → Heads frame y q B f → x ++ a ≡ y → Goes p q A B e f a
+heads_by : (frame : List ℕ) (x y a : List TalkItem) (p q : ℕ) (A B : List (List ℕ)) (e f : End) → Heads frame x p A e → Heads frame y q B f → x ++ a ≡ y → Extends p q A B e f a
 heads_by frame x y a p q A B e f (t1, r1, e1, w1, how1) (t2, r2, e2, w2, how2) i =
     let first = one_answer 3 7 (omega arith) t1 t2 (r1 ++ a) r2 w1 w2 (behind_message frame x y t1 r1 t2 r2 a e1 e2 i) in
     elim how1 [
@@ -179,7 +179,7 @@ heads_by frame x y a p q A B e f (t1, r1, e1, w1, how1) (t2, r2, e2, w2, how2) i
       ]
     ]
 
-requests_go : (frame : List ℕ) (x y a : List TalkItem) (p q : ℕ) (A B : List (List ℕ)) (e f : End) → Requests frame x p A e → Requests frame y q B f → x ++ a ≡ y → Goes p q A B e f a
+requests_go : (frame : List ℕ) (x y a : List TalkItem) (p q : ℕ) (A B : List (List ℕ)) (e f : End) → Requests frame x p A e → Requests frame y q B f → x ++ a ≡ y → Extends p q A B e f a
 requests_go frame x y a p q A B e f (t1, r1, e1, w1, how1) (t2, r2, e2, w2, how2) i =
     let first = one_answer 3 1 (omega arith) t1 t2 (r1 ++ a) r2 w1 w2 (behind_message dmpaft x y t1 r1 t2 r2 a e1 e2 i) in
     elim how1 [
@@ -197,7 +197,7 @@ clash : (b : Bool) → b ≡ true → b ≡ false → ⊥
 clash b e f = cc
 
 -- the front of an attempt, and the whole
-pub attempt_goes : (frame : List ℕ) (x y a : List TalkItem) (p q : ℕ) (A B : List (List ℕ)) (e f : End) → Attempt frame x p A e → Attempt frame y q B f → x ++ a ≡ y → Goes p q A B e f a
+pub attempt_goes : (frame : List ℕ) (x y a : List TalkItem) (p q : ℕ) (A B : List (List ℕ)) (e f : End) → Attempt frame x p A e → Attempt frame y q B f → x ++ a ≡ y → Extends p q A B e f a
 attempt_goes frame x y a p q A B e f (inl (s1, t1, r1, b1, e1, still1, w1, how1)) (inl (s2, t2, r2, b2, e2, still2, w2, how2)) i =
     let first = one_still 6 (omega arith) s1 s2 ((t1 ++ r1) ++ a) (t2 ++ r2) still1 still2 (behind_two x y s1 (t1 ++ r1) s2 (t2 ++ r2) a e1 e2 i) in
     let woke = one_wake 3 t1 t2 (r1 ++ a) r2 b1 b2 w1 w2 (sym (append_assoc t1 r1 a) ∙ first.1) in
