@@ -6,8 +6,8 @@ use Rattle.causes.specs.Written.{WritesPart}
 use Rattle.station_io.specs.declared.sink.Put.{Put}
 use Rattle.station_io.specs.declared.sink.Put.TheVariants.{Done, Failed}
 
--- What sinks of type S tell: the bytes that were taken, where that is told; how often a write failed, a count that stops
--- at 2 ^ 64 - 1.
+-- What sinks of type S tell: the bytes that were taken, where that is told; how often a write failed, a count that
+-- stops at 2 ^ 64 - 1.
 pub record Outlet (S : Type 0) : Type 1 where
   pub taken : S → Option (List ℕ)
   pub faults : S → ℕ

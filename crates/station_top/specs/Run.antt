@@ -40,7 +40,8 @@ pub record EndsWith {S : Type 0} (outlet : Outlet S) (output : Output) (old new 
   pub ends : Finishes (outlet.taken old) (outlet.taken new) output status
 
 -- no file was touched
-pub record IsUsage {F S : Type 0} (outlet : Outlet S) (old : F) (out : S) (new : F) (out' : S) (result : ℕ) : Type 0 where
+pub record IsUsage {F S : Type 0} (outlet : Outlet S)
+    (old : F) (out : S) (new : F) (out' : S) (result : ℕ) : Type 0 where
   pub untouched : new ≡ old
   pub written : EndsWith outlet (record { text = codes "usage\n"; status = ends.Usage }) out out' result
 
@@ -53,7 +54,7 @@ pub record PrintsFile {F S : Type 0} (shelf : Shelf F) (outlet : Outlet S) (styl
   pub gives : WhereTold (shelf.held old name) (λ file. Gives file answer bytes)
   pub written : EndsWith outlet (output_of style answer bytes) out out' result
 
--- refused settings end the run with their line, and accepted ones correct the rows of the file, which is read after them
+-- refused settings end the run with their line, and accepted ones correct the rows of the file, which is read then
 abbrev pub GoesOn : {F S : Type 0} → Shelf F → Outlet S → Judged → List ℕ → F → S → F → S → ℕ → Type 0
 GoesOn shelf outlet (refused output) name old out new out' result = (new ≡ old) × EndsWith outlet output out out' result
 GoesOn shelf outlet (accepted settings) name old out new out' result =

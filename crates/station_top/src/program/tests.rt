@@ -2,11 +2,11 @@ use super::*;
 use station_io::{MemFile, MemFiles, MemSink};
 use std::alloc::AllocError;
 use std::test::Fail;
-use vantage_frames::{PAGE_SIZE, SLOT_SIZE};
+use vantage_frames::{PAGE_SIZE, RECORD_SIZE};
 
 /// The record of 2024-07-01 00:05 with 65.0 degrees outside, each other field as a console without
 /// that sensor sends it.
-const RECORD: [u8; SLOT_SIZE] = [
+const RECORD: [u8; RECORD_SIZE] = [
     0xE1, 0x30, 0x05, 0x00, 0x8A, 0x02, 0x00, 0x80, 0xFF, 0x7F, 0x00, 0x00, 0x00, 0x00, 0x00, 0x00,
     0xFF, 0x7F, 0x00, 0x00, 0xFF, 0x7F, 0xFF, 0xFF, 0xFF, 0x00, 0xFF, 0xFF, 0xFF, 0x00, 0xFF, 0x7F,
     0xFF, 0xC1, 0xFF, 0xFF, 0xFF, 0xFF, 0xFF, 0xFF, 0xFF, 0xFF, 0x00, 0xFF, 0xFF, 0xFF, 0xFF, 0xFF,
@@ -14,10 +14,10 @@ const RECORD: [u8; SLOT_SIZE] = [
 ];
 
 // The page of sequence 0 with these slots first, the others empty, and this check.
-fn page(slots: &[[u8; SLOT_SIZE]], check: [u8; 2]) -> [u8; PAGE_SIZE] {
+fn page(slots: &[[u8; RECORD_SIZE]], check: [u8; 2]) -> [u8; PAGE_SIZE] {
     let mut page = [0xFF; PAGE_SIZE];
     page[0] = 0;
-    let (places, _) = page[1..].as_chunks_mut::<SLOT_SIZE>();
+    let (places, _) = page[1..].as_chunks_mut::<RECORD_SIZE>();
     for (place, slot) in places.iter_mut().zip(slots) {
         *place = *slot;
     }
@@ -26,7 +26,7 @@ fn page(slots: &[[u8; SLOT_SIZE]], check: [u8; 2]) -> [u8; PAGE_SIZE] {
 }
 
 // The record with two other bytes from an offset on.
-fn changed(at: usize, bytes: [u8; 2]) -> [u8; SLOT_SIZE] {
+fn changed(at: usize, bytes: [u8; 2]) -> [u8; RECORD_SIZE] {
     let mut record = RECORD;
     for (place, byte) in record.iter_mut().skip(at).zip(bytes) {
         *place = byte;
