@@ -29,14 +29,18 @@ shown_by : (bytes : List ℕ) → slice_index bytes 5 < 256 → can_be_shown (ti
 shown_by bytes below = rw (is_from (slice_index bytes 5), is_to (slice_index bytes 5) below) refl
 
 -- bytes that show a second of the calendar
-pub clock_good : (bytes : List ℕ) (time : ClockTime) (b : Bool) → length bytes ≡ 6 → slice_index bytes 5 < 256 → time ≡ time_shown bytes → b ≡ can_be_shown time → b ≡ true
+pub clock_good : (bytes : List ℕ) (time : ClockTime) (b : Bool) → length bytes ≡ 6 → slice_index bytes 5 < 256
+    → time ≡ time_shown bytes → b ≡ can_be_shown time → b ≡ true
     → (clock_bytes time ≡ bytes) × (judge_clock bytes ≡ task_end.Done)
 clock_good bytes time b l below e c t = (
   ap clock_bytes e ∙ clock_again bytes l,
-  take_this (is_civil_second (time_shown bytes)) task_end.Done task_end.BadValue (sym (shown_by bytes below) ∙ sym (ap can_be_shown e) ∙ sym c ∙ t),
+  take_this (is_civil_second (time_shown bytes)) task_end.Done task_end.BadValue
+      (sym (shown_by bytes below) ∙ sym (ap can_be_shown e) ∙ sym c ∙ t),
 )
 
 -- bytes that show none
-pub clock_bad : (bytes : List ℕ) (time : ClockTime) (b : Bool) → slice_index bytes 5 < 256 → time ≡ time_shown bytes → b ≡ can_be_shown time → b ≡ false → judge_clock bytes ≡ task_end.BadValue
+pub clock_bad : (bytes : List ℕ) (time : ClockTime) (b : Bool) → slice_index bytes 5 < 256 → time ≡ time_shown bytes
+    → b ≡ can_be_shown time → b ≡ false → judge_clock bytes ≡ task_end.BadValue
 clock_bad bytes time b below e c t =
-    take_that (is_civil_second (time_shown bytes)) task_end.Done task_end.BadValue (sym (shown_by bytes below) ∙ sym (ap can_be_shown e) ∙ sym c ∙ t)
+    take_that (is_civil_second (time_shown bytes)) task_end.Done task_end.BadValue
+    (sym (shown_by bytes below) ∙ sym (ap can_be_shown e) ∙ sym c ∙ t)

@@ -1,5 +1,6 @@
 -- A task from its front: whatever completes it from here completes the whole.
-use Rattle.std.proofs.Common.{◌≡◌, ◌≢◌, ℕ, ◌&&◌, nat_lt, Bool, true, false, List, [], ◌∷◌, ◌++◌, length, refl, sym, ◌∙◌, ap, subst, inl, inr, arith, append_assoc, append-nil, Ok, Err}
+use Rattle.std.proofs.Common.{◌≡◌, ◌≢◌, ℕ, ◌&&◌, nat_lt, Bool, true, false, List, [], ◌∷◌, ◌++◌, length, refl, sym, ◌∙◌, ap}
+use Rattle.std.proofs.Common.{subst, inl, inr, arith, append_assoc, append-nil, Ok, Err}
 use Rattle.std.proofs.lemmas.Bool.{lt-ltb, le-ltb}
 use Rattle.std.specs.declared.result.Result.{Result}
 use Rattle.serial_link.specs.declared.talk.TalkItem.{TalkItem}
@@ -19,26 +20,39 @@ use Rattle.console_tasks.proofs.Troubles.{IsTrouble, not_done, short_trouble}
 
 -- after s and its answers, whatever completes the one grammar completes the other
 pub record On (Talk Before : Grammar) (first : List (List ℕ)) (s : List TalkItem) : Type 0 where
-  pub on : (rest : List TalkItem) (answers : List (List ℕ)) (end : TaskEnd) → Before rest answers end → Talk (s ++ rest) (first ++ answers) end
+  pub on : (rest : List TalkItem) (answers : List (List ℕ)) (end : TaskEnd) → Before rest answers end
+      → Talk (s ++ rest) (first ++ answers) end
 
 -- one after the other
 pub on_then : {A B C : Grammar} {f g : List (List ℕ)} {s t : List TalkItem} → On A B f s → On B C g t → On A C (f ++ g) (s ++ t)
 on_then {A} {B} {C} {f} {g} {s} {t} one two = record {
   on = λ rest answers end k.
       subst (λ (x : List (List ℕ)). A ((s ++ t) ++ rest) x end) (sym (append_assoc f g answers))
-      (subst (λ (x : List TalkItem). A x (f ++ (g ++ answers)) end) (sym (append_assoc s t rest)) (one.on (t ++ rest) (g ++ answers) end (two.on rest answers end k)));
+      (subst (λ (x : List TalkItem). A x (f ++ (g ++ answers)) end) (sym (append_assoc s t rest))
+      (one.on (t ++ rest) (g ++ answers) end (two.on rest answers end k)));
 }
 
-cut_on : {A B : Grammar} {f : List (List ℕ)} {s : List TalkItem} → On A B f s → (t : List TalkItem) → IsCutTalk B t → IsCutTalk A (s ++ t)
+cut_on : {A B : Grammar} {f : List (List ℕ)} {s : List TalkItem} → On A B f s → (t : List TalkItem) → IsCutTalk B t
+    → IsCutTalk A (s ++ t)
 cut_on {A} {B} {f} {s} on t k =
-    let l = k.2 in
-    (k.0, k.1, (f ++ l.0, l.1, subst (λ (x : List TalkItem). A x (f ++ l.0) l.1) (sym (append_assoc s t k.0)) (on.on (t ++ k.0) l.0 l.1 l.2)))
+    let l = k.2 in (
+      k.0,
+      k.1,
+      (
+        f ++ l.0,
+        l.1,
+        subst (λ (x : List TalkItem). A x (f ++ l.0) l.1) (sym (append_assoc s t k.0))
+            (on.on (t ++ k.0) l.0 l.1 l.2),
+      ),
+    )
 
-end_on : {A B : Grammar} {f : List (List ℕ)} {s : List TalkItem} → On A B f s → (end : TaskEnd) (t : List TalkItem) → HasEnd B end t → HasEnd A end (s ++ t)
+end_on : {A B : Grammar} {f : List (List ℕ)} {s : List TalkItem} → On A B f s → (end : TaskEnd) (t : List TalkItem)
+    → HasEnd B end t → HasEnd A end (s ++ t)
 end_on {A} {B} {f} {s} on end t k = (f ++ k.0, on.on t k.0 end k.1)
 
 -- what fails behind it fails so as a whole
-pub fails_on : {A B : Grammar} {f : List (List ℕ)} {s : List TalkItem} → On A B f s → (end : TaskEnd) (t : List TalkItem) → Fails B end t → Fails A end (s ++ t)
+pub fails_on : {A B : Grammar} {f : List (List ℕ)} {s : List TalkItem} → On A B f s → (end : TaskEnd) (t : List TalkItem)
+    → Fails B end t → Fails A end (s ++ t)
 fails_on on task_end.Done t k = k
 fails_on on task_end.Asleep t k = end_on on task_end.Asleep t k
 fails_on on (task_end.Refused b) t k = end_on on (task_end.Refused b) t k
@@ -51,13 +65,15 @@ fails_on on task_end.LinkFault t k = cut_on on t k
 fails_on on task_end.OutOfMemory t k = cut_on on t k
 
 -- what finishes behind it finishes the whole
-pub finishes_on : {T : Type 0} {A B : Grammar} {f : List (List ℕ)} {s : List TalkItem} → On A B f s → (answers : T → List (List ℕ)) (r : Result T TaskEnd) (t : List TalkItem)
+pub finishes_on : {T : Type 0} {A B : Grammar} {f : List (List ℕ)} {s : List TalkItem} → On A B f s
+    → (answers : T → List (List ℕ)) (r : Result T TaskEnd) (t : List TalkItem)
     → Completes B answers r t → Completes A (λ given. f ++ answers given) r (s ++ t)
 finishes_on {T} {A} {B} {f} {s} on answers (Ok given) t k = on.on t (answers given) task_end.Done k
 finishes_on on answers (Err end) t k = fails_on on end t k
 
 -- a talk that ends so, by a trouble
-pub fails_so : (Talk : Grammar) (answers : List (List ℕ)) (end : TaskEnd) (t : List TalkItem) → IsTrouble end → Talk t answers end → Fails Talk end t
+pub fails_so : (Talk : Grammar) (answers : List (List ℕ)) (end : TaskEnd) (t : List TalkItem) → IsTrouble end
+    → Talk t answers end → Fails Talk end t
 fails_so Talk answers task_end.Done t trouble k = trouble
 fails_so Talk answers task_end.Asleep t trouble k = (answers, k)
 fails_so Talk answers (task_end.Refused b) t trouble k = (answers, k)
@@ -78,18 +94,28 @@ end_short : (r s : Bool) (answer : List ℕ) (whole : TaskEnd) → s ≡ true �
 end_short r s answer whole e = subst (λ (x : Bool). IsTrouble (end_by r x answer whole)) (sym e) (short_trouble r answer whole)
 
 -- an exchange whose answer has trouble ends the task
-pub answer_ends : (x : Exchange) (more : List Exchange) (t u : List TalkItem) (end : TaskEnd) → t ≡ message x.said ++ u → Awaits (quiets_for x.begins) x.size u
+pub answer_ends : (x : Exchange) (more : List Exchange) (t u : List TalkItem) (end : TaskEnd) → t ≡ message x.said ++ u
+    → Awaits (quiets_for x.begins) x.size u
     → shows x (heard u) ≡ end → IsTrouble end → Exchanges (x ∷ more) t [] end
-answer_ends x more t u end e w s trouble =
-    (u, [], e ∙ ap (λ (y : List TalkItem). message x.said ++ y) (sym (append-nil u)), w, inr ((λ d. not_done end trouble (sym s ∙ d)), refl, refl, sym s))
+answer_ends x more t u end e w s trouble = (
+  u,
+  [],
+  e ∙ ap (λ (y : List TalkItem). message x.said ++ y) (sym (append-nil u)),
+  w,
+  inr
+      ((λ d. not_done end trouble (sym s ∙ d)), refl, refl, sym s),
+)
 
 -- the task fails so
-pub answer_fails : (x : Exchange) (more : List Exchange) (t u : List TalkItem) (end : TaskEnd) → t ≡ message x.said ++ u → Awaits (quiets_for x.begins) x.size u
+pub answer_fails : (x : Exchange) (more : List Exchange) (t u : List TalkItem) (end : TaskEnd) → t ≡ message x.said ++ u
+    → Awaits (quiets_for x.begins) x.size u
     → shows x (heard u) ≡ end → IsTrouble end → Fails (Exchanges (x ∷ more)) end t
-answer_fails x more t u end e w s trouble = fails_so (Exchanges (x ∷ more)) [] end t trouble (answer_ends x more t u end e w s trouble)
+answer_fails x more t u end e w s trouble =
+    fails_so (Exchanges (x ∷ more)) [] end t trouble (answer_ends x more t u end e w s trouble)
 
 -- one whose answer has none goes on
-pub answer_on : (x : Exchange) (more : List Exchange) (t u : List TalkItem) (answer : List ℕ) → t ≡ message x.said ++ u → Awaits (quiets_for x.begins) x.size u
+pub answer_on : (x : Exchange) (more : List Exchange) (t u : List TalkItem) (answer : List ℕ) → t ≡ message x.said ++ u
+    → Awaits (quiets_for x.begins) x.size u
     → heard u ≡ answer → shows x answer ≡ task_end.Done → On (Exchanges (x ∷ more)) (Exchanges more) (answer ∷ []) t
 answer_on x more t u answer e w h s = record {
   on = λ rest answers end k. (
@@ -102,11 +128,13 @@ answer_on x more t u answer e w h s = record {
 }
 
 -- a short answer ends the task
-pub short_ends : (x : Exchange) (more : List Exchange) (t u : List TalkItem) → t ≡ message x.said ++ u → FallsShort (quiets_for x.begins) x.size u
+pub short_ends : (x : Exchange) (more : List Exchange) (t u : List TalkItem) → t ≡ message x.said ++ u
+    → FallsShort (quiets_for x.begins) x.size u
     → Exchanges (x ∷ more) t [] (shows x (heard u))
 short_ends x more t u e short =
     answer_ends x more t u (shows x (heard u)) e (inr short) refl
-    (end_short (x.begins && is_refusal (heard u)) (nat_lt (length (heard u)) x.size) (heard u) (x.judge (heard u)) (lt-ltb (length (heard u)) x.size short.1))
+    (end_short (x.begins && is_refusal (heard u)) (nat_lt (length (heard u)) x.size) (heard u) (x.judge (heard u))
+    (lt-ltb (length (heard u)) x.size short.1))
 
 -- the exchanges might end in silence
 silent_exchanges : (xs : List Exchange) → Awaiting xs → (t : List TalkItem) × (end : TaskEnd) × Exchanges xs t [] end
@@ -120,14 +148,18 @@ silent_exchanges (x ∷ more) a =
     )
 
 -- a start that is done
-pub start_on : (xs : List Exchange) (done : Unit {0}) (t : List TalkItem) → Starts (Ok done) t → On (TaskTalk xs) (Exchanges xs) [] t
+pub start_on : (xs : List Exchange) (done : Unit {0}) (t : List TalkItem) → Starts (Ok done) t
+    → On (TaskTalk xs) (Exchanges xs) [] t
 start_on xs done t k = record {
-  on = λ rest answers end x. inl (k.0, k.1, rest, true, ap (λ (y : List TalkItem). y ++ rest) k.2 ∙ append_assoc k.0 k.1 rest, k.3, k.4, inl (refl, x));
+  on = λ rest answers end x. inl
+      (k.0, k.1, rest, true, ap (λ (y : List TalkItem). y ++ rest) k.2 ∙ append_assoc k.0 k.1 rest, k.3, k.4, inl (refl, x));
 }
 
 -- one that finds the console asleep
-pub start_asleep : (xs : List Exchange) (s w : List TalkItem) → Still 6 s → Wakes 3 w false → TaskTalk xs (s ++ w) [] task_end.Asleep
-start_asleep xs s w still woke = inl (s, w, [], false, ap (λ (y : List TalkItem). s ++ y) (sym (append-nil w)), still, woke, inr (refl, refl, refl, refl))
+pub start_asleep : (xs : List Exchange) (s w : List TalkItem) → Still 6 s → Wakes 3 w false
+    → TaskTalk xs (s ++ w) [] task_end.Asleep
+start_asleep xs s w still woke =
+    inl (s, w, [], false, ap (λ (y : List TalkItem). s ++ y) (sym (append-nil w)), still, woke, inr (refl, refl, refl, refl))
 
 -- one that is cut off in its settling
 pub start_cut : (xs : List Exchange) (t : List TalkItem) → IsCutSettling 6 t → IsCutTalk (TaskTalk xs) t
@@ -135,12 +167,26 @@ start_cut xs t k =
     let w = silent_wakes 3 in (
       k.0 ++ w.0,
       some_first k.0 w.0 k.1,
-      ([], task_end.Asleep, subst (λ (y : List TalkItem). TaskTalk xs y [] task_end.Asleep) (append_assoc t k.0 w.0) (start_asleep xs (t ++ k.0) w.0 k.2 w.1)),
+      (
+        [],
+        task_end.Asleep,
+        subst (λ (y : List TalkItem). TaskTalk xs y [] task_end.Asleep) (append_assoc t k.0 w.0)
+            (start_asleep xs (t ++ k.0) w.0 k.2 w.1),
+      ),
     )
 
-cut_wake : (xs : List Exchange) (s w rest : List TalkItem) → Awaiting xs → Still 6 s → rest ≢ [] → (awake : Bool) → Wakes 3 (w ++ rest) awake → IsCutTalk (TaskTalk xs) (s ++ w)
-cut_wake xs s w rest a still some false k =
-    (rest, some, ([], task_end.Asleep, subst (λ (y : List TalkItem). TaskTalk xs y [] task_end.Asleep) (sym (append_assoc s w rest)) (start_asleep xs s (w ++ rest) still k)))
+cut_wake : (xs : List Exchange) (s w rest : List TalkItem) → Awaiting xs → Still 6 s → rest ≢ [] → (awake : Bool)
+    → Wakes 3 (w ++ rest) awake → IsCutTalk (TaskTalk xs) (s ++ w)
+cut_wake xs s w rest a still some false k = (
+  rest,
+  some,
+  (
+    [],
+    task_end.Asleep,
+    subst (λ (y : List TalkItem). TaskTalk xs y [] task_end.Asleep)
+        (sym (append_assoc s w rest)) (start_asleep xs s (w ++ rest) still k),
+  ),
+)
 cut_wake xs s w rest a still some true k =
     let x = silent_exchanges xs a in
     let whole : (s ++ w) ++ (rest ++ x.0) ≡ s ++ ((w ++ rest) ++ x.0) =
@@ -148,28 +194,35 @@ cut_wake xs s w rest a still some true k =
     (rest ++ x.0, some_first rest x.0 some, ([], x.1, inl (s, w ++ rest, x.0, true, whole, still, k, inl (refl, x.2))))
 
 -- one that is cut off in its wake
-pub start_cut_wake : (xs : List Exchange) (s w : List TalkItem) → Awaiting xs → Still 6 s → IsCutWake w → IsCutTalk (TaskTalk xs) (s ++ w)
+pub start_cut_wake : (xs : List Exchange) (s w : List TalkItem) → Awaiting xs → Still 6 s → IsCutWake w
+    → IsCutTalk (TaskTalk xs) (s ++ w)
 start_cut_wake xs s w a still k = cut_wake xs s w k.0 a still k.1 k.2.0 k.2.1
 
 -- a whole answer without refusal shows what it is judged to be
-pub shows_judged : (said answer : List ℕ) (judge : List ℕ → TaskEnd) → is_refusal answer ≡ false → shows (answered said (length answer) judge) answer ≡ judge answer
-shows_judged said answer judge r = end_whole (true && is_refusal answer) (nat_lt (length answer) (length answer)) answer (judge answer) r (le-ltb (length answer) (length answer) (omega arith))
+pub shows_judged : (said answer : List ℕ) (judge : List ℕ → TaskEnd) → is_refusal answer ≡ false
+    → shows (answered said (length answer) judge) answer ≡ judge answer
+shows_judged said answer judge r =
+    end_whole (true && is_refusal answer) (nat_lt (length answer) (length answer)) answer (judge answer) r
+    (le-ltb (length answer) (length answer) (omega arith))
 
 -- an exchange that was answered, and whose answer is well
-pub answered_on : (said answer : List ℕ) (judge : List ℕ → TaskEnd) (more : List Exchange) (t : List TalkItem) → IsAnswered said answer t → judge answer ≡ task_end.Done
+pub answered_on : (said answer : List ℕ) (judge : List ℕ → TaskEnd) (more : List Exchange) (t : List TalkItem)
+    → IsAnswered said answer t → judge answer ≡ task_end.Done
     → On (Exchanges (answered said (length answer) judge ∷ more)) (Exchanges more) (answer ∷ []) t
 answered_on said answer judge more t k well =
     answer_on (answered said (length answer) judge) more t k.0 answer k.1 k.2 k.3 (shows_judged said answer judge k.4 ∙ well)
 
 -- one whose answer is not
-pub answered_ends : (said answer : List ℕ) (judge : List ℕ → TaskEnd) (end : TaskEnd) (t : List TalkItem) → IsAnswered said answer t → judge answer ≡ end → IsTrouble end
+pub answered_ends : (said answer : List ℕ) (judge : List ℕ → TaskEnd) (end : TaskEnd) (t : List TalkItem)
+    → IsAnswered said answer t → judge answer ≡ end → IsTrouble end
     → EndsTask (answered said (length answer) judge) end t
 answered_ends said answer judge end t k bad trouble more =
     let x = answered said (length answer) judge in
     answer_fails x more t k.0 end k.1 k.2 (ap (shows x) k.3 ∙ shows_judged said answer judge k.4 ∙ bad) trouble
 
 -- one that is cut off
-pub asking_cut : (said : List ℕ) (size : ℕ) (judge : List ℕ → TaskEnd) (more : List Exchange) (t : List TalkItem) → IsCutOff (Answered said (FallsShort 3 size)) t
+pub asking_cut : (said : List ℕ) (size : ℕ) (judge : List ℕ → TaskEnd) (more : List Exchange) (t : List TalkItem)
+    → IsCutOff (Answered said (FallsShort 3 size)) t
     → IsCutTalk (Exchanges (answered said size judge ∷ more)) t
 asking_cut said size judge more t k =
     let x = answered said size judge in
@@ -183,4 +236,5 @@ exchanges_end = (refl, refl, refl)
 -- the last exchange is well
 pub on_end : {A : Grammar} {f : List (List ℕ)} {t : List TalkItem} → On A (Exchanges []) f t → A t f task_end.Done
 on_end {A} {f} {t} on =
-    subst (λ (x : List (List ℕ)). A t x task_end.Done) (append-nil f) (subst (λ (x : List TalkItem). A x (f ++ []) task_end.Done) (append-nil t) (on.on [] [] task_end.Done exchanges_end))
+    subst (λ (x : List (List ℕ)). A t x task_end.Done) (append-nil f)
+    (subst (λ (x : List TalkItem). A x (f ++ []) task_end.Done) (append-nil t) (on.on [] [] task_end.Done exchanges_end))

@@ -1,5 +1,6 @@
 -- Packets as they come.
-use Rattle.std.proofs.Common.{◌≡◌, ℕ, suc, ◌+◌, ◌-◌, ◌<◌, nat_lt, Bool, true, false, List, [], ◌∷◌, ◌++◌, length, map, refl, sym, ◌∙◌, ap, subst, inl, inr, arith, Ok, Err}
+use Rattle.std.proofs.Common.{◌≡◌, ℕ, suc, ◌+◌, ◌-◌, ◌<◌, nat_lt, Bool, true, false, List, [], ◌∷◌, ◌++◌, length, map, refl}
+use Rattle.std.proofs.Common.{sym, ◌∙◌, ap, subst, inl, inr, arith, Ok, Err}
 use Rattle.std.specs.Prelude.{MatchResult}
 use Rattle.std.specs.Bool.{Decides}
 use Rattle.std.specs.declared.result.Result.{Result}
@@ -31,11 +32,13 @@ no_of false d n = refl
 -- what reading a packet tells of the test
 packet_true : (bytes : List ℕ) (read : LoopPacket) → Tells bytes (Ok read) → is_packet bytes ≡ true
 packet_true bytes read k =
-    and_from _ _ (and_from _ _ (and_from _ _ ((bytes_eq-Decides _ _).1 k.0) ((Decides-eqb _ _).1 k.1)) ((bytes_eq-Decides _ _).1 k.2)) (good_when bytes k.3)
+    and_from _ _ (and_from _ _ (and_from _ _ ((bytes_eq-Decides _ _).1 k.0) ((Decides-eqb _ _).1 k.1))
+    ((bytes_eq-Decides _ _).1 k.2)) (good_when bytes k.3)
 
 packet_false : (bytes : List ℕ) (fault : LoopFault) → Tells bytes (Err fault) → is_packet bytes ≡ false
 packet_false bytes BadMark k = and_left _ _ (and_left _ _ (and_left _ _ (no_of _ (bytes_eq-Decides _ _) k)))
-packet_false bytes (BadType kind) k = and_left _ _ (and_left _ _ (and_right _ _ (no_of _ (Decides-eqb _ _) (λ e. k.2 (sym k.1 ∙ e)))))
+packet_false bytes (BadType kind) k =
+    and_left _ _ (and_left _ _ (and_right _ _ (no_of _ (Decides-eqb _ _) (λ e. k.2 (sym k.1 ∙ e)))))
 packet_false bytes BadEnd k = and_left _ _ (and_right _ _ (no_of _ (bytes_eq-Decides _ _) k.2))
 packet_false bytes BadCheck k = and_right _ _ (not_good bytes k.3)
 
@@ -47,7 +50,8 @@ packet_bad bytes fault k = take_that (is_packet bytes) task_end.Done task_end.Ba
 
 -- what the reading of 99 bytes answers
 abbrev pub IsRead : List ℕ → Result LoopPacket TaskEnd → Type 0
-IsRead bytes r = MatchResult r (λ read. (bytes ≡ packet_bytes read) × (judge_packet bytes ≡ task_end.Done)) (λ end. (end ≡ task_end.BadCheck) × (judge_packet bytes ≡ end))
+IsRead bytes r = MatchResult r (λ read. (bytes ≡ packet_bytes read) × (judge_packet bytes ≡ task_end.Done))
+    (λ end. (end ≡ task_end.BadCheck) × (judge_packet bytes ≡ end))
 
 pub read_trouble : (bytes : List ℕ) (r : Result LoopPacket TaskEnd) → IsRead bytes r → TellsTrouble r
 read_trouble bytes (Ok read) j = tt
@@ -57,37 +61,50 @@ whole_by : (s : Bool) (answer : List ℕ) (whole : TaskEnd) → s ≡ false → 
 whole_by s answer whole e = rw e refl
 
 shows_whole : (bytes : List ℕ) → length bytes ≡ 99 → shows packet bytes ≡ judge_packet bytes
-shows_whole bytes l = let e = le-ltb (length bytes) 99 (omega arith) in whole_by (nat_lt (length bytes) 99) bytes (judge_packet bytes) e
+shows_whole bytes l = let e = le-ltb (length bytes) 99 (omega arith) in whole_by (nat_lt (length bytes) 99) bytes
+    (judge_packet bytes) e
 
-short_by : (s : Bool) (answer : List ℕ) (whole : TaskEnd) → s ≡ true → end_by false s answer whole ≡ task_end.Short (length answer)
+short_by : (s : Bool) (answer : List ℕ) (whole : TaskEnd) → s ≡ true
+    → end_by false s answer whole ≡ task_end.Short (length answer)
 short_by s answer whole e = rw e refl
 
 -- a packet's bytes came
-pub packet_hears : (bytes : List ℕ) (r : Result LoopPacket TaskEnd) (t : List TalkItem) → length bytes ≡ 99 → IsFull 10 0 t → heard t ≡ bytes → IsRead bytes r → HearsPacket r t
-packet_hears bytes (Ok read) t l f h j =
-    (inl (f, ap (λ (x : List ℕ). length x) h ∙ l), h ∙ j.0, subst (λ (x : List ℕ). shows packet x ≡ task_end.Done) j.0 (shows_whole bytes l ∙ j.1))
+pub packet_hears : (bytes : List ℕ) (r : Result LoopPacket TaskEnd) (t : List TalkItem) → length bytes ≡ 99
+    → IsFull 10 0 t → heard t ≡ bytes → IsRead bytes r → HearsPacket r t
+packet_hears bytes (Ok read) t l f h j = (
+  inl (f, ap (λ (x : List ℕ). length x) h ∙ l),
+  h ∙ j.0,
+  subst (λ (x : List ℕ). shows packet x ≡ task_end.Done) j.0
+      (shows_whole bytes l ∙ j.1),
+)
 packet_hears bytes (Err end) t l f h j = λ more.
-    answer_fails packet more t t end refl (inl (f, ap (λ (x : List ℕ). length x) h ∙ l)) (ap (shows packet) h ∙ shows_whole bytes l ∙ j.1) (read_trouble bytes (Err end) j)
+    answer_fails packet more t t end refl (inl (f, ap (λ (x : List ℕ). length x) h ∙ l))
+    (ap (shows packet) h ∙ shows_whole bytes l ∙ j.1) (read_trouble bytes (Err end) j)
 
 -- fewer came
-pub packet_short : (n : ℕ) (t : List TalkItem) → IsShort 10 0 t → n < 99 → length (heard t) ≡ n → EndsTask packet (task_end.Short n) t
+pub packet_short : (n : ℕ) (t : List TalkItem) → IsShort 10 0 t → n < 99 → length (heard t) ≡ n
+    → EndsTask packet (task_end.Short n) t
 packet_short n t s below l = λ more.
     let few : length (heard t) < 99 = omega arith in
-    let shown : shows packet (heard t) ≡ task_end.Short n = short_by (nat_lt (length (heard t)) 99) (heard t) (judge_packet (heard t)) (lt-ltb (length (heard t)) 99 few) ∙ ap (λ x. task_end.Short x) l in
+    let shown : shows packet (heard t) ≡ task_end.Short n = short_by (nat_lt (length (heard t)) 99) (heard t)
+    (judge_packet (heard t)) (lt-ltb (length (heard t)) 99 few) ∙ ap (λ x. task_end.Short x) l in
     ([], answer_ends packet more t t (task_end.Short n) refl (inr (s, few)) shown tt)
 
 -- the wait was cut off
-pub packet_cut : (more : List Exchange) (t : List TalkItem) → IsCutOff (FallsShort 10 99) t → IsCutTalk (Exchanges (packet ∷ more)) t
+pub packet_cut : (more : List Exchange) (t : List TalkItem) → IsCutOff (FallsShort 10 99) t
+    → IsCutTalk (Exchanges (packet ∷ more)) t
 packet_cut more t k = (k.0, k.1, ([], shows packet (heard (t ++ k.0)), short_ends packet more (t ++ k.0) (t ++ k.0) refl k.2))
 
 -- a packet that came goes on
-pub packet_on : (more : List Exchange) (read : LoopPacket) (t : List TalkItem) → HearsPacket (Ok read) t → On (Exchanges (packet ∷ more)) (Exchanges more) (packet_bytes read ∷ []) t
+pub packet_on : (more : List Exchange) (read : LoopPacket) (t : List TalkItem) → HearsPacket (Ok read) t
+    → On (Exchanges (packet ∷ more)) (Exchanges more) (packet_bytes read ∷ []) t
 packet_on more read t k = answer_on packet more t t (packet_bytes read) refl k.0 k.1 k.2
 
 -- one more is left
 pub packets_left : (count i : ℕ) → i < count → packets (count - i) ≡ packet ∷ packets (count - (i + 1))
 packets_left count i below = let e : count - i ≡ suc (count - (i + 1)) = omega arith in ap packets e
 
-pub map_one : (reads : List LoopPacket) (read : LoopPacket) → map packet_bytes reads ++ packet_bytes read ∷ [] ≡ map packet_bytes (reads ++ read ∷ [])
+pub map_one : (reads : List LoopPacket) (read : LoopPacket) → map packet_bytes reads ++ packet_bytes read ∷
+    [] ≡ map packet_bytes (reads ++ read ∷ [])
 map_one [] read = refl
 map_one (x ∷ reads) read = ap (λ (y : List (List ℕ)). packet_bytes x ∷ y) (map_one reads read)

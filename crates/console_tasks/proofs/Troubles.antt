@@ -40,10 +40,13 @@ no_error {T} (Ok given) other trouble never e = (let z : Ok given ≡ Err other 
 no_error {T} (Err end) other trouble never e = not_other end other trouble never (let z : end ≡ other = cc in z)
 
 -- a call that is no fault of the link
-pub talks_shown : {L T : Type 0} {traffic : Traffic L} {a b : L} {P : List TalkItem → Type 0} {F S : Type 0} (r : Result T TaskEnd) (R : List TalkItem → Type 0)
-    → TellsTrouble r → Talks traffic a P F S b → ((t : List TalkItem) → P t → R t) → Talks traffic a R (r ≡ Err task_end.LinkFault) (r ≡ Err task_end.OutOfMemory) b
+pub talks_shown : {L T : Type 0} {traffic : Traffic L} {a b : L} {P : List TalkItem → Type 0} {F S : Type 0}
+    (r : Result T TaskEnd) (R : List TalkItem → Type 0)
+    → TellsTrouble r → Talks traffic a P F S b → ((t : List TalkItem) → P t → R t)
+    → Talks traffic a R (r ≡ Err task_end.LinkFault) (r ≡ Err task_end.OutOfMemory) b
 talks_shown r R trouble one h =
-    talks_as R one (λ e. absurd (no_error r task_end.LinkFault trouble (λ k. k) e)) (λ e. absurd (no_error r task_end.OutOfMemory trouble (λ k. k) e)) h
+    talks_as R one (λ e. absurd (no_error r task_end.LinkFault trouble (λ k. k) e))
+    (λ e. absurd (no_error r task_end.OutOfMemory trouble (λ k. k) e)) h
 
 -- a refusal, or a short answer, is such an end
 pub refusal_trouble : (short : Bool) (answer : List ℕ) (whole : TaskEnd) → IsTrouble (end_by true short answer whole)

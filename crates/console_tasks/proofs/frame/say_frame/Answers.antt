@@ -12,4 +12,5 @@ returns g c =
     let frame = sealed c.args.bytes.now in
     let said : c.deref.result.now ≡ frame = search rules in
     let size : length answer ≡ 1 = omega (arith, c.exchange.auto.answer) in
-    talks_as (Commands frame r) c.exchange.ensures (λ f. f) (λ f. f) (λ t k. replies_command frame answer r t size (subst (λ (x : List ℕ). Replies x 1 answer r t) said k))
+    talks_as (Commands frame r) c.exchange.ensures (λ f. f) (λ f. f)
+    (λ t k. replies_command frame answer r t size (subst (λ (x : List ℕ). Replies x 1 answer r t) said k))

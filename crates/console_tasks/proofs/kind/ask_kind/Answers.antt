@@ -24,7 +24,8 @@ returns-in_err-exchange g c =
     let e : r ≡ Err end = search rules in
     let said : c.deref.result.now ≡ said_line Kind = search rules in
     let two = talks_as (Fails (Exchanges asking_kind) end) c.in_err-exchange.ensures (λ f. f) (λ f. f)
-    (λ t k. subst (λ (x : List ℕ). Fails (Exchanges (answered x 2 (λ answer. task_end.Done) ∷ [])) end t) said (k (λ answer. task_end.Done) [])) in
+    (λ t k. subst (λ (x : List ℕ). Fails (Exchanges (answered x 2 (λ answer. task_end.Done) ∷ [])) end t) said
+    (k (λ answer. task_end.Done) [])) in
     task_err asking_kind c.in_ok-start.field-0 c.in_ok-start.ensures _ r (Err end) end e refl two
 
 pub returns : goal.returns
@@ -37,6 +38,7 @@ returns g c =
     let two = talks_as (Completes (Exchanges asking_kind) answers (Ok kind)) c.in_ok-exchange.ensures (λ f. f) (λ f. f)
     (λ t k. subst (λ (x : List ℕ). Exchanges (answered x 2 (λ answer. task_end.Done) ∷ []) t (answers kind) task_end.Done) said
     (subst (λ n. Exchanges (answered c.deref.result.now n (λ answer. task_end.Done) ∷ []) t (answers kind) task_end.Done) size
-    (subst (λ (x : List ℕ). Exchanges (answered c.deref.result.now (length answer) (λ answer. task_end.Done) ∷ []) t (x ∷ []) task_end.Done) (pair answer size k.4)
+    (subst (λ (x : List ℕ). Exchanges (answered c.deref.result.now (length answer) (λ answer. task_end.Done) ∷ []) t
+    (x ∷ []) task_end.Done) (pair answer size k.4)
     (last_done c.deref.result.now answer (λ answer. task_end.Done) t k refl)))) in
     task_done asking_kind c.in_ok-start.field-0 c.in_ok-start.ensures answers kind two

@@ -13,4 +13,5 @@ returns-clause-talk g c =
     let size : length c.args.answer.now - 3 ≡ n = omega (arith, c.requires.room) in
     let said : c.deref.result.now ≡ said_line (EepromRead c.args.at n) = search rules in
     talks_as (FrameReplies (said_line (EepromRead c.args.at n)) n answer r) c.ask_frame.ensures (λ f. f) (λ f. f)
-    (λ t k. subst (λ (x : List ℕ). FrameReplies x n answer r t) said (subst (λ m. FrameReplies c.deref.result.now m answer r t) size k))
+    (λ t k. subst (λ (x : List ℕ). FrameReplies x n answer r t) said
+    (subst (λ m. FrameReplies c.deref.result.now m answer r t) size k))

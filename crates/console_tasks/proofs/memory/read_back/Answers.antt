@@ -17,7 +17,8 @@ returns-in_err-ask_bytes g c =
     let sent = c.args.bytes.now in
     let Talk = Exchanges (reading_back c.args.at sent ∷ []) in
     fails_as Talk (λ (done : Unit {0}). ack_frame sent ∷ []) r (Err end) end e refl
-    (talks_as (Fails Talk end) c.in_err-ask_bytes.ensures.talk (λ f. f) (λ f. f) (λ t k. back_fails c.args.at _ sent c.ask_bytes.new.answer end t refl k))
+    (talks_as (Fails Talk end) c.in_err-ask_bytes.ensures.talk (λ f. f) (λ f. f)
+    (λ t k. back_fails c.args.at _ sent c.ask_bytes.new.answer end t refl k))
 
 pub returns : goal.returns
 returns g c =
@@ -27,5 +28,6 @@ returns g c =
     let size : length answer ≡ length sent + 3 = c.ask_bytes.ensures.size in
     let one : length sent + 1 - 1 ≡ length sent = omega arith in
     let read = take (length sent + 1 - 1) (drop 1 answer) in
-    talks_shown r (Completes (Exchanges (reading_back c.args.at sent ∷ [])) (λ done. ack_frame sent ∷ []) r) (compared_trouble c.args.at sent read r c.compare.ensures) c.in_ok-ask_bytes.ensures.talk
+    talks_shown r (Completes (Exchanges (reading_back c.args.at sent ∷ [])) (λ done. ack_frame sent ∷ []) r)
+    (compared_trouble c.args.at sent read r c.compare.ensures) c.in_ok-ask_bytes.ensures.talk
     (λ t k. back_finishes c.args.at _ sent answer read r t refl size (ap (λ m. take m (drop 1 answer)) one) c.compare.ensures k)

@@ -26,6 +26,8 @@ returns-clause-task g c =
     let size : length answer ≡ n + 3 = c.ask_bytes.ensures.size in
     let one : n + 1 - 1 ≡ n = omega arith in
     let answers = λ (done : Unit {0}). ack_frame into ∷ [] in
-    let two = talks_as (Completes (Exchanges (reading_memory c.args.at n)) answers (Ok tt)) c.in_ok-ask_bytes.ensures.talk (λ f. f) (λ f. f)
-    (λ t k. read_done c.args.at n _ answer into t refl size (c.copy_from_slice.ensures.after ∙ ap (λ m. take m (drop 1 answer)) one) k) in
+    let two = talks_as (Completes (Exchanges (reading_memory c.args.at n)) answers (Ok tt)) c.in_ok-ask_bytes.ensures.talk
+    (λ f. f) (λ f. f)
+    (λ t k. read_done c.args.at n _ answer into t refl size
+    (c.copy_from_slice.ensures.after ∙ ap (λ m. take m (drop 1 answer)) one) k) in
     task_done (reading_memory c.args.at n) c.in_ok-start.field-0 c.in_ok-start.ensures answers tt two

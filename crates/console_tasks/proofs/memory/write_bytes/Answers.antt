@@ -14,7 +14,8 @@ returns-in_err-say_command g c =
     let at = c.args.at in
     let bytes = c.args.bytes.now in
     task_err (writing_memory at bytes) c.in_ok-start.field-0 c.in_ok-start.ensures _ r (Err end) end e refl
-    (ends_here (command (said_line (EepromWrite at (length bytes)))) (command (sealed bytes) ∷ reading_back at bytes ∷ []) end c.in_err-say_command.ensures)
+    (ends_here (command (said_line (EepromWrite at (length bytes))))
+    (command (sealed bytes) ∷ reading_back at bytes ∷ []) end c.in_err-say_command.ensures)
 
 pub returns-in_err-say_frame : goal.returns-in_err-say_frame
 returns-in_err-say_frame g c =
@@ -24,7 +25,8 @@ returns-in_err-say_frame g c =
     let at = c.args.at in
     let bytes = c.args.bytes.now in
     task_err (writing_memory at bytes) c.in_ok-start.field-0 c.in_ok-start.ensures _ r (Err end) end e refl
-    (command_fails (said_line (EepromWrite at (length bytes))) (command (sealed bytes)) (reading_back at bytes ∷ []) c.in_ok-say_command.field-0 end c.in_ok-say_command.ensures c.in_err-say_frame.ensures)
+    (command_fails (said_line (EepromWrite at (length bytes))) (command (sealed bytes))
+    (reading_back at bytes ∷ []) c.in_ok-say_command.field-0 end c.in_ok-say_command.ensures c.in_err-say_frame.ensures)
 
 pub returns : goal.returns
 returns g c =
@@ -33,6 +35,8 @@ returns g c =
     let bytes = c.args.bytes.now in
     let last = λ (done : Unit {0}). ack_frame bytes ∷ [] in
     let two = λ (done : Unit {0}). ack ∷ ack_frame bytes ∷ [] in
-    let more = command_finishes (sealed bytes) (reading_back at bytes ∷ []) c.in_ok-say_frame.field-0 last r c.in_ok-say_frame.ensures c.read_back.ensures in
+    let more = command_finishes (sealed bytes)
+    (reading_back at bytes ∷ []) c.in_ok-say_frame.field-0 last r c.in_ok-say_frame.ensures c.read_back.ensures in
     task_tail (writing_memory at bytes) c.in_ok-start.field-0 c.in_ok-start.ensures (λ done. ack ∷ ack ∷ ack_frame bytes ∷ []) r
-    (command_finishes (said_line (EepromWrite at (length bytes))) (command (sealed bytes) ∷ reading_back at bytes ∷ []) c.in_ok-say_command.field-0 two r c.in_ok-say_command.ensures more)
+    (command_finishes (said_line (EepromWrite at (length bytes)))
+    (command (sealed bytes) ∷ reading_back at bytes ∷ []) c.in_ok-say_command.field-0 two r c.in_ok-say_command.ensures more)

@@ -12,14 +12,16 @@ returns-in-Full g c =
     let bytes = c.listen.new.buf in
     let r = c.read_packet.result in
     let size : length bytes ≡ 99 = omega (arith, c.listen.auto.buf) in
-    talks_shown r (HearsPacket r) (read_trouble bytes r c.read_packet.ensures) c.in-Full.ensures (λ t k. packet_hears bytes r t size k.0 k.1 c.read_packet.ensures)
+    talks_shown r (HearsPacket r) (read_trouble bytes r c.read_packet.ensures) c.in-Full.ensures
+    (λ t k. packet_hears bytes r t size k.0 k.1 c.read_packet.ensures)
 
 pub returns-in-Short : goal.returns-in-Short
 returns-in-Short g c =
     let n = c.in-Short.count in
     let size : length c.listen.new.buf ≡ 99 = omega (arith, c.listen.auto.buf) in
     talks_shown (Err (task_end.Short n)) (HearsPacket (Err (task_end.Short n))) tt c.in-Short.ensures
-    (λ t k. packet_short n t k.0 (omega (arith, k.1, size)) (ap (λ (x : List ℕ). length x) k.2 ∙ omega (arith, length-take n c.listen.new.buf, k.1)))
+    (λ t k. packet_short n t k.0 (omega (arith, k.1, size))
+    (ap (λ (x : List ℕ). length x) k.2 ∙ omega (arith, length-take n c.listen.new.buf, k.1)))
 
 pub returns-in-LinkFault : goal.returns-in-LinkFault
 returns-in-LinkFault g c =

@@ -16,7 +16,8 @@ use Rattle.console_tasks.proofs.Packing.{packet_on, packets_left, map_one}
 use Rattle.console_tasks.proofs.packets.hear_packets.Goals as goal
 
 -- no packet is left
-all_on : (n i : ℕ) (f : List (List ℕ)) (s : List TalkItem) → i ≤ n → n ≤ i → On (TaskTalk (looping n)) (Exchanges (packets (n - i))) f s → On (TaskTalk (looping n)) (Exchanges []) f s
+all_on : (n i : ℕ) (f : List (List ℕ)) (s : List TalkItem) → i ≤ n → n ≤ i
+    → On (TaskTalk (looping n)) (Exchanges (packets (n - i))) f s → On (TaskTalk (looping n)) (Exchanges []) f s
 all_on n i f s a b on = let e : n - i ≡ 0 = omega arith in subst (λ m. On (TaskTalk (looping n)) (Exchanges (packets m)) f s) e on
 
 pub returns-in_err-say_command : goal.returns-in_err-say_command
@@ -37,7 +38,8 @@ loop-heard-init g c =
     let n = c.args.count in
     let m : c.from.result ≡ n = search rules in
     let said : On (Exchanges (looping n)) (Exchanges (packets n)) (ack ∷ []) t.0 =
-    subst (λ x. On (Exchanges (command (said_line (LoopFor x)) ∷ packets n)) (Exchanges (packets n)) (ack ∷ []) t.0) m (command_on (said_line (LoopFor c.from.result)) (packets n) c.in_ok-say_command.field-0 t.0 t.1) in
+    subst (λ x. On (Exchanges (command (said_line (LoopFor x)) ∷ packets n)) (Exchanges (packets n)) (ack ∷ []) t.0) m
+    (command_on (said_line (LoopFor c.from.result)) (packets n) c.in_ok-say_command.field-0 t.0 t.1) in
     let on = on_then (start_on (looping n) c.in_ok-start.field-0 s.0 s.1) said in
     let none : [] ≡ c.args.into.now.items = sym c.requires.empty in
     let zero_left : n ≡ n - 0 = omega arith in
@@ -45,7 +47,8 @@ loop-heard-init g c =
       sofar = (
         s.0 ++ t.0,
         adds_joins s.2 t.2,
-        subst (λ (x : List LoopPacket). On (TaskTalk (looping n)) (Exchanges (packets (n - 0))) (ack ∷ map packet_bytes x) (s.0 ++ t.0)) none
+        subst (λ (x : List LoopPacket). On (TaskTalk (looping n)) (Exchanges (packets (n - 0))) (ack ∷ map packet_bytes x)
+            (s.0 ++ t.0)) none
             (subst (λ x. On (TaskTalk (looping n)) (Exchanges (packets x)) (ack ∷ []) (s.0 ++ t.0)) zero_left on),
       );
       room = search rules;
@@ -64,7 +67,8 @@ returns-in_err-hear_packet g c =
     let e : r ≡ Err end = search rules in
     let t = i.sofar.0 ++ k.talk.0 in
     let part : Fails (TaskTalk (looping n)) end t = fails_on i.sofar.2 end k.talk.0
-    (subst (λ (xs : List Exchange). Fails (Exchanges xs) end k.talk.0) (sym (packets_left n j c.loop-heard-test.true)) (k.talk.1 (packets (n - (j + 1))))) in
+    (subst (λ (xs : List Exchange). Fails (Exchanges xs) end k.talk.0) (sym (packets_left n j c.loop-heard-test.true))
+    (k.talk.1 (packets (n - (j + 1))))) in
     fails_as (TaskTalk (looping n)) _ r _ end e refl (record {
       talk = (t, part, adds_joins i.sofar.1 k.talk.2);
       fault = cause_since i.faults k.fault (λ f. f);
@@ -80,11 +84,18 @@ loop-heard-preserved g c =
     let read = c.in_ok-hear_packet.field-0 in
     let before = c.loop-heard.into.items in
     let t = i.sofar.0 ++ k.talk.0 in
-    let on = on_then (subst (λ (xs : List Exchange). On (TaskTalk (looping n)) (Exchanges xs) (ack ∷ map packet_bytes before) i.sofar.0) (packets_left n j c.loop-heard-test.true) i.sofar.2)
+    let on = on_then (subst (λ (xs : List Exchange). On (TaskTalk (looping n)) (Exchanges xs)
+    (ack ∷ map packet_bytes before) i.sofar.0) (packets_left n j c.loop-heard-test.true) i.sofar.2)
     (packet_on (packets (n - (j + 1))) read k.talk.0 k.talk.1) in
-    let now : map packet_bytes before ++ packet_bytes read ∷ [] ≡ map packet_bytes c.push.new.self.items = map_one before read ∙ ap (λ (x : List LoopPacket). map packet_bytes x) (sym c.push.ensures.items) in
+    let now : map packet_bytes before ++ packet_bytes read ∷ [] ≡ map packet_bytes c.push.new.self.items =
+    map_one before read ∙ ap (λ (x : List LoopPacket). map packet_bytes x) (sym c.push.ensures.items) in
     record {
-      sofar = (t, adds_joins i.sofar.1 k.talk.2, subst (λ (x : List (List ℕ)). On (TaskTalk (looping n)) (Exchanges (packets (n - (j + 1)))) (ack ∷ x) t) now on);
+      sofar = (
+        t,
+        adds_joins i.sofar.1 k.talk.2,
+        subst
+            (λ (x : List (List ℕ)). On (TaskTalk (looping n)) (Exchanges (packets (n - (j + 1)))) (ack ∷ x) t) now on,
+      );
       room = omega (arith, c.push.ensures.len, i.room);
       faults = omega (arith, i.faults, k.fault.never_falls);
       shortages = omega (arith, i.shortages, k.shortage.never_falls);
@@ -97,7 +108,8 @@ pub returns : goal.returns
 returns g c =
     let i = c.loop-heard.invariant in
     let n = c.args.count in
-    let on = all_on n c.loop-heard._heard (ack ∷ map packet_bytes c.loop-heard.into.items) i.sofar.0 c.loop-heard.auto._heard-end c.loop-heard-test.false i.sofar.2 in
+    let on = all_on n c.loop-heard._heard
+    (ack ∷ map packet_bytes c.loop-heard.into.items) i.sofar.0 c.loop-heard.auto._heard-end c.loop-heard-test.false i.sofar.2 in
     record {
       talk = (i.sofar.0, on_end on, i.sofar.1);
       fault = record { never_falls = i.faults; rose = λ e. absurd (no_error (Ok tt) task_end.LinkFault tt (λ k. k) e) };

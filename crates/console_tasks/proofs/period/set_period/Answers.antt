@@ -7,8 +7,10 @@ use Rattle.console_tasks.proofs.period.set_period.Goals as goal
 
 pub returns-in-Ok : goal.returns-in-Ok
 returns-in-Ok g c =
-    answer_done (TaskTalk (setting_period c.args.period)) (λ (done : Unit {0}). ack ∷ ack_frame (c.args.period ∷ []) ∷ []) tt c.in-Ok.ensures
+    answer_done (TaskTalk (setting_period c.args.period))
+    (λ (done : Unit {0}). ack ∷ ack_frame (c.args.period ∷ []) ∷ []) tt c.in-Ok.ensures
 
 pub returns-in-Err : goal.returns-in-Err
 returns-in-Err g c =
-    answer_err (TaskTalk (setting_period c.args.period)) (λ (done : Unit {0}). ack ∷ ack_frame (c.args.period ∷ []) ∷ []) c.in-Err.end _ c.in-Err.ensures
+    answer_err (TaskTalk (setting_period c.args.period))
+    (λ (done : Unit {0}). ack ∷ ack_frame (c.args.period ∷ []) ∷ []) c.in-Err.end _ c.in-Err.ensures

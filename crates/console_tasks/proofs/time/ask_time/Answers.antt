@@ -32,6 +32,8 @@ returns-clause-task g c =
     let said : c.deref.result.now ≡ said_line TimeGet = search rules in
     let size : length answer ≡ 9 = omega (arith, c.ask_frame.auto.answer) in
     let answers = λ (time : ClockTime). ack_frame (clock_bytes time) ∷ [] in
-    let two = talks_shown r (Completes (Exchanges asking_time) answers r) (clock_trouble bytes r c.read_clock.ensures.judged) c.in_ok-ask_frame.ensures
-    (λ t k. clock_finishes answer bytes r t size refl c.read_clock.ensures.judged (subst (λ (x : List ℕ). FrameReplies x 6 answer (Ok tt) t) said k)) in
+    let two = talks_shown r (Completes (Exchanges asking_time) answers r)
+    (clock_trouble bytes r c.read_clock.ensures.judged) c.in_ok-ask_frame.ensures
+    (λ t k. clock_finishes answer bytes r t size refl c.read_clock.ensures.judged
+    (subst (λ (x : List ℕ). FrameReplies x 6 answer (Ok tt) t) said k)) in
     task_tail asking_time c.in_ok-start.field-0 c.in_ok-start.ensures answers r two

@@ -8,7 +8,11 @@ use Rattle.console_tasks.proofs.Finishing.{answer_done, answer_err}
 use Rattle.console_tasks.proofs.time.get_time.Goals as goal
 
 pub returns-in-Ok-clause-task : goal.returns-in-Ok-clause-task
-returns-in-Ok-clause-task g c = answer_done (TaskTalk asking_time) (λ (time : ClockTime). ack_frame (clock_bytes time) ∷ []) c.in-Ok.time c.in-Ok.ensures.task
+returns-in-Ok-clause-task g c =
+    answer_done (TaskTalk asking_time)
+    (λ (time : ClockTime). ack_frame (clock_bytes time) ∷ []) c.in-Ok.time c.in-Ok.ensures.task
 
 pub returns-in-Err-clause-task : goal.returns-in-Err-clause-task
-returns-in-Err-clause-task g c = answer_err (TaskTalk asking_time) (λ (time : ClockTime). ack_frame (clock_bytes time) ∷ []) c.in-Err.end _ c.in-Err.ensures.task
+returns-in-Err-clause-task g c =
+    answer_err (TaskTalk asking_time)
+    (λ (time : ClockTime). ack_frame (clock_bytes time) ∷ []) c.in-Err.end _ c.in-Err.ensures.task

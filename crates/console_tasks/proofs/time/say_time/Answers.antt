@@ -16,7 +16,8 @@ returns-in_err-say_command g c =
     let r = c.from_residual-in_err-say_command.result in
     let e : r ≡ Err end = search rules in
     task_err (setting_time c.args.time.now) c.in_ok-start.field-0 c.in_ok-start.ensures _ r (Err end) end e refl
-    (ends_here (command (said_line TimeSet)) (command (sealed (clock_bytes c.args.time.now)) ∷ []) end c.in_err-say_command.ensures)
+    (ends_here (command (said_line TimeSet))
+    (command (sealed (clock_bytes c.args.time.now)) ∷ []) end c.in_err-say_command.ensures)
 
 pub returns : goal.returns
 returns g c =
@@ -27,4 +28,5 @@ returns g c =
     let last = talks_as (Completes (Exchanges (command (sealed bytes) ∷ [])) answers r) c.say_frame.ensures (λ f. f) (λ f. f)
     (λ t k. last_command (sealed bytes) r t (subst (λ (x : List ℕ). Commands (sealed x) r t) said k)) in
     task_tail (setting_time c.args.time.now) c.in_ok-start.field-0 c.in_ok-start.ensures _ r
-    (command_finishes (said_line TimeSet) (command (sealed bytes) ∷ []) c.in_ok-say_command.field-0 answers r c.in_ok-say_command.ensures last)
+    (command_finishes (said_line TimeSet)
+    (command (sealed bytes) ∷ []) c.in_ok-say_command.field-0 answers r c.in_ok-say_command.ensures last)

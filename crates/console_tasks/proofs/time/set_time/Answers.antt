@@ -9,4 +9,5 @@ pub returns-in-Ok : goal.returns-in-Ok
 returns-in-Ok g c = answer_done (TaskTalk (setting_time c.args.time.now)) (λ (done : Unit {0}). ack ∷ ack ∷ []) tt c.in-Ok.ensures
 
 pub returns-in-Err : goal.returns-in-Err
-returns-in-Err g c = answer_err (TaskTalk (setting_time c.args.time.now)) (λ (done : Unit {0}). ack ∷ ack ∷ []) c.in-Err.end _ c.in-Err.ensures
+returns-in-Err g c = answer_err (TaskTalk (setting_time c.args.time.now))
+    (λ (done : Unit {0}). ack ∷ ack ∷ []) c.in-Err.end _ c.in-Err.ensures
