@@ -2,7 +2,7 @@
 use Rattle.std.proofs.Common.{◌≡◌, ℕ, ◌+◌, ◌-◌, ◌/◌, ◌%◌, ◌≤◌, List, length, refl, sym, ap, ◌∙◌, arith, length-drop, Option, Some, None}
 use Rattle.std.specs.Prelude.{position, option_map}
 use Rattle.console_ring.specs.declared.plan.Plan.{Plan}
-use Rattle.console_ring.specs.History.{held, is_newer}
+use Rattle.console_ring.specs.History.{retained, is_newer}
 use Rattle.console_ring.specs.Picture.{no_plan, plan_by, plan_of}
 use Rattle.console_ring.specs.Standing.{Kept, StandsFor}
 
@@ -42,7 +42,7 @@ pub without : (ring : Kept) (history : List (List ℕ)) (date time : ℕ) → St
 unfolding plan_of
 without ring history date time stands is =
     let found = ap (λ xs. option_map (λ place. length xs - place) (position (is_newer date time) xs)) stands.records in
-    sym (plan_none (position (is_newer date time) (held history)) (length history - 2560) (length history) (length (held history)) (sym found ∙ is))
+    sym (plan_none (position (is_newer date time) (retained history)) (length history - 2560) (length history) (length (retained history)) (sym found ∙ is))
 
 pub with_records : (ring : Kept) (history : List (List ℕ)) (date time next count : ℕ) → StandsFor ring history → next ≡ length history % 2560 →
     option_map (λ place. length ring.records - place) (position (is_newer date time) ring.records) ≡ Some count → 1 ≤ count →
@@ -50,4 +50,4 @@ pub with_records : (ring : Kept) (history : List (List ℕ)) (date time next cou
 unfolding plan_of
 with_records ring history date time next count stands after is some =
     let found = ap (λ xs. option_map (λ place. length xs - place) (position (is_newer date time) xs)) stands.records in
-    plan_some (position (is_newer date time) (held history)) next (length history) (length (held history)) count (sym found ∙ is) some (length-drop (length history - 2560) history) after
+    plan_some (position (is_newer date time) (retained history)) next (length history) (length (retained history)) count (sym found ∙ is) some (length-drop (length history - 2560) history) after

@@ -1,18 +1,21 @@
 -- The history of a console's archive: every record put since it was last emptied, each as its 52 bytes.
-use Rattle.std.specs.Prelude.{ℕ, ◌-◌, ◌<◌, ◌≤◌, ◌==◌, ◌||◌, ◌&&◌, Bool, nat_lt, List, length, take, drop, slice_index_or, filter, option_and_then, IfSome, IsSomeAnd}
+-- The size of the archive is the Davis manual's. That a record is put only where its stamp exceeds the newest, and that
+-- newer is told by the words of a stamp, is this project's profile.
+use Rattle.std.specs.Prelude.{ℕ, ◌-◌, ◌<◌, ◌≤◌, Bool, List, length, take, drop, slice_index_or, filter, option_and_then, IfSome, IsSomeAnd}
 use Rattle.std.specs.declared.option.Option.{Option}
 use Rattle.circular_buffer.specs.Buffer.{last_item}
 use Rattle.station_base.specs.CivilMinute.{CivilMinute, minute_of}
+use Rattle.station_base.specs.Stamp.{words_exceed}
 use Rattle.archive_record.specs.Kind.{word_at}
 use Rattle.archive_record.specs.Reading.{stamp_in}
 
--- the last records, of which the archive has room for 2,560 (Davis serial manual, "DMPAFT")
-abbrev pub held : List (List ℕ) → List (List ℕ)
-held history = drop (length history - 2560) history
+-- the records that the archive still has: the last 2,560 (Davis serial manual, "DMPAFT")
+abbrev pub retained : List (List ℕ) → List (List ℕ)
+retained history = drop (length history - 2560) history
 
 -- the words of a record's stamp exceed these: the date word does, or it is equal and the time word does
 abbrev pub is_newer : ℕ → ℕ → List ℕ → Bool
-is_newer date time bytes = nat_lt date (word_at bytes 0) || (date == word_at bytes 0 && nat_lt time (word_at bytes 2))
+is_newer date time bytes = words_exceed date time (word_at bytes 0) (word_at bytes 2)
 
 -- the records newer than these words, in order (this project's profile)
 abbrev pub newer : ℕ → ℕ → List (List ℕ) → List (List ℕ)
@@ -22,15 +25,16 @@ newer date time records = filter (is_newer date time) records
 abbrev pub newest_of : List (List ℕ) → Option CivilMinute
 newest_of history = option_and_then stamp_in (last_item history)
 
--- a record can follow a history: it has a stamp, which exceeds the newest one, if there is one
-abbrev pub CanFollow : List (List ℕ) → List ℕ → Type 0
-CanFollow history bytes =
+-- a record can extend a history: it has a stamp, which exceeds the newest one, if there is one
+abbrev pub CanExtend : List (List ℕ) → List ℕ → Type 0
+CanExtend history bytes =
     IsSomeAnd (stamp_in bytes) (λ stamp. IfSome (newest_of history) (λ newest. minute_of newest < minute_of stamp))
 
 -- its stamp does not exceed this one
 abbrev pub IsNotAfter : CivilMinute → List ℕ → Type 0
 IsNotAfter newest bytes = IsSomeAnd (stamp_in bytes) (λ stamp. minute_of stamp ≤ minute_of newest)
 
--- each record can follow those before it
-abbrev pub Rises : List (List ℕ) → Type 0
-Rises history = (i : ℕ) (none : List ℕ) → i < length history → CanFollow (take i history) (slice_index_or history i none)
+-- each record can extend the records before it
+abbrev pub IsHistory : List (List ℕ) → Type 0
+IsHistory history =
+    (i : ℕ) (none : List ℕ) → i < length history → CanExtend (take i history) (slice_index_or history i none)

@@ -1,14 +1,21 @@
 -- What the archive's 2,560 slots, 512 pages of five, show of a history, and the pages of a dump (Davis serial manual,
--- "Download Protocol").
-use Rattle.std.specs.Prelude.{ℕ, zero, suc, ◌+◌, ◌-◌, ◌*◌, ◌/◌, ◌%◌, List, [], ◌∷◌, ◌++◌, length, replicate, if◌then◌else◌, nat_lt, slice_get, position, Some, None}
+-- "Download Protocol"). That a dump goes on to the last record, over the end of the ring into its first page again, is
+-- this project's profile.
+use Rattle.std.specs.Prelude.{ℕ, ◌≡◌, ◌<◌, ◌≤◌, zero, suc, ◌+◌, ◌-◌, ◌*◌, ◌/◌, ◌%◌, List, [], ◌∷◌, ◌++◌, length, replicate, if◌then◌else◌, nat_lt, slice_get, position, Some, None}
 use Rattle.std.specs.declared.option.Option.{Option}
 use Rattle.crc_ccitt.specs.Check.{sealed}
 use Rattle.console_ring.specs.declared.plan.Plan.{Plan}
-use Rattle.console_ring.specs.History.{held, is_newer}
+use Rattle.console_ring.specs.History.{retained, is_newer}
 
 -- the greatest number below the count that stands in a slot, numbers being counted from 0
 abbrev pub last_in : ℕ → ℕ → ℕ
 last_in count slot = slot + 2560 * ((count - 1 - slot) / 2560)
+
+-- It is the greatest number below the count of a record that goes into this slot.
+pub record IsLastIn (count slot number : ℕ) : Type 0 where
+  pub below : number < count
+  pub slot_is : number % 2560 ≡ slot
+  pub greatest : (other : ℕ) → other < count → other % 2560 ≡ slot → other ≤ number
 
 -- the last record that was put in a slot, if one was
 abbrev pub slot_of : List (List ℕ) → ℕ → Option (List ℕ)
@@ -32,15 +39,20 @@ plan_from first count = record {
   first_page = first % 2560 / 5;
 }
 
--- a dump from the first newer record on, if there is one, by its place among those held
+-- a dump of the last so many records: of none, or from the first of them on
+abbrev pub plan_of_last : ℕ → ℕ → Plan
+plan_of_last zero count = no_plan
+plan_of_last (suc more) count = plan_from (count - suc more) count
+
+-- a dump from the first newer record on, if there is one, by its place among those retained
 abbrev pub plan_by : Option ℕ → ℕ → ℕ → Plan
 plan_by None overwritten count = no_plan
 plan_by (Some place) overwritten count = plan_from (overwritten + place) count
 
--- the dump of all that is held from the first record on that is newer than these words
+-- the dump of all that is retained from the first record on that is newer than these words
 unfoldable pub plan_of : List (List ℕ) → ℕ → ℕ → Plan
 plan_of history date time =
-    plan_by (position (is_newer date time) (held history)) (length history - 2560) (length history)
+    plan_by (position (is_newer date time) (retained history)) (length history - 2560) (length history)
 
 -- the bytes at a place of a page of a dump
 abbrev pub slot_on : List (List ℕ) → Plan → ℕ → ℕ → List ℕ

@@ -2,7 +2,7 @@
 use Rattle.std.specs.Prelude.{ℕ, ◌≡◌, ◌%◌, List, [], ◌∷◌, ◌++◌, length, Some}
 use Rattle.console_ring.specs.declared.put.RingPut.{RingPut}
 use Rattle.console_ring.specs.declared.put.RingPut.TheVariants.{Done, NotRising}
-use Rattle.console_ring.specs.History.{held, newest_of, CanFollow, IsNotAfter, Rises}
+use Rattle.console_ring.specs.History.{retained, newest_of, CanExtend, IsNotAfter, IsHistory}
 
 -- the records in the slots, from the oldest on, and the slot of the next
 pub record Kept : Type 0 where
@@ -11,12 +11,12 @@ pub record Kept : Type 0 where
 
 -- the ring is what is left of this history
 pub record StandsFor (ring : Kept) (history : List (List ℕ)) : Type 0 where
-  pub records : ring.records ≡ held history
+  pub records : ring.records ≡ retained history
   pub next_slot : ring.next_slot ≡ length history % 2560
-  pub rises : Rises history
+  pub rises : IsHistory history
 
 -- what a put of a record answers, and the ring that it leaves
 abbrev pub Puts : List (List ℕ) → List ℕ → Kept → RingPut → Kept → Type 0
-Puts history bytes old Done new = CanFollow history bytes × StandsFor new (history ++ bytes ∷ [])
+Puts history bytes old Done new = CanExtend history bytes × StandsFor new (history ++ bytes ∷ [])
 Puts history bytes old (NotRising newest) new =
     (newest_of history ≡ Some newest) × IsNotAfter newest bytes × (new ≡ old)

@@ -1,13 +1,14 @@
-ghost use Rattle.std.specs.Prelude.{ℕ, ◌≡◌, ◌<◌, List, ◌∷◌, replicate};
+ghost use Rattle.std.specs.Prelude.{ℕ, ◌≡◌, ◌<◌, List, ◌∷◌, length, replicate};
 ghost use Rattle.crc_ccitt.specs.Check.{check};
 ghost use Rattle.vantage_frames.specs.Header.{CanBegin};
 ghost use Rattle.vantage_frames.specs.Slots.{slot_at};
-ghost use Rattle.console_ring.specs.Picture.{plan_of, slot_on, page_of};
+ghost use Rattle.console_ring.specs.History.{newer, retained};
+ghost use Rattle.console_ring.specs.Picture.{plan_of, plan_of_last, slot_on, page_of};
 ghost use Rattle.console_ring.specs.Standing.{StandsFor};
 
 use crate::plan::Plan;
 use crate::ring::{Ring, SLOT_COUNT};
-use vantage_frames::{PAGE_SIZE, SLOT_SIZE, SLOTS};
+use vantage_frames::{PAGE_SIZE, RECORD_SIZE, SLOTS};
 
 // The pages of the archive.
 const PAGE_COUNT: u32 = 512;
@@ -25,9 +26,12 @@ impl Ring {
     /// What a dump of the records newer than these words sends: all from the first newer one on (Davis serial manual,
     /// "Download Protocol").
     ///
-    /// The words are those of a stamp, or 0 and 0 for all records.
+    /// The words are those of a stamp, or 0 and 0 for all records. That newer is told by these words is this project's
+    /// profile.
     pub fn plan_after(&self, date: u16, time: u16) -> Plan
         ensures plan { (history : List (List ℕ)) → StandsFor self.now history → result ≡ plan_of history date time }
+        ensures newer { (history : List (List ℕ)) → StandsFor self.now history
+            → result ≡ plan_of_last (length (newer date time (retained history))) (length history) }
         ensures range { CanBegin result.pages result.place }
     {
         let Some(count) = self.count_from_newer(date, time) else {
@@ -56,9 +60,9 @@ impl Ring {
             * (((u32::from(plan.first_page) + u32::from(k)) % PAGE_COUNT) as u16);
         let mut page = blank_page((k % SEQUENCES) as u8);
         for place in 0..SLOTS {
-            let start = 1 + SLOT_SIZE * usize::from(place);
+            let start = 1 + RECORD_SIZE * usize::from(place);
             let slot = self.slot(first + u16::from(place));
-            page[start..start + SLOT_SIZE].copy_from_slice(&slot);
+            page[start..start + RECORD_SIZE].copy_from_slice(&slot);
         }
         crc_ccitt::seal(&mut page);
         page

@@ -1,11 +1,11 @@
 ghost use Rattle.std.specs.Prelude.{ℕ, ◌≡◌, ◌+◌, ◌-◌, ◌%◌, ◌<◌, ◌≤◌, List, [], ◌∷◌, ◌++◌, length, position, option_map, IfOk, IfSome};
-ghost use Rattle.console_ring.specs.History.{newest_of, CanFollow, is_newer};
+ghost use Rattle.console_ring.specs.History.{newest_of, CanExtend, is_newer};
 ghost use Rattle.console_ring.specs.Picture.{slot_of, shown};
 ghost use Rattle.console_ring.specs.Standing.{StandsFor, Puts};
 
 use crate::newer::first_newer;
 use crate::put::RingPut;
-use archive_record::{RECORD_BYTES, Rec52};
+use archive_record::{RECORD_SIZE, Rec52};
 use causes::OutOfMemory;
 use circular_buffer::HeapCircularBuffer;
 use station_base::Stamp;
@@ -68,7 +68,7 @@ impl Ring {
 
     // Puts a record that can follow in the next slot.
     fn append(&mut self, rec: Rec52)
-        ensures { (history : List (List ℕ)) → StandsFor self.old history → CanFollow history rec
+        ensures { (history : List (List ℕ)) → StandsFor self.old history → CanExtend history rec
             → StandsFor self.new (history ++ rec ∷ []) }
     {
         self.records.push_back(rec);
@@ -99,14 +99,14 @@ impl Ring {
     }
 
     // The bytes of a slot.
-    pub(crate) fn slot(&self, number: u16) -> [u8; RECORD_BYTES]
+    pub(crate) fn slot(&self, number: u16) -> [u8; RECORD_SIZE]
         requires { number < SLOT_COUNT }
         ensures { (history : List (List ℕ)) → StandsFor self.now history → result ≡ shown (slot_of history number) }
     {
         let age = (self.next_slot + SLOT_COUNT - 1 - number) % SLOT_COUNT;
         match self.records.nth_back(usize::from(age)) {
             Some(record) => *record.bytes(),
-            None => [UNWRITTEN; RECORD_BYTES],
+            None => [UNWRITTEN; RECORD_SIZE],
         }
     }
 
