@@ -23,8 +23,6 @@ pub const PAGE_SIZE: usize = SEQUENCE_SIZE
     + UNUSED_SIZE
     + CHECK_SIZE;
 
-const _: () = prove!(PAGE_SIZE == 267);
-
 /// A page of the console's archive whose check is good (Davis serial manual, "Download Protocol").
 ///
 /// Byte 0 is the sequence, which counts pages from 0 and has 0 after 255. At offset 1 stand five
@@ -43,7 +41,7 @@ impl<'a> Model for Page<'a> {
 
     ghost view = { λ page. page.bytes.now };
 
-    ghost invariant = { λ page. check page.bytes.now ≡ 0 };
+    ghost invariant = { λ page. (length page.bytes.now ≡ 267) × (check page.bytes.now ≡ 0) };
 }
 
 /// What 267 bytes are, read as a page.
