@@ -33,5 +33,5 @@ fn say_period<L: Link>(link: &mut L, period: Period) -> Result<(), TaskEnd>
 {
     start(link)?;
     say_command(link, &Command::SetPeriod(period))?;
-    read_back(link, eeprom_map::PERIOD as u16, &[period.minutes() as u8])
+    read_back(link, eeprom_map::PERIOD, &[period.minutes() as u8])
 }
