@@ -68,7 +68,8 @@ at kind applies = record { kind = kind; applies = applies }
 -- of so many records: their stamps, their order, and their values
 abbrev pub told_kinds : ℕ → Said → Told → ℕ → List Kind
 told_kinds period s told count =
-    at 5 (is_no_stamp period told.stamp count) ∷ at 6 (is_not_later s.newest told.stamp) ∷ at 7 (has_no_record told.values) ∷ []
+    at 5 (is_no_stamp period told.stamp count) ∷ at 6 (is_not_later s.newest told.stamp)
+    ∷ at 7 (has_no_record told.values) ∷ []
 
 -- too many records
 abbrev pub count_kinds : Said → ℕ → List Kind

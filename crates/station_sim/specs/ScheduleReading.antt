@@ -41,13 +41,19 @@ after period s (Run first count) = record s {
 after period s (Idle ticks) = record s { since = s.since ++ IdleStep ticks ∷ [] }
 after period s Open = with_turn s Opening
 after period s Round = with_turn s InRound
-after period s (Host number fate) = record s { details = record s.details { host = with_entry s.details.host number fate } }
+after period s
+    (Host number fate) = record s { details = record s.details { host = with_entry s.details.host number fate } }
 after period s (Reply number fate) = record s { details = record s.details { replies = with_entry s.details.replies number fate } }
 after period s (Late number waits place) = record s {
   details = record s.details { lates = with_entry s.details.lates number (record { waits = waits; place = place }) };
 }
 after period s (Mid number told) = record s {
-  details = record s.details { mids = s.details.mids ++ record { number = number; record_read = record_told period told } ∷ [] };
+  details = record s.details {
+    mids = s.details.mids ++ record {
+      number = number;
+      record_read = record_told period told;
+    } ∷ [];
+  };
   newest = last_minute_of period told.stamp 1;
   records = s.records + 1;
 }
@@ -88,7 +94,8 @@ next number (Ok s) read_rest = read_rest s
 -- the lines from a number on, up to the first faulty one
 abbrev pub read_lines : ℕ → ℕ → List (List ℕ) → Said → Result Said LineFault
 read_lines period number [] s = Ok s
-read_lines period number (line ∷ lines) s = next number (read_line period number line s) (λ said. read_lines period (number + 1) lines said)
+read_lines period number (line
+    ∷ lines) s = next number (read_line period number line s) (λ said. read_lines period (number + 1) lines said)
 
 -- what all lines of a text say
 unfoldable pub steps_of : List ℕ → ℕ → Result Said LineFault

@@ -32,7 +32,8 @@ is_negative word = slice_index word 0 == 45
 -- a field's value, with `-` before it where it is negative; `-0` is none
 unfoldable pub value_of : List ℕ → Option ℤ
 value_of word =
-    if is_negative word then option_map (λ n. neg_ℤ (pos n)) (count_of (drop 1 word)) else option_map pos (number_of word)
+    if is_negative word then option_map (λ n. neg_ℤ (pos n)) (count_of (drop 1 word))
+    else option_map pos (number_of word)
 
 -- A field's name and its value.
 pub record Named : Type 0 where
@@ -46,7 +47,8 @@ named_in word = do
   value ← value_of (drop (equals + 1) word)
   Some (record { name = take equals word; value = value })
 
--- YYYY-MM-DD, whether the calendar has it or not: the bytes at the fifth and eighth place are `-`, and the others are digits
+-- YYYY-MM-DD, whether the calendar has it or not: the bytes at the fifth and eighth place are `-`, and the others are
+-- digits
 unfoldable pub date_of : List ℕ → Option Date
 date_of word = do
   text ← only_if (length word == 10 && slice_index word 4 == 45 && slice_index word 7 == 45) word
@@ -66,7 +68,13 @@ clock_of word = do
 -- the minute at that time of that date, where it is one that a stamp can name
 unfoldable pub minute_at : Date → Clock → Option CivilMinute
 minute_at date clock =
-    let minute : CivilMinute = record { year = date.year; month = date.month; day = date.day; hour = clock.hour; minute = clock.minute } in
+    let minute : CivilMinute = record {
+      year = date.year;
+      month = date.month;
+      day = date.day;
+      hour = clock.hour;
+      minute = clock.minute;
+    } in
     only_if (is_civil_minute minute) minute
 
 -- two hexadecimal digits
