@@ -34,4 +34,5 @@ values_text index (value ∷ values) = value_text index value ++ values_text (in
 -- `row YYYY-MM-DD HH:MM I`, where I is the interval in minutes, and then ` NAME=VALUE` for each field that has a value
 unfoldable pub row_line : Row → List ℕ
 row_line row =
-    codes "row " ++ stamp_text row.stamp ++ codes " " ++ number_text row.interval ++ values_text 0 row.values ++ codes "\n"
+    codes "row " ++ stamp_text row.stamp ++ codes " " ++ number_text row.interval ++ values_text 0 row.values
+    ++ codes "\n"

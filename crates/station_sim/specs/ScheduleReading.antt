@@ -43,7 +43,9 @@ after period s Open = with_turn s Opening
 after period s Round = with_turn s InRound
 after period s
     (Host number fate) = record s { details = record s.details { host = with_entry s.details.host number fate } }
-after period s (Reply number fate) = record s { details = record s.details { replies = with_entry s.details.replies number fate } }
+after period s (Reply number fate) = record s {
+  details = record s.details { replies = with_entry s.details.replies number fate };
+}
 after period s (Late number waits place) = record s {
   details = record s.details { lates = with_entry s.details.lates number (record { waits = waits; place = place }) };
 }
