@@ -1,5 +1,6 @@
 -- Entries by number, and how late replies are seen.
-use Rattle.std.proofs.Common.{◌≡◌, ℕ, Bool, true, false, cond, List, [], ◌∷◌, Some, refl, ap}
+use Rattle.std.proofs.Common.{◌≡◌, ℕ, Bool, true, false, cond, List, [], ◌∷◌, Some, refl, ap, ◌∙◌}
+use Rattle.std.specs.List.{AllZip}
 use Rattle.std.specs.Prelude.{is_some}
 use Rattle.std.specs.Ordering.{nat_cmp, match_ordering}
 use Rattle.std.specs.declared.cmp.Ordering.{Ordering}
@@ -30,3 +31,13 @@ lates_listed (entry ∷ entries) n = go (is_at (nat_cmp n) entry.0) (lates_liste
         → is_some (cond here (Some (late_seen entry.1)) (entry_of n (lates_seen entries))) ≡ is_some (cond here (Some entry.1) (entry_of n entries))
     go true same = refl
     go false same = same
+
+pair_same : {A : Type 0} (x y : ℕ × A) → y.0 ≡ x.0 → y.1 ≡ x.1 → y ≡ x
+pair_same x y one other = ap (λ n. (n, y.1)) one ∙ ap (λ z. (x.0, z)) other
+
+-- entries of which each is the one at its place are the same
+pub entries_same : {A : Type 0} (xs ys : List (ℕ × A)) → AllZip (λ p q. (q.0 ≡ p.0) × (q.1 ≡ p.1)) xs ys → ys ≡ xs
+entries_same [] [] each = refl
+entries_same [] (y ∷ ys) each = absurd each
+entries_same (x ∷ xs) [] each = absurd each
+entries_same (x ∷ xs) (y ∷ ys) each = ap (λ z. z ∷ ys) (pair_same x y each.0.0 each.0.1) ∙ ap (λ zs. x ∷ zs) (entries_same xs ys each.1)

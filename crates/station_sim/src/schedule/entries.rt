@@ -1,4 +1,5 @@
-ghost use Rattle.std.specs.Prelude.{◌≡◌, ℕ, false, map, None};
+ghost use Rattle.std.specs.Prelude.{◌≡◌, ◌≤◌, ℕ, false, map, None};
+ghost use Rattle.station_sim.specs.InOrder.{last_number};
 ghost use Rattle.station_sim.specs.Lists.{entry_of};
 ghost use Rattle.station_sim.specs.ScheduleSteps.{lates_seen, mid_seen};
 ghost use Rattle.station_sim.specs.ScheduleKinds as specs;
@@ -17,7 +18,8 @@ impl Fates {
 
     // Whether the number is below that of the last record that falls due.
     pub(crate) fn is_below_last(&self, number: u32) -> bool
-        ensures { (period : ℕ) → result ≡ specs.is_below_last (map (mid_seen period) self.now.mids.items) number }
+        ensures seen { (period : ℕ) → result ≡ specs.is_below_last (map (mid_seen period) self.now.mids.items) number }
+        ensures behind { result ≡ false → last_number (λ m. m.number) 0 self.now.mids.items ≤ number }
     {
         match self.mids.last() {
             Some(mid) => number < mid.number,
