@@ -1,5 +1,5 @@
 -- The steps of a schedule, and what the lines so far have said.
-use Rattle.std.specs.Prelude.{ℕ, ℤ, ◌+◌, ◌*◌, ◌-◌, List, [], ◌∷◌, ◌++◌, map, Some, None}
+use Rattle.std.specs.Prelude.{ℕ, ℤ, ◌+◌, ◌*◌, ◌-◌, List, [], ◌∷◌, ◌++◌, length, map, Some, None}
 use Rattle.std.specs.declared.option.Option.{Option}
 use Rattle.station_base.specs.CivilMinute.{CivilMinute, minute_of, first_minute}
 use Rattle.archive_record.specs.declared.record_read.RecordRead.{RecordRead}
@@ -54,6 +54,25 @@ pub record Said : Type 0 where
   pub newest : ℕ
   pub records : ℕ
   pub turns : ℕ
+
+-- how many records belong to the last `open` or `round`, which has so many within it
+abbrev pub records_within : Turn → ℕ → ℕ
+records_within Neither count = 0
+records_within Opening count = 0
+records_within InRound count = count
+
+-- how many records fall due in a step
+abbrev pub records_in_step : Step → ℕ
+records_in_step (DueStep r) = 1
+records_in_step (RunStep first count) = count
+records_in_step (IdleStep ticks) = 0
+records_in_step (OpenStep stop) = 0
+records_in_step (RoundStep details stop) = length details.mids
+
+-- how many records fall due in all steps
+abbrev pub records_in : List Step → ℕ
+records_in [] = 0
+records_in (s ∷ ss) = records_in_step s + records_in ss
 
 -- nothing was said yet
 abbrev pub nothing_said : Said
