@@ -1,5 +1,5 @@
 -- How long frames are at least.
-use Rattle.std.proofs.Common.{ℕ, ◌+◌, ◌<◌, arith}
+use Rattle.std.proofs.Common.{◌<◌, arith}
 use Rattle.console_model.specs.declared.frame.FrameKind.{FrameKind}
 use Rattle.console_model.specs.declared.frame.FrameKind.TheVariants.{ForDump, ForBytes, ForTime}
 use Rattle.console_model.specs.FrameSize.{frame_size}

@@ -1,11 +1,9 @@
 -- What ticks and records that fall due leave of the records, and what a dump keeps while it lasts.
-use Rattle.std.proofs.Common.{◌≡◌, ℕ, ◌+◌, ◌-◌, List, [], ◌∷◌, ◌++◌, length, refl, sym, ap, subst, ◌∙◌, Bool, true, false, Option, Some, None, append_assoc}
+use Rattle.std.proofs.Common.{◌≡◌, ℕ, ◌+◌, ◌-◌, List, [], ◌∷◌, ◌++◌, length, refl, sym, ap, ◌∙◌, Bool, true, false, Option, Some, None, append_assoc}
 use Rattle.std.specs.Prelude.{if◌then◌else◌, nat_lt}
 use Rattle.std.proofs.lemmas.List.{append-nil}
 use Rattle.station_base.specs.CivilMinute.{CivilMinute}
 use Rattle.console_ring.specs.declared.plan.Plan.{Plan}
-use Rattle.console_model.specs.declared.due.Due.{Due}
-use Rattle.console_model.specs.declared.due.Due.TheVariants.{Put, Held, NotRising}
 use Rattle.console_model.specs.declared.signal.Signal.{Signal}
 use Rattle.console_model.specs.declared.signal.Signal.TheVariants.{Lf, Next, Again, Stop, Other}
 use Rattle.console_model.specs.declared.order.Order.{Order}

@@ -1,6 +1,6 @@
 -- The records newer than two words are the last of a history.
-use Rattle.std.proofs.Common.{◌≡◌, ℕ, zero, suc, ◌+◌, ◌-◌, ◌*◌, ◌/◌, ◌%◌, ◌<◌, ◌≤◌, Bool, true, false, List, [], ◌∷◌, length, take, drop, get_or, refl, sym, ap, subst, ◌∙◌, arith, length-take, length-drop, Option, Some, None}
-use Rattle.std.specs.Prelude.{if◌then◌else◌, not, nat_lt, filter, position, slice_get, option_and_then, IfSome, IsSomeAnd}
+use Rattle.std.proofs.Common.{◌≡◌, ℕ, zero, suc, ◌+◌, ◌-◌, ◌<◌, ◌≤◌, Bool, true, false, List, [], ◌∷◌, length, take, drop, get_or, refl, sym, ap, subst, ◌∙◌, arith, length-take, length-drop, Option, Some, None}
+use Rattle.std.specs.Prelude.{if◌then◌else◌, nat_lt, filter, slice_get, option_and_then, IfSome, IsSomeAnd}
 use Rattle.std.specs.List.{position_or_len}
 use Rattle.std.proofs.lemmas.Bool.Decides.{nat_tests}
 use Rattle.std.proofs.lemmas.List.{drop-drop, get_or-drop}
@@ -10,9 +10,8 @@ use Rattle.station_base.proofs.Civil.{stamp_civil}
 use Rattle.station_base.proofs.WordOrder.{words_exceed_when_later}
 use Rattle.archive_record.specs.Kind.{word_at}
 use Rattle.archive_record.specs.Reading.{stamp_in}
-use Rattle.console_ring.specs.declared.plan.Plan.{Plan}
-use Rattle.console_ring.specs.History.{retained, newest_of, CanExtend, IsHistory, is_newer, newer}
-use Rattle.console_ring.specs.Picture.{last_in, plan_by, plan_from, plan_of, plan_of_last, no_plan, IsLastIn}
+use Rattle.console_ring.specs.History.{retained, newest_of, IsHistory, is_newer, newer}
+use Rattle.console_ring.specs.Picture.{last_in, plan_by, plan_from, plan_of, plan_of_last, IsLastIn}
 use Rattle.console_ring.proofs.Words.{stamp_words}
 
 -- behind one that passes stands one that passes

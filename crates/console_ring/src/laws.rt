@@ -1,6 +1,7 @@
-ghost use Rattle.std.specs.Prelude.{ℕ, ◌≡◌, ◌-◌, ◌<◌, List, length, drop};
+ghost use Rattle.std.specs.Prelude.{ℕ, ◌≡◌, ◌-◌, ◌<◌, ◌%◌, List, [], ◌∷◌, length, take, drop};
+ghost use Rattle.console_ring.specs.declared.plan.Plan.{Plan};
 ghost use Rattle.console_ring.specs.History.{retained, newer, IsHistory};
-ghost use Rattle.console_ring.specs.Picture.{last_in, plan_of, plan_of_last, IsLastIn};
+ghost use Rattle.console_ring.specs.Picture.{last_in, plan_of, plan_of_last, page_of, IsLastIn};
 
 /// What a slot shows is the last record that went into it.
 pub fn slots_show_the_last()
@@ -13,4 +14,10 @@ pub fn newer_records_are_the_last()
         found ≡ drop (length history - length found) history }
     ensures plan { (history : List (List ℕ)) (date time : ℕ) → IsHistory history
         → plan_of history date time ≡ plan_of_last (length (newer date time (retained history))) (length history) }
+{}
+
+/// The first byte of a page is its number modulo 256 (Davis serial manual, "Download Protocol").
+#[tactic(auto, unfolding(crate::specs::Picture::page_of))]
+pub fn pages_tell_their_number()
+    ensures { (history : List (List ℕ)) (plan : Plan) (page : ℕ) → take 1 (page_of history plan page) ≡ (page % 256) ∷ [] }
 {}

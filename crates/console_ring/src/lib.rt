@@ -12,7 +12,7 @@ mod plan;
 mod put;
 mod ring;
 
-pub use laws::{newer_records_are_the_last, slots_show_the_last};
+pub use laws::{newer_records_are_the_last, pages_tell_their_number, slots_show_the_last};
 pub use plan::Plan;
 pub use put::RingPut;
 pub use ring::Ring;
