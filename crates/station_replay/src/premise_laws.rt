@@ -29,9 +29,8 @@ pub fn an_attempt_can_be_whole()
         → (after : Option CivilMinute) → WholeAttempt after (fresh_line c) }
 {}
 
-/// More records can be put than an archive keeps. Those of minutes in a row, from 2000-01-01 00:00 on, are a schedule's; a new
-/// console puts them all, on a line that is calm; of more than 2,560 the last 2,560 are held, and the dump of all that is held has
-/// just these.
+/// More records can be put than an archive keeps. Those of minutes in a row, from 2000-01-01 00:00 on, are a schedule's, and a new
+/// console puts them all. Of more than 2,560 the last 2,560 are held, and the dump of all that is held has just these.
 pub fn an_archive_can_overflow()
     ensures schedule { (count : ℕ) → count ≤ 40320 → IsSchedule (Step.Due (minute_records 0 count) ∷ []) }
     ensures put { (count : ℕ) → count ≤ 40320 → (eeprom : List ℕ) (packet : LoopPacket) → let w = filled_line count eeprom packet in

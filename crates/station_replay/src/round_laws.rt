@@ -13,9 +13,9 @@ ghost use Rattle.station_replay.specs.Harm.{DiskFailed, LinkShort, HarmTells};
 
 use disk_model::Disk;
 
-/// A session's round over a line that stands for a calm one, no delivery unseen: it gives up only where each of its three attempts
-/// has a harmed delivery. An attempt without one is whole, or ends since the archive is full, the disk's faults rose, or the
-/// link's shortages did.
+/// A session's round over a line that stands for a calm one, no delivery being unseen. It gives up only where each of its three
+/// attempts has a harmed delivery. An attempt without one is whole, or ends since the archive is full, the disk's faults rose, or
+/// the link's shortages did.
 pub fn a_round_over_a_line<D: Disk>()
     ensures { (rows : List Row) (end : RoundEnd) (old new : RoundHost Sim D) (report : Report) (w : Line)
         → (round : Serves told D.medium rows end old new report) → AnswersRound told D.medium end old new report.attempts
