@@ -8,7 +8,7 @@ mkdir -p "$copy/crates/measure/src"
 cp HANDLES "$copy"
 sed 's/^station_replay:.*/measure: station_base station_sim/' crates.txt >"$copy/crates.txt"
 for name in $(sed -n 's/^\([a-z_]*\):.*/\1/p' "$copy/crates.txt"); do
-    [ "$name" = measure ] || [ -d "$copy/crates/$name" ] || cp -r "crates/$name" "$copy/crates/$name"
+    [ "$name" = measure ] || tar -C crates --exclude=out -c "$name" | tar -C "$copy/crates" -x
 done
 cat >"$copy/crates/measure/src/main.rt" <<'PROGRAM'
 //! Reads the schedule of a file as often as there are further words, and prints how many records it has.
