@@ -1,14 +1,15 @@
 -- The rows that a book stands for.
-use Rattle.std.proofs.Common.{◌≡◌, List, length, refl, ap}
+use Rattle.std.proofs.Common.{◌≡◌, List}
+use Rattle.std.proofs.Math.Logic.{∥∥₁_map}
 use Rattle.station_base.specs.declared.row.Row.{Row}
 use Rattle.weather_book.specs.declared.book.Book.{Book}
 use Rattle.weather_book.specs.Book.{StandsFor}
-use Rattle.weather_book.specs.Rising.{last_stamp}
+use Rattle.weather_book.specs.Kept.{KeepsOf}
 
--- it stands for the rows that it has
-pub stands_by : (book : Book) (rows : List Row) → book.rows.items ≡ rows → StandsFor book rows
-stands_by book rows are = record { are = are; held_is = ap (λ (r : List Row). length r) are; stamp_is = ap (λ (r : List Row). last_stamp r) are }
+-- it stands for the rows of which it keeps days, number and end
+pub stands_by : (book : Book) (rows : List Row) → KeepsOf book.kept.days.items book.kept.count book.kept.tail rows → StandsFor book rows
+stands_by book rows keeps = record { keeps = keeps; held_is = keeps.count_is; stamp_is = keeps.ends.last }
 
 -- so there are such rows
 pub some_rows : (book : Book) → ∥ ((rows : List Row) × StandsFor book rows) ∥₁
-some_rows book = ∣ (book.rows.items, stands_by book book.rows.items refl) ∣₁
+some_rows book = ∥∥₁_map book.kept.some (λ p. (p.0, stands_by book p.0 p.1))

@@ -1,0 +1,107 @@
+-- The parts of a summary in the slots that close its day.
+use Rattle.std.proofs.Common.{◌≡◌, ◌≢◌, ◌⊎◌, inl, inr, ℕ, ℤ, zero, suc, ◌+◌, ◌-◌, ◌*◌, ◌<◌, ◌≤◌, List, [], ◌∷◌, ◌++◌, length, take, drop, get_or, replicate, refl, sym, ◌∙◌, ap, subst, arith, append_assoc, append-nil, length-append, below_more}
+use Rattle.std.specs.Prelude.{flat_map}
+use Rattle.std.specs.List.{range_with_len}
+use Rattle.std.specs.Int.{w32, cast_unsigned}
+use Rattle.std.proofs.Math.Seq.{take-append_seam, drop-append_seam}
+use Rattle.std.proofs.lemmas.List.{length-drop, drop-drop, drop-take, take-take, length-take}
+use Rattle.daily_summary.proofs.Pieces.{put_behind}
+use Rattle.weather_book.specs.Closed.{IsClosedAt, part_at, parts_at}
+use borrow.Rule.Slice.PartMut.{put_mid}
+use Rattle.byteorder.specs.Endian.{little_bytes}
+use Rattle.daily_summary.specs.declared.summary.DaySummary.{DaySummary}
+use Rattle.daily_summary.specs.Bounds.{IsInBounds}
+use Rattle.daily_summary.specs.Parts.{part_of, parts_of}
+use Rattle.daily_summary.specs.WellFormed.{IsStoredAs}
+use Rattle.daily_summary.proofs.PartsLaws.{part_long}
+use Rattle.gated_log.specs.Log.{unmarked}
+use Rattle.gated_log.specs.Stands.{AreSlots, IsSlot}
+use Rattle.weather_book.specs.Closing.{summary_slot}
+
+-- the part in a slot
+pub part_in : List ℕ → List ℕ
+part_in slot = take 132 (drop 24 slot)
+
+same_part : (slot : List ℕ) → part_in (unmarked slot) ≡ part_in slot
+unfolding part_in
+same_part [] = refl
+same_part (a ∷ []) = refl
+same_part (a ∷ b ∷ []) = refl
+same_part (a ∷ b ∷ c ∷ []) = refl
+same_part (a ∷ b ∷ c ∷ d ∷ rest) = refl
+
+part_written : (day : ℤ) (k : ℕ) (s : DaySummary) → part_in (summary_slot day k s) ≡ part_of k s
+unfolding part_in summary_slot
+part_written day k s =
+    ap (λ (n : ℕ). take n (part_of k s ++ replicate 20 0)) (sym (part_long k s)) ∙ take-append_seam (part_of k s) (replicate 20 0)
+
+-- what is read of a slot that closes a day has its part
+pub part_read : (day : ℤ) (k : ℕ) (s : DaySummary) (slot bytes : List ℕ) → IsSlot slot bytes → unmarked slot ≡ summary_slot day k s → take 132 (drop 24 bytes) ≡ part_of k s
+unfolding part_in
+part_read day k s slot bytes (inl same) is = ap part_in (sym same) ∙ sym (same_part slot) ∙ ap part_in is ∙ part_written day k s
+part_read day k s slot bytes (inr same) is = sym (same_part bytes) ∙ ap part_in (sym same) ∙ sym (same_part slot) ∙ ap part_in is ∙ part_written day k s
+
+-- lists that are the same part by part
+same_parts : (n a : ℕ) (f g : ℕ → List ℕ) → ((i : ℕ) → i < n → f (a + i) ≡ g (a + i)) → flat_map f (range_with_len a n) ≡ flat_map g (range_with_len a n)
+same_parts zero a f g each = refl
+same_parts (suc n) a f g each =
+    let first : f a ≡ g a = ap f (let e : a ≡ a + 0 = omega arith in e) ∙ each 0 (omega arith) ∙ ap g (let e : a + 0 ≡ a = omega arith in e) in
+    let rest = same_parts n (a + 1) f g (λ i h. ap f (let e : a + 1 + i ≡ a + suc i = omega arith in e) ∙ each (suc i) (omega arith) ∙ ap g (let e : a + suc i ≡ a + 1 + i = omega arith in e)) in
+    ap (λ (xs : List ℕ). xs ++ flat_map f (range_with_len (a + 1) n)) first ∙ ap (λ (xs : List ℕ). g a ++ xs) rest
+
+-- the parts in slots that close a day are those of its summary
+pub parts_read : (slots : List (List ℕ)) (place : ℕ) (day : ℤ) (s : DaySummary) (bytes : List ℕ) → length bytes ≡ 2288 → AreSlots slots place bytes → IsClosedAt slots place day s → parts_at bytes ≡ parts_of s
+parts_read slots place day s bytes long are closed =
+    same_parts 13 0 (part_at bytes) (λ k. part_of k s)
+    (λ i h. ap (part_at bytes) (let e : 0 + i ≡ i = omega arith in e) ∙ one i h ∙ ap (λ (k : ℕ). part_of k s) (let e : i ≡ 0 + i = omega arith in e))
+  where
+    one : (i : ℕ) → i < 13 → part_at bytes i ≡ part_of i s
+    one i h =
+        let slot_bytes : List ℕ = take 176 (drop (176 * i) bytes) in
+        let inner : take 132 (drop 24 slot_bytes) ≡ part_at bytes i =
+        ap (take 132) (drop-take 24 152 (drop (176 * i) bytes)) ∙ take-take 132 152 (drop 24 (drop (176 * i) bytes)) (omega arith) ∙ ap (take 132) (drop-drop 24 (176 * i) bytes) in
+        sym inner ∙ part_read day i s (get_or slots (place + i) []) slot_bytes (are i (omega (arith, long, h))) (closed.each i h)
+
+-- so many parts in front of zeros in place of those that are still to be copied
+pub record AreCopied (bytes : List ℕ) (count : ℕ) (parts : List ℕ) : Type 0 where
+  pub parts_are : parts ≡ flat_map (part_at bytes) (range_with_len 0 count) ++ drop (132 * count) (replicate 1716 0)
+
+part_size : (bytes : List ℕ) (k : ℕ) → length bytes ≡ 2288 → k < 13 → length (part_at bytes k) ≡ 132
+part_size bytes k long lt = let a = length-take 132 (drop (176 * k + 24) bytes) in let b = length-drop (176 * k + 24) bytes in omega (arith, a, b, long, lt)
+
+front_size : (bytes : List ℕ) (a n : ℕ) → length bytes ≡ 2288 → a + n ≤ 13 → length (flat_map (part_at bytes) (range_with_len a n)) ≡ 132 * n
+front_size bytes a zero long le = refl
+front_size bytes a (suc n) long le =
+    let one = part_size bytes a long (omega arith) in let rest = front_size bytes (a + 1) n long (omega arith) in
+    omega (arith, length-append (part_at bytes a) (flat_map (part_at bytes) (range_with_len (a + 1) n)), one, rest)
+
+more_parts : (bytes : List ℕ) (a n : ℕ) → flat_map (part_at bytes) (range_with_len a (suc n)) ≡ flat_map (part_at bytes) (range_with_len a n) ++ part_at bytes (a + n)
+more_parts bytes a zero = append-nil (part_at bytes a) ∙ ap (part_at bytes) (let e : a ≡ a + 0 = omega arith in e)
+more_parts bytes a (suc n) =
+    let rest : List ℕ = flat_map (part_at bytes) (range_with_len (a + 1) n) in
+    ap (λ (xs : List ℕ). part_at bytes a ++ xs) (more_parts bytes (a + 1) n) ∙ sym (append_assoc (part_at bytes a) rest (part_at bytes (a + 1 + n)))
+    ∙ ap (λ (k : ℕ). (part_at bytes a ++ rest) ++ part_at bytes k) (let e : a + 1 + n ≡ a + suc n = omega arith in e)
+
+pub one_copied : (bytes : List ℕ) (count size : ℕ) (parts new : List ℕ) → length bytes ≡ 2288 → count < 13 → size ≡ 132 → AreCopied bytes count parts → new ≡ part_at bytes count →
+    AreCopied bytes (count + 1) (put_mid (132 * count) size parts new)
+one_copied bytes count size parts new long lt is132 are new_is =
+    let front : List ℕ = flat_map (part_at bytes) (range_with_len 0 count) in
+    let blank : List ℕ = replicate 1716 0 in
+    record {
+      parts_are =
+          ap (λ (n : ℕ). put_mid (132 * count) n parts new) is132 ∙ ap (λ (xs : List ℕ). put_mid (132 * count) 132 xs new) are.parts_are
+          ∙ put_behind (132 * count) 132 front (drop (132 * count) blank) new (front_size bytes 0 count long (omega arith))
+          ∙ ap (λ (xs : List ℕ). front ++ (new ++ xs)) (drop-drop 132 (132 * count) blank)
+          ∙ ap (λ (k : ℕ). front ++ (new ++ drop k blank)) (let e : 132 * count + 132 ≡ 132 * (count + 1) = omega arith in e)
+          ∙ ap (λ (xs : List ℕ). front ++ (xs ++ drop (132 * (count + 1)) blank)) (new_is ∙ ap (part_at bytes) (let e : count ≡ 0 + count = omega arith in e))
+          ∙ sym (append_assoc front (part_at bytes (0 + count)) (drop (132 * (count + 1)) blank))
+          ∙ ap (λ (xs : List ℕ). xs ++ drop (132 * (count + 1)) blank) (sym (more_parts bytes 0 count) ∙ ap (λ (k : ℕ). flat_map (part_at bytes) (range_with_len 0 k)) (let e : suc count ≡ count + 1 = omega arith in e));
+    }
+
+pub all_copied : (bytes : List ℕ) (count : ℕ) (parts : List ℕ) → count ≡ 13 → AreCopied bytes count parts → parts ≡ parts_at bytes
+all_copied bytes count parts all are =
+    let thirteen = subst (λ (n : ℕ). AreCopied bytes n parts) all are in
+    thirteen.parts_are ∙ append-nil (parts_at bytes)
+
+pub stored_as : (rows : ℕ) (parts : List ℕ) (s : DaySummary) → s.rows ≡ rows → IsInBounds s → parts_of s ≡ parts → IsStoredAs rows parts s
+stored_as rows parts s count bounds bytes = record { count = count; bounds = bounds; bytes = bytes }

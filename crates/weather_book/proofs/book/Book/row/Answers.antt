@@ -1,0 +1,27 @@
+use Rattle.std.proofs.Common.{◌≡◌, ◌+◌, ◌*◌, ◌<◌, ◌≤◌, ◌-◌, List, [], ℕ, length, Some, sym, ◌∙◌, ap, subst, arith}
+use Rattle.std.specs.Prelude.{get_or}
+use Rattle.gated_log.specs.GatedLog.{slot_count}
+use Rattle.gated_log.specs.Stands.{StandsToRead}
+use Rattle.weather_book.specs.Rows.{slot_total}
+use Rattle.weather_book.proofs.Places.{place_is, slot_row}
+use Rattle.weather_book.proofs.KeptLaws.{total_kept}
+use Rattle.weather_book.proofs.Looks.{one_look}
+use Rattle.weather_book.proofs.book.Book.row.Goals as goal
+
+pub returns-in-Done-clause-row : goal.returns-in-Done-clause-row
+returns-in-Done-clause-row g c rows stands x told =
+    let self = c.args.self.now in let kept = self.kept in let keeps = stands.stands_for.keeps in let m = g.D.Disk.medium in
+    let same : slot_total rows ≡ slot_count self.log = omega (arith, self.counted, total_kept kept.days.items kept.count kept.tail rows keeps, kept.days.ok.0) in
+    let log = subst (λ (n : ℕ). StandsToRead m n c.args.disk.now stands.slots) same stands.log in
+    let at = place_is stands.slots rows c.args.n c.place-place.result stands.rows_are (omega (arith, c.requires, keeps.count_is)) (c.place-place.ensures.rows rows keeps) in
+    at.1 ∙ ap Some (sym (c.row_of.ensures at.0 (slot_row (get_or stands.slots c.place-place.result []) c.slot.new.buf at.0 (c.in-Done.ensures.bytes stands.slots log x told) at.2)))
+
+pub returns-in-Done-clause-went : goal.returns-in-Done-clause-went
+returns-in-Done-clause-went g c rows stands =
+    let self = c.args.self.now in let kept = self.kept in
+    one_look g.D.Disk.medium _ _ _ _ _ _ (omega (arith, c.requires, c.place-place.ensures.within, kept.days.ok.0, total_kept kept.days.items kept.count kept.tail rows stands.keeps)) c.in-Done.ensures.went
+
+pub returns-in-Failed-clause-went : goal.returns-in-Failed-clause-went
+returns-in-Failed-clause-went g c rows stands =
+    let self = c.args.self.now in let kept = self.kept in
+    one_look g.D.Disk.medium _ _ _ _ _ _ (omega (arith, c.requires, c.place-place.ensures.within, kept.days.ok.0, total_kept kept.days.items kept.count kept.tail rows stands.keeps)) c.in-Failed.ensures.went

@@ -1,0 +1,36 @@
+use Rattle.std.proofs.Common.{◌≡◌, ◌+◌, ◌*◌, ◌<◌, ◌≤◌, ◌-◌, List, [], ℕ, length, take, drop, Some, sym, ◌∙◌, ap, subst, arith}
+use Rattle.std.specs.Prelude.{min}
+use Rattle.gated_log.specs.GatedLog.{slot_count}
+use Rattle.gated_log.specs.Stands.{StandsToRead}
+use Rattle.station_base.specs.declared.row.Row.{Row}
+use Rattle.weather_book.specs.declared.answers.RowsAnswer.{RowsAnswer}
+use Rattle.weather_book.specs.declared.answers.RowsAnswer.TheVariants as rows
+use Rattle.weather_book.specs.Rows.{slot_total}
+use Rattle.weather_book.specs.Start.{OnRows}
+use Rattle.weather_book.proofs.Places.{place_is}
+use Rattle.weather_book.proofs.KeptLaws.{total_kept}
+use Rattle.weather_book.proofs.book.Book.rows_at.Goals as goal
+
+on_rows : (a : RowsAnswer) (P Q : Type 0) → (P → Q) → OnRows a P → OnRows a Q
+on_rows rows.Done P Q f p = f p
+on_rows rows.DiskFault P Q f p = tt
+
+pub returns-clause-rows : goal.returns-clause-rows
+returns-clause-rows g c =
+    let self = c.args.self.now in let kept = self.kept in let m = g.D.Disk.medium in
+    on_rows c.read_slots.result _ _ (λ h rows stands x told.
+    let keeps = stands.stands_for.keeps in
+    let same : slot_total rows ≡ slot_count self.log = omega (arith, self.counted, total_kept kept.days.items kept.count kept.tail rows keeps, kept.days.ok.0) in
+    let log = subst (λ (n : ℕ). StandsToRead m n c.args.disk.now stands.slots) same stands.log in
+    h rows c.args.n stands.slots log
+    (λ k lt.
+    let at = place_is stands.slots rows (c.args.n + k) (c.place-place.result + k) stands.rows_are (omega (arith, lt, c.rest-count.ensures.within, keeps.count_is))
+    (let p = c.place-place.ensures.rows rows keeps in let q = c.rest-count.ensures.place rows keeps k lt in omega (arith, p, q)) in
+    (at.0, at.1, at.2)) x told
+    ∙ ap (λ (n : ℕ). take n (drop c.args.n rows)) (c.rest-count.ensures.rows rows keeps)) c.read_slots.ensures.rows
+
+pub returns-clause-went : goal.returns-clause-went
+returns-clause-went g c rows stands =
+    let self = c.args.self.now in let kept = self.kept in
+    c.read_slots.ensures.went (176 * (slot_total rows + 1))
+    (omega (arith, c.rest-count.ensures.within, c.place-place.ensures.within, kept.days.ok.0, total_kept kept.days.items kept.count kept.tail rows stands.keeps))

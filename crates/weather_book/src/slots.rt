@@ -1,0 +1,116 @@
+ghost use Rattle.std.specs.Prelude.{ℕ, ℤ, false, ◌≡◌, ◌≤◌, ◌+◌, ◌*◌, ◌/◌, [], ◌∷◌, List, Some, length, take, drop};
+ghost use Rattle.causes.specs.Told.{WhereTold};
+ghost use Rattle.disk_model.specs.Disk.{Stays, Faults, Looks};
+ghost use Rattle.gated_log.specs.Calls.{Looked};
+ghost use Rattle.gated_log.specs.GatedLog.{slot_count};
+ghost use Rattle.gated_log.specs.Log.{unmarked};
+ghost use Rattle.gated_log.specs.Stands.{StandsToRead};
+ghost use Rattle.row_slot.specs.Slot.{row_in};
+ghost use Rattle.station_base.specs.declared.row.Row.{Row};
+ghost use Rattle.daily_summary.specs.declared.summary.DaySummary.{DaySummary};
+ghost use Rattle.weather_book.specs.Closed.{IsClosedAt, parts_at};
+ghost use Rattle.weather_book.specs.Packed.{AreRowsAt};
+ghost use Rattle.weather_book.specs.Start.{OnRows, OnSummary, day_failed, has_no_rows, rows_failed};
+
+use crate::tail::{PART, without_marks};
+use crate::{DayAnswer, RowsAnswer};
+use arrayvec::ArrayVec;
+use daily_summary::{DaySummary, PART_COUNT, PART_SIZE, PARTS_SIZE};
+use disk_model::{Disk, Disked};
+use gated_log::{GatedLog, SLOT_SIZE};
+use station_base::Row;
+
+// The row of a slot, its gate and the number of its batch's slots aside. Of a slot that has none the `Default` row.
+pub(crate) fn row_of(slot: &[u8; SLOT_SIZE]) -> Row
+    ensures { (row : Row) → row_in (unmarked slot.now) ≡ Some row → result ≡ row }
+{
+    match row_slot::read(&without_marks(slot)) {
+        Some(row) => row,
+        None => Row::default(),
+    }
+}
+
+// The row of slot `k` of these.
+fn row_at(bytes: &[u8], k: usize) -> Row
+    requires { 176 * (k + 1) ≤ length bytes.now }
+    ensures { (row : Row) → row_in (unmarked (take 176 (drop (176 * k) bytes.now))) ≡ Some row → result ≡ row }
+{
+    let mut slot = [0; SLOT_SIZE];
+    slot.copy_from_slice(&bytes[SLOT_SIZE * k..SLOT_SIZE * k + SLOT_SIZE]);
+    row_of(&slot)
+}
+
+// Reads so many slots from number `place` on, and pushes the row of each.
+pub(crate) fn read_slots<D: Disk>(
+    log: &GatedLog,
+    disk: &mut D,
+    place: u64,
+    count: usize,
+    bytes: &mut [u8],
+    into: &mut ArrayVec<Row, 16>,
+) -> RowsAnswer
+    requires some { 1 ≤ count }
+    requires most { count ≤ 16 }
+    requires size { length bytes.old ≡ 176 * count }
+    requires within { place + count ≤ slot_count log.now }
+    requires empty { into.old.items ≡ [] }
+    ensures rows { OnRows result ((rows : List Row) (n : ℕ) (slots : List (List ℕ)) → StandsToRead D.medium (slot_count log.now) disk.old slots
+        → AreRowsAt slots place rows n count → WhereTold (D.medium.seen disk.old) (λ _. into.new.items ≡ take count (drop n rows))) }
+    ensures none { result ≡ RowsAnswer.DiskFault → into.new.items ≡ [] }
+    ensures stays { Stays D.medium disk.old disk.new }
+    ensures cause { Faults D.medium disk.old disk.new (result ≡ RowsAnswer.DiskFault) }
+    ensures looks { Looks D.medium 1 disk.old disk.new }
+    ensures went { (len : ℕ) → 176 * (place + count + 1) ≤ len → Looked D.medium len (rows_failed result) disk.old disk.new }
+{
+    match log.slots_at(disk, place, bytes) {
+        Disked::Done => {}
+        Disked::Failed => return RowsAnswer::DiskFault,
+    }
+    for k in 0..count {
+        into.push(row_at(bytes, k));
+    }
+    RowsAnswer::Done
+}
+
+// The bytes of the slots that close a day.
+const CLOSING_BYTES: usize = SLOT_SIZE * PART_COUNT;
+
+// The parts of the summary in the slots that close its day.
+fn parts_at(bytes: &[u8; CLOSING_BYTES]) -> [u8; PARTS_SIZE]
+    ensures { result ≡ parts_at bytes.now }
+{
+    let mut parts = [0; PARTS_SIZE];
+    for k in 0..PART_COUNT {
+        let from = SLOT_SIZE * k + PART;
+        let place = PART_SIZE * k;
+        parts[place..place + PART_SIZE].copy_from_slice(&bytes[from..from + PART_SIZE]);
+    }
+    parts
+}
+
+// Reads the summary of a day of so many rows of the thirteen slots from number `place` on, which close it.
+pub(crate) fn read_summary<D: Disk>(
+    log: &GatedLog,
+    disk: &mut D,
+    place: u64,
+    rows: u32,
+) -> DayAnswer
+    requires within { place + 13 ≤ slot_count log.now }
+    ensures summary { OnSummary result (λ s. (slots : List (List ℕ)) (day : ℤ) (t : DaySummary) → StandsToRead D.medium (slot_count log.now) disk.old slots
+        → IsClosedAt slots place day t → t.rows ≡ rows → WhereTold (D.medium.seen disk.old) (λ _. s ≡ t)) }
+    ensures some { has_no_rows result ≡ false }
+    ensures stays { Stays D.medium disk.old disk.new }
+    ensures cause { Faults D.medium disk.old disk.new (result ≡ DayAnswer.DiskFault) }
+    ensures looks { Looks D.medium 1 disk.old disk.new }
+    ensures went { (len : ℕ) → 176 * (place + 14) ≤ len → Looked D.medium len (day_failed result) disk.old disk.new }
+{
+    let mut bytes = [0; CLOSING_BYTES];
+    match log.slots_at(disk, place, &mut bytes) {
+        Disked::Done => {}
+        Disked::Failed => return DayAnswer::DiskFault,
+    }
+    match DaySummary::from_parts(rows, &parts_at(&bytes)) {
+        Some(summary) => DayAnswer::Summary(summary),
+        None => DayAnswer::Summary(DaySummary::new()),
+    }
+}
