@@ -10,6 +10,9 @@ pub const MOST_BATCHES: usize = ATTEMPTS as usize * MOST_PAGES as usize;
 // The most slots that the pages of one attempt skip, and the most rows that they give.
 pub const MOST_SLOTS: usize = MOST_RECORDS * MOST_PAGES as usize;
 
+// The most rows of a round.
+pub const MOST_ROWS: usize = MOST_RECORDS * MOST_BATCHES;
+
 // How many changes of the disk a batch takes.
 const CHANGES: usize = 4;
 
