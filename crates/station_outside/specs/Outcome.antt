@@ -1,5 +1,5 @@
 -- What the answer of one read or write of the system means.
-use Rattle.std.specs.Prelude.{ℕ, ◌≡◌, ◌<◌, Result, Ok, IsErr}
+use Rattle.std.specs.Prelude.{ℕ, ◌≡◌, ◌≤◌, ◌<◌, Result, Ok, IsErr}
 use Rattle.station_outside.specs.declared.outcome.Outcome.{Outcome}
 use Rattle.station_outside.specs.declared.outcome.Outcome.TheVariants.{Moved, Ended}
 
@@ -8,3 +8,8 @@ abbrev pub MeansBy : {E : Type 0} → Outcome → Result ℕ E → Type 0
 MeansBy (Moved n) answer = (answer ≡ Ok n) × (0 < n)
 MeansBy Ended answer = answer ≡ Ok 0
 MeansBy other answer = IsErr answer
+
+-- at least one byte went, and no more than there is room for
+abbrev pub IsWithin : Outcome → ℕ → Type 0
+IsWithin (Moved n) size = (1 ≤ n) × (n ≤ size)
+IsWithin other size = Unit {0}

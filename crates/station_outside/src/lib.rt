@@ -1,15 +1,17 @@
-//! The outside as the system has it: files, and the standard streams.
+//! The outside as the system has it: files, a line over TCP, and the standard streams.
 #![tactic(auto)]
 
 mod outcome;
 mod std_files;
 mod std_sink;
 mod streams;
+mod tcp_link;
 
 pub use outcome::{Outcome, understand};
 pub use std_files::StdFiles;
 pub use std_sink::StdSink;
 pub use streams::hold_standard_streams;
+pub use tcp_link::TcpLink;
 
 #[cfg(test)]
 mod tests;

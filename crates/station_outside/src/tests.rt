@@ -2,12 +2,16 @@ ghost use Rattle.std.specs.Prelude.{◌≤◌, IfOk};
 
 use crate::std_files::read_front;
 use crate::std_sink::write_whole;
-use crate::{StdFiles, hold_standard_streams};
+use crate::tcp_link::{accept, bind};
+use crate::{StdFiles, TcpLink, hold_standard_streams};
+use serial_link::{Connected, Link, Recv, Sent, Side};
 use station_io::{Files, LONGEST, Put, TextRead};
 use std::fs::{self, File};
 use std::io::{self, ErrorKind, Read, Write};
+use std::net::TcpStream;
 use std::rt;
 use std::test::Fail;
+use std::time::{Duration, Instant};
 
 // What a call of the system is made to answer.
 #[derive(Clone, Copy)]
@@ -157,5 +161,43 @@ fn names_and_lengths_of_real_files_decide(rt: HostRuntime) -> Result<(), Fail> {
 fn open_streams_are_left_alone(rt: HostRuntime) -> Result<(), Fail> {
     hold_standard_streams(&rt)?;
     hold_standard_streams(&rt)?;
+    Ok(())
+}
+
+// Both ends on one thread: the caller connects and speaks before the listener accepts.
+#[test]
+fn two_ends_of_a_line(rt: HostRuntime) -> Result<(), Fail> {
+    let listener = bind(&rt, "127.0.0.1:0")?;
+    let address = listener.local_addr()?;
+    let address = format!(in rt.alloc(); "{address}")?;
+    let mut host = TcpLink::new(&rt);
+    assert_eq!(rt; host.recv(&mut [0]), Recv::Failed, "no line yet");
+    assert_eq!(rt; host.connect(Side::Call, address.as_str()), Connected::Done);
+    assert_eq!(rt; host.send(b"\n"), Sent::Done);
+    let mut console = TcpLink::of(&rt, accept(listener)?);
+    assert!(rt;
+        TcpStream::connect(&rt, address.as_str()).is_err(),
+        "one caller alone"
+    );
+    let mut buf = [0; 4];
+    assert_eq!(rt; console.recv(&mut buf), Recv::Got(1));
+    assert_eq!(rt; buf[0], b'\n');
+    let begun = Instant::now(&rt)?;
+    assert_eq!(rt; console.recv(&mut buf), Recv::Quiet);
+    let took = begun.elapsed(&rt)?;
+    assert!(rt; took >= Duration::from_millis(400), "one wait");
+    assert!(rt; took < Duration::from_millis(4_000), "one wait");
+    assert_eq!(rt; console.send(b"\n\rmore"), Sent::Done);
+    assert_eq!(rt; host.recv(&mut buf), Recv::Got(4));
+    assert_eq!(rt; buf, *b"\n\rmo");
+    assert_eq!(rt; host.recv(&mut buf), Recv::Got(2));
+    drop(console);
+    assert_eq!(rt; host.recv(&mut buf), Recv::Failed, "the line has ended");
+    assert_eq!(rt;
+        host.connect(Side::Call, address.as_str()),
+        Connected::Failed
+    );
+    assert_eq!(rt; host.send(b"x"), Sent::Failed);
+    assert_eq!(rt; host.connect(Side::Call, "no address"), Connected::Failed);
     Ok(())
 }

@@ -1,0 +1,12 @@
+use Rattle.std.proofs.Common.{refl, rules}
+use Rattle.serial_link.specs.Talk.{message}
+use Rattle.station_outside.proofs.Talking.{adds_said}
+use Rattle.station_outside.proofs.tcp_link.TcpLinkLink.send.Goals as goal
+
+pub returns-in-Ok : goal.returns-in-Ok
+returns-in-Ok g c = record {
+  talk = (message c.args.bytes.now, refl, adds_said (λ link. link.faults) (λ link. link.quiets) c.args.self.now _ c.args.bytes.now refl);
+  fault = search rules;
+  shortage = search rules;
+  still = search rules;
+}
