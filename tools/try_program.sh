@@ -38,6 +38,13 @@ expect 'a word that is not UTF-8' 1 usage
 run pages first.pages first.pages first.pages
 expect 'a word too many' 1 usage
 
+run task 127.0.0.1:1 loop 33
+expect 'a task out of form' 1 usage
+run task 127.0.0.1:1 kind
+expect 'an address where no console is' 6 'link fault'
+run task nowhere kind
+expect 'an address without a port' 6 'link fault'
+
 run pages missing.pages
 expect 'a missing file' 8 'read fault'
 run pages missing.toml first.pages

@@ -1,30 +1,47 @@
 -- What the words of the command line ask for.
-use Rattle.std.specs.Prelude.{ℕ, if◌then◌else◌, List, [], ◌∷◌, map, bytes_eq, codes, Some, None}
+use Rattle.std.specs.Prelude.{ℕ, if◌then◌else◌, List, [], ◌∷◌, map, bytes_eq, codes, Some, None, option_map}
 use Rattle.std.specs.Borrow.{Bor}
 use Rattle.std.specs.declared.option.Option.{Option}
+use Rattle.station_top.specs.TaskWords.{task_of}
 use Rattle.station_top.specs.declared.command.Command.{Command}
 use Rattle.station_top.specs.declared.command.Command.TheVariants as read
+use Rattle.station_top.specs.declared.task.Task.{Task}
 
 -- a command, with the names that its words give
 pub data CommandLine : Type 0 where
   pages : List ℕ → CommandLine
   corrected_pages : List ℕ → List ℕ → CommandLine
+  task : List ℕ → Task → CommandLine
 
 -- the words, each as its bytes
 abbrev pub texts : List (Bor (List ℕ)) → List (List ℕ)
 texts words = map (λ word. word.now) words
 
+-- `FILE` or `SETTINGS FILE`
+abbrev pub pages_in : List (List ℕ) → Option CommandLine
+pages_in (file ∷ []) = Some (pages file)
+pages_in (settings ∷ file ∷ []) = Some (corrected_pages settings file)
+pages_in words = None
+
+-- `ADDRESS` and a task
+abbrev pub task_in : List (List ℕ) → Option CommandLine
+task_in [] = None
+task_in (address ∷ words) = option_map (task address) (task_of words)
+
 -- the command that the words spell, and none where they are outside the table
 abbrev pub command_of : List (List ℕ) → Option CommandLine
 command_of [] = None
-command_of (command ∷ []) = None
-command_of (command ∷ file ∷ []) = if bytes_eq command (codes "pages") then Some (pages file) else None
-command_of (command ∷ settings ∷ file ∷ []) =
-    if bytes_eq command (codes "pages") then Some (corrected_pages settings file) else None
-command_of (command ∷ settings ∷ file ∷ more ∷ words) = None
+command_of (command ∷ words) =
+    if bytes_eq command (codes "pages") then pages_in words
+    else if bytes_eq command (codes "task") then task_in words
+    else None
 
--- what was read, with the texts that it lends
+-- a command that was read, with the texts that it lends
+abbrev pub command_read : Command → CommandLine
+command_read (read.Pages file) = pages file.now
+command_read (read.CorrectedPages settings file) = corrected_pages settings.now file.now
+command_read (read.Task address asked) = task address.now asked
+
+-- the same where one was read
 abbrev pub line_of : Option Command → Option CommandLine
-line_of None = None
-line_of (Some (read.Pages file)) = Some (pages file.now)
-line_of (Some (read.CorrectedPages settings file)) = Some (corrected_pages settings.now file.now)
+line_of command = option_map command_read command

@@ -1,5 +1,5 @@
 -- What comes of the reading of a settings file: settings, or a line and a status that end the run.
-use Rattle.std.specs.Prelude.{ℕ, ◌≡◌, ◌≢◌, ◌⊎◌, List, [], Ok, Err, codes}
+use Rattle.std.specs.Prelude.{ℕ, ◌≡◌, ◌≢◌, ◌⊎◌, List, Ok, Err, codes}
 use Rattle.settings_file.specs.FaultLine.{fault_line}
 use Rattle.settings_file.specs.Reading.{settings_of}
 use Rattle.settings_file.specs.StationSettings.{StationSettings}
@@ -7,16 +7,13 @@ use Rattle.settings_file.specs.declared.fault.SettingsFault.{SettingsFault}
 use Rattle.station_io.specs.declared.files.TextRead.{TextRead}
 use Rattle.station_io.specs.declared.files.TextRead.TheVariants as reads
 use Rattle.station_top.specs.declared.status.Status.TheVariants as ends
-use Rattle.station_top.specs.Output.{Output}
+use Rattle.station_top.specs.Output.{Output, no_memory}
 
 abbrev pub read_fault : Output
 read_fault = record { text = codes "read fault\n"; status = ends.ReadFault }
 
 abbrev pub too_long : Output
 too_long = record { text = codes "file too long\n"; status = ends.TooLong }
-
-abbrev pub no_memory : Output
-no_memory = record { text = []; status = ends.OutOfMemory }
 
 -- the line of a fault
 abbrev pub bad_settings : SettingsFault → Output
@@ -49,7 +46,7 @@ abbrev pub MayGoOn : Judged → Type 0
 MayGoOn (refused output) = (output.status ≡ ends.OutOfMemory) ⊎ (output.status ≡ ends.ReadFault)
 MayGoOn (accepted settings) = Unit {0}
 
--- no write has failed yet
+-- no write has failed yet, and no link
 abbrev pub IsEnding : Judged → Type 0
-IsEnding (refused output) = output.status ≢ ends.WriteFault
+IsEnding (refused output) = (output.status ≢ ends.WriteFault) × (output.status ≢ ends.LinkFault)
 IsEnding (accepted settings) = Unit {0}

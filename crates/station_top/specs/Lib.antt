@@ -4,7 +4,14 @@ pub mod SlotText
 pub mod Output
 pub mod PageText
 pub mod Listing
+pub mod Then
+pub mod Numbers
+pub mod ClockWords
+pub mod TaskWords
 pub mod Command
+pub mod Possible
+pub mod TaskText
+pub mod TaskRun
 pub mod GoodFile
 pub mod Judged
 pub mod JudgedRead

@@ -1,10 +1,11 @@
 -- What a run writes, and how it ends.
-use Rattle.std.specs.Prelude.{ℕ, ◌≡◌, ◌⊎◌, List, ◌++◌}
+use Rattle.std.specs.Prelude.{ℕ, ◌≡◌, ◌⊎◌, List, [], ◌++◌, codes}
 use Rattle.std.specs.declared.option.Option.{Option}
 use Rattle.std.specs.Io.KnownBytes.{Appends}
 use Rattle.causes.specs.Written.{WritesPart}
+use Rattle.station_io.specs.Sink.{Outlet}
 use Rattle.station_top.specs.declared.status.Status.{Status}
-use Rattle.station_top.specs.declared.status.Status.TheVariants.{WriteFault}
+use Rattle.station_top.specs.declared.status.Status.TheVariants as ends
 
 pub record Output : Type 0 where
   pub text : List ℕ
@@ -14,8 +15,36 @@ pub record Output : Type 0 where
 abbrev pub led_by : List ℕ → Output → Output
 led_by text rest = record { text = text ++ rest.text; status = rest.status }
 
+-- nothing is written for want of memory
+abbrev pub no_memory : Output
+no_memory = record { text = []; status = ends.OutOfMemory }
+
+-- the line of a link that failed
+abbrev pub link_fault : Output
+link_fault = record { text = codes "link fault\n"; status = ends.LinkFault }
+
 -- A run wrote it all and ends so, or a write failed after a front of it.
 abbrev pub Finishes : Option (List ℕ) → Option (List ℕ) → Output → Status → Type 0
 Finishes old new output status =
     ((status ≡ output.status) × Appends old new output.text)
-    ⊎ ((status ≡ WriteFault) × WritesPart old new output.text)
+    ⊎ ((status ≡ ends.WriteFault) × WritesPart old new output.text)
+
+-- the number that the program ends with
+abbrev pub code : Status → ℕ
+code ends.Done = 0
+code ends.Usage = 1
+code ends.BadSettings = 2
+code ends.Trouble = 4
+code ends.LinkFault = 6
+code ends.ReadFault = 8
+code ends.WriteFault = 9
+code ends.OutOfMemory = 12
+code ends.Flood = 13
+code ends.BadPage = 14
+code ends.TooLong = 15
+
+-- The run ended with this number, and the sink took the output that it stands for or a front of it.
+pub record EndsWith {S : Type 0} (outlet : Outlet S) (output : Output) (old new : S) (result : ℕ) : Type 0 where
+  pub status : Status
+  pub coded : code status ≡ result
+  pub ends : Finishes (outlet.taken old) (outlet.taken new) output status

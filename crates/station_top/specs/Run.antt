@@ -1,6 +1,10 @@
 -- What a run of a command does: which calls it makes, what it writes, and how it ends.
-use Rattle.std.specs.Prelude.{ℕ, ◌≡◌, ◌≢◌, ◌⊎◌, ◌≤◌, List, codes, length, IsOk, IsSomeAnd}
+use Rattle.std.specs.Prelude.{ℕ, ◌≡◌, ◌≢◌, ◌⊎◌, ◌≤◌, Some, List, ◌++◌, codes, length, IsOk, IsSomeAnd}
 use Rattle.causes.specs.Told.{WhereTold}
+use Rattle.console_tasks.specs.TaskTalk.{HasEnd, TaskTalk}
+use Rattle.console_tasks.specs.declared.end.TaskEnd.TheVariants as task_end
+use Rattle.serial_link.specs.Traffic.{Traffic}
+use Rattle.serial_link.specs.declared.talk.TalkItem.{TalkItem}
 use Rattle.settings_file.specs.Reading.{settings_of}
 use Rattle.station_io.specs.Files.{Gives, Shelf, most_bytes}
 use Rattle.station_io.specs.Sink.{Outlet}
@@ -8,23 +12,14 @@ use Rattle.station_io.specs.declared.files.TextRead.{TextRead}
 use Rattle.station_io.specs.declared.files.TextRead.TheVariants as reads
 use Rattle.station_top.specs.declared.status.Status.{Status}
 use Rattle.station_top.specs.declared.status.Status.TheVariants as ends
-use Rattle.station_top.specs.Command.{CommandLine, pages, corrected_pages}
+use Rattle.station_top.specs.declared.task.Task.{Task}
+use Rattle.station_top.specs.Command.{CommandLine, pages, corrected_pages, task}
 use Rattle.station_top.specs.GoodFile.{IsGoodFile}
-use Rattle.station_top.specs.Judged.{Judged, MayComeOf, refused, accepted, read_fault, too_long, no_memory}
-use Rattle.station_top.specs.Output.{Output, Finishes}
+use Rattle.station_top.specs.Judged.{Judged, MayComeOf, refused, accepted, read_fault, too_long}
+use Rattle.station_top.specs.Output.{Output, EndsWith, no_memory}
 use Rattle.station_top.specs.Listing.{listing}
 use Rattle.station_top.specs.Style.{RowStyle, short, corrected}
-
--- the number that the program ends with
-abbrev pub code : Status → ℕ
-code ends.Done = 0
-code ends.Usage = 1
-code ends.BadSettings = 2
-code ends.ReadFault = 8
-code ends.WriteFault = 9
-code ends.OutOfMemory = 12
-code ends.BadPage = 14
-code ends.TooLong = 15
+use Rattle.station_top.specs.TaskRun.{CallsFor, exchanges_of}
 
 -- by what came of the reading: the answer, and the bytes that were read
 abbrev pub output_of : RowStyle → TextRead → List ℕ → Output
@@ -33,16 +28,11 @@ output_of style reads.Failed bytes = read_fault
 output_of style reads.TooLong bytes = too_long
 output_of style reads.OutOfMemory bytes = no_memory
 
--- The run ended with this number, and the sink took the output that it stands for or a front of it.
-pub record EndsWith {S : Type 0} (outlet : Outlet S) (output : Output) (old new : S) (result : ℕ) : Type 0 where
-  pub status : Status
-  pub coded : code status ≡ result
-  pub ends : Finishes (outlet.taken old) (outlet.taken new) output status
-
--- no file was touched
-pub record IsUsage {F S : Type 0} (outlet : Outlet S)
-    (old : F) (out : S) (new : F) (out' : S) (result : ℕ) : Type 0 where
+-- No file was touched, and no link.
+pub record IsUsage {F S L : Type 0} (outlet : Outlet S)
+    (old : F) (out : S) (link : L) (new : F) (out' : S) (link' : L) (result : ℕ) : Type 0 where
   pub untouched : new ≡ old
+  pub silent : link' ≡ link
   pub written : EndsWith outlet (record { text = codes "usage\n"; status = ends.Usage }) out out' result
 
 -- The file was read once, and what came of that was written.
@@ -73,12 +63,15 @@ pub record PrintsCorrected {F S : Type 0} (shelf : Shelf F) (outlet : Outlet S) 
   pub comes : MayComeOf answer text judged
   pub goes_on : GoesOn shelf outlet judged name middle out new out' result
 
--- what each command does
-abbrev pub Performs : {F S : Type 0} → Shelf F → Outlet S → CommandLine → F → S → F → S → ℕ → Type 0
-Performs shelf outlet (pages file) old out new out' result =
-    PrintsFile shelf outlet short file old out new out' result
-Performs shelf outlet (corrected_pages settings file) old out new out' result =
-    PrintsCorrected shelf outlet settings file old out new out' result
+-- what each command does: one that prints pages touches no link, and a task no file
+abbrev pub Performs : {F S L : Type 0} → Shelf F → Outlet S → Traffic L → CommandLine
+    → F → S → L → F → S → L → ℕ → Type 0
+Performs shelf outlet traffic (pages file) old out link new out' link' result =
+    (link' ≡ link) × PrintsFile shelf outlet short file old out new out' result
+Performs shelf outlet traffic (corrected_pages settings file) old out link new out' link' result =
+    (link' ≡ link) × PrintsCorrected shelf outlet settings file old out new out' result
+Performs shelf outlet traffic (task address asked) old out link new out' link' result =
+    (new ≡ old) × CallsFor traffic outlet address asked link out link' out' result
 
 -- a text of settings that is not too long and is accepted
 abbrev pub IsAccepted : List ℕ → Type 0
@@ -89,6 +82,27 @@ abbrev pub HasGoodInput : {F : Type 0} → Shelf F → CommandLine → F → Typ
 HasGoodInput shelf (pages file) files = IsSomeAnd (shelf.held files file) IsGoodFile
 HasGoodInput shelf (corrected_pages settings file) files =
     IsSomeAnd (shelf.held files settings) IsAccepted × IsSomeAnd (shelf.held files file) IsGoodFile
+HasGoodInput shelf (task address asked) files = ⊥
+
+-- What a link gained is told, and is the talk of the task that is done.
+pub record ShowsDone {L : Type 0} (traffic : Traffic L) (asked : Task) (old new : L) : Type 0 where
+  pub before : List TalkItem
+  pub gained : List TalkItem
+  pub told : traffic.talk old ≡ Some before
+  pub grown : traffic.talk new ≡ Some (before ++ gained)
+  pub done : HasEnd (TaskTalk (exchanges_of asked)) task_end.Done gained
+
+-- the command is a task, and what the link gained shows that it is done
+abbrev pub IsShownDone : {L : Type 0} → Traffic L → CommandLine → L → L → Type 0
+IsShownDone traffic (pages file) old new = ⊥
+IsShownDone traffic (corrected_pages settings file) old new = ⊥
+IsShownDone traffic (task address asked) old new = ShowsDone traffic asked old new
+
+-- the command is a task
+abbrev pub IsTask : CommandLine → Type 0
+IsTask (pages file) = ⊥
+IsTask (corrected_pages settings file) = ⊥
+IsTask (task address asked) = Unit {0}
 
 -- The command was done, unless a read fault, a write fault or want of memory kept it from that.
 abbrev pub IsDoneOrHindered : Status → Type 0

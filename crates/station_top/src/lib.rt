@@ -1,12 +1,19 @@
-//! The program, over files and a sink that are handed in.
+//! The program, over files, a sink and a link that are handed in.
 #![tactic(auto)]
 
+mod asking;
+mod calling;
+mod clock_words;
 mod command;
 mod judging;
+mod numbers;
 mod pages;
 mod program;
 mod status;
 mod style;
+mod task;
+mod task_text;
+mod task_words;
 mod text;
 
 pub use program::run;

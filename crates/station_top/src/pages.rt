@@ -20,7 +20,7 @@ use vantage_frames::{PAGE_SIZE, Page, PageRead, SLOTS, read_page};
 pub fn print_pages<K: Sink>(file: &[u8], style: &Style<'_>, out: &mut K) -> Status
     requires { length file.now ≤ most_bytes }
     ensures ends { Finishes (K.outlet.taken out.old) (K.outlet.taken out.new) (listing (style_of style.now) file.now) result }
-    ensures kind { result ≢ Status.ReadFault }
+    ensures kind { (result ≢ Status.ReadFault) × (result ≢ Status.LinkFault) }
     ensures cause { Cause (K.outlet.faults out.old) (K.outlet.faults out.new) (result ≡ Status.WriteFault) }
     ensures still { result ≢ Status.WriteFault → K.outlet.faults out.new ≡ K.outlet.faults out.old }
 {

@@ -1,37 +1,50 @@
 ghost use Rattle.std.specs.Prelude.{◌≡◌, ◌≢◌, ◌⊎◌, ◌≤◌, List, ℕ, length, IfSome, IfNone, IsSomeAnd};
 ghost use Rattle.causes.specs.Cause.{Cause, Rose};
 ghost use Rattle.station_io.specs.Files.{most_bytes};
-ghost use Rattle.station_top.specs.Output.{Finishes};
+ghost use Rattle.station_top.specs.Output.{Finishes, code};
 ghost use Rattle.station_top.specs.Command.{command_of, texts};
 ghost use Rattle.station_top.specs.GoodFile.{IsGoodFile};
 ghost use Rattle.station_top.specs.Judged.{IsEnding, IsReadFault, MayGoOn};
 ghost use Rattle.station_top.specs.JudgedRead.{judged_of};
-ghost use Rattle.station_top.specs.Run.{FilesStill, GoesOn, HasGoodInput, IsAccepted, IsDoneOrHindered, IsUsage, Performs, PrintsCorrected, PrintsFile, code, output_of};
+ghost use Rattle.station_top.specs.Run.{FilesStill, GoesOn, HasGoodInput, IsAccepted, IsDoneOrHindered, IsShownDone, IsTask, IsUsage, Performs, PrintsCorrected, PrintsFile, output_of};
 ghost use Rattle.station_top.specs.StyleRead.{style_of};
 
+use crate::calling::call_for;
 use crate::command::Command;
 use crate::judging::{Ending, judge};
 use crate::pages::{finish, print_pages};
 use crate::status::Status;
 use crate::style::Style;
+use serial_link::Link;
 use settings_file::Settings;
 use station_io::{Files, Sink, TextRead};
 use std::alloc::Global;
 
 /// Does what the words say, and answers the status with which the program ends.
-pub fn run<F: Files, K: Sink>(alloc: Global, words: &[&str], files: &mut F, out: &mut K) -> u8
-    // Words outside the table are answered by a line of their own, and no file is read.
+pub fn run<F: Files, K: Sink, L: Link>(
+    alloc: Global,
+    words: &[&str],
+    files: &mut F,
+    out: &mut K,
+    link: &mut L,
+) -> u8
+    // Words outside the table are answered by a line of their own, no file is read, and nothing is connected.
     ensures usage { IfNone (command_of (texts words.now))
-        (IsUsage K.outlet files.old out.old files.new out.new result) }
+        (IsUsage K.outlet files.old out.old link.old files.new out.new link.new result) }
 
-    // The files that the words name are each read once, in the order of the words, and decide what is written and how the
-    // program ends.
-    ensures command { IfSome (command_of (texts words.now)) (λ command.
-        Performs F.shelf K.outlet command files.old out.old files.new out.new result) }
+    // The files that the words name are each read once, in the order of the words, the address that they name is called
+    // once, and what came of that decides what is written and how the program ends.
+    ensures command { IfSome (command_of (texts words.now)) (λ command. Performs F.shelf K.outlet L.traffic command
+        files.old out.old link.old files.new out.new link.new result) }
 
     // The faults of the outside have a cause.
     ensures read_fault { Cause (F.shelf.faults files.old) (F.shelf.faults files.new) (result ≡ 8) }
     ensures write_fault { Cause (K.outlet.faults out.old) (K.outlet.faults out.new) (result ≡ 9) }
+    ensures link_fault { Cause (L.traffic.faults link.old) (L.traffic.faults link.new) (result ≡ 6) }
+
+    // A task takes no memory: it ends for want of it only where the link had none.
+    ensures shortage { IfSome (command_of (texts words.now)) (λ command. IsTask command
+        → Cause (L.traffic.shortages link.old) (L.traffic.shortages link.new) (result ≡ 12)) }
 
     // Where none is answered, no fault was counted. A read fault whose line could not be written ends with 9.
     ensures files_still { result ≢ 8 → result ≢ 9 → F.shelf.faults files.new ≡ F.shelf.faults files.old }
@@ -40,12 +53,17 @@ pub fn run<F: Files, K: Sink>(alloc: Global, words: &[&str], files: &mut F, out:
     // Over good input only such a fault and want of memory keep the command from being done.
     ensures complete { IfSome (command_of (texts words.now)) (λ command. HasGoodInput F.shelf command files.old
         → (result ≡ 0) ⊎ (result ≡ 8) ⊎ (result ≡ 9) ⊎ (result ≡ 12)) }
+
+    // A task that what was said and heard shows as done ends so, unless its line could not be written.
+    ensures done { IfSome (command_of (texts words.now)) (λ command.
+        IsShownDone L.traffic command link.old link.new → (result ≡ 0) ⊎ (result ≡ 9)) }
 {
     let status = match Command::read(words) {
         Some(Command::Pages(file)) => pages(alloc, file, &Style::Short, files, out),
         Some(Command::CorrectedPages { settings, file }) => {
             corrected_pages(alloc, settings, file, files, out)
         }
+        Some(Command::Task { address, task }) => call_for(address, &task, link, out),
         None => finish(b"usage\n", Status::Usage, out),
     };
     status as u8
@@ -61,6 +79,7 @@ fn corrected_pages<F: Files, K: Sink>(
 ) -> Status
     ensures pages { PrintsCorrected F.shelf K.outlet settings.now file.now files.old out.old files.new out.new (code result) }
     ensures read_fault { Cause (F.shelf.faults files.old) (F.shelf.faults files.new) (result ≡ Status.ReadFault) }
+    ensures no_call { result ≢ Status.LinkFault }
     ensures write_fault { Cause (K.outlet.faults out.old) (K.outlet.faults out.new) (result ≡ Status.WriteFault) }
     ensures still { FilesStill F.shelf result files.old files.new }
     ensures sink_still { result ≢ Status.WriteFault → K.outlet.faults out.new ≡ K.outlet.faults out.old }
@@ -86,6 +105,7 @@ fn go_on<F: Files, K: Sink>(
         → IsReadFault (judged_of judged) ⊎ Rose (F.shelf.faults files.old) (F.shelf.faults files.new) }
     ensures reported { IsReadFault (judged_of judged) → (result ≡ Status.ReadFault) ⊎ (result ≡ Status.WriteFault) }
     ensures never_falls { F.shelf.faults files.old ≤ F.shelf.faults files.new }
+    ensures no_call { result ≢ Status.LinkFault }
     ensures write_fault { Cause (K.outlet.faults out.old) (K.outlet.faults out.new) (result ≡ Status.WriteFault) }
     ensures still { FilesStill F.shelf result files.old files.new }
     ensures sink_still { result ≢ Status.WriteFault → K.outlet.faults out.new ≡ K.outlet.faults out.old }
@@ -108,6 +128,7 @@ fn pages<F: Files, K: Sink>(
 ) -> Status
     ensures pages { PrintsFile F.shelf K.outlet (style_of style.now) name.now files.old out.old files.new out.new (code result) }
     ensures read_fault { Cause (F.shelf.faults files.old) (F.shelf.faults files.new) (result ≡ Status.ReadFault) }
+    ensures no_call { result ≢ Status.LinkFault }
     ensures write_fault { Cause (K.outlet.faults out.old) (K.outlet.faults out.new) (result ≡ Status.WriteFault) }
     ensures still { FilesStill F.shelf result files.old files.new }
     ensures sink_still { result ≢ Status.WriteFault → K.outlet.faults out.new ≡ K.outlet.faults out.old }
@@ -124,6 +145,7 @@ fn print_reading<K: Sink>(read: TextRead, bytes: &[u8], style: &Style<'_>, out: 
     ensures ends { Finishes (K.outlet.taken out.old) (K.outlet.taken out.new) (output_of (style_of style.now) read bytes.now) result }
     ensures read_fault { result ≡ Status.ReadFault → read ≡ TextRead.Failed }
     ensures reported { read ≡ TextRead.Failed → (result ≡ Status.ReadFault) ⊎ (result ≡ Status.WriteFault) }
+    ensures no_call { result ≢ Status.LinkFault }
     ensures write_fault { Cause (K.outlet.faults out.old) (K.outlet.faults out.new) (result ≡ Status.WriteFault) }
     ensures sink_still { result ≢ Status.WriteFault → K.outlet.faults out.new ≡ K.outlet.faults out.old }
 {
@@ -135,5 +157,7 @@ fn print_reading<K: Sink>(read: TextRead, bytes: &[u8], style: &Style<'_>, out: 
     }
 }
 
+#[cfg(test)]
+mod task_tests;
 #[cfg(test)]
 mod tests;

@@ -1,4 +1,5 @@
 use super::*;
+use serial_link::ScriptLink;
 use station_io::{MemFile, MemFiles, MemSink};
 use std::alloc::AllocError;
 use std::test::Fail;
@@ -70,7 +71,8 @@ fn printed(
     let listed = Vec::from_array(alloc, [dump, settings])?;
     let mut files = MemFiles::new(listed, Vec::from_slice(alloc, failing)?);
     let mut sink = MemSink::new(alloc, capacity)?;
-    let status = run(alloc, words, &mut files, &mut sink);
+    let mut link = ScriptLink::new(alloc, Vec::new(alloc))?;
+    let status = run(alloc, words, &mut files, &mut sink, &mut link);
     Ok((status, Vec::from_slice(alloc, sink.bytes())?))
 }
 

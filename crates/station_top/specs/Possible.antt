@@ -1,0 +1,24 @@
+-- Which tasks can be asked of a console.
+use Rattle.std.specs.Prelude.{◌≡◌, ◌≤◌, true, length}
+use Rattle.console_tasks.specs.Memory.{AreWithin}
+use Rattle.station_base.specs.ClockTime.{can_be_shown}
+use Rattle.station_top.specs.Command.{CommandLine, pages, corrected_pages, task}
+use Rattle.station_top.specs.declared.task.Task.{Task}
+use Rattle.station_top.specs.declared.task.Task.TheVariants.{Packets, ReadMemory, WriteMemory}
+use Rattle.station_top.specs.declared.task.Task.TheVariants.{ReadClock, SetClock, SetPeriod, Kind}
+
+-- its numbers are in their ranges
+abbrev pub CanBeMade : Task → Type 0
+CanBeMade (Packets count) = (1 ≤ count) × (count ≤ 32)
+CanBeMade (ReadMemory at count) = AreWithin at count
+CanBeMade (WriteMemory at bytes) = AreWithin at (length bytes.items)
+CanBeMade ReadClock = Unit {0}
+CanBeMade (SetClock time) = can_be_shown time ≡ true
+CanBeMade (SetPeriod minutes) = Unit {0}
+CanBeMade Kind = Unit {0}
+
+-- the command's task, if it is one, can be asked
+abbrev pub IsPossible : CommandLine → Type 0
+IsPossible (pages file) = Unit {0}
+IsPossible (corrected_pages settings file) = Unit {0}
+IsPossible (task address asked) = CanBeMade asked
