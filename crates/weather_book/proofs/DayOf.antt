@@ -1,20 +1,19 @@
 -- The summary of a day of a book.
-use Rattle.std.proofs.Common.{◌≡◌, ◌⊎◌, inl, inr, ℕ, ℤ, pos, negsuc, zero, suc, ◌+◌, ◌-◌, ◌*◌, ◌<◌, ◌≤◌, Bool, true, false, List, [], ◌∷◌, ◌++◌, length, take, drop, get_or, Option, Some, None, refl, sym, ap, subst, ◌∙◌, arith, append_assoc, append-nil, length-append}
+use Rattle.std.proofs.Common.{◌≡◌, ℕ, ℤ, pos, negsuc, ◌+◌, ◌-◌, ◌<◌, ◌≤◌, Bool, true, false, List, [], ◌∷◌, ◌++◌, length, take, get_or, Option, Some, None, refl, sym, ap, subst, ◌∙◌, arith, append_assoc, append-nil, length-append}
 use Rattle.std.specs.Prelude.{◌&&◌, All, count_by, filter, not, nat_eq, int_le, slice_get}
 use Rattle.std.proofs.lemmas.Bool.Decides.{nat_tests}
 use Rattle.std.proofs.lemmas.List.Elements.{All-filter, filter-append}
 use Rattle.std.proofs.lemmas.List.Sums.{length-filter, count_by-le-length}
-use Rattle.std.proofs.Math.Seq.{take-append_seam, drop-append_seam, get_or-append_seam}
+use Rattle.std.proofs.Math.Seq.{take-append_seam, get_or-append_seam}
 use Rattle.std.proofs.lemmas.Option.{slice_get-get_or}
 use Rattle.station_base.specs.declared.row.Row.{Row}
 use Rattle.station_base.specs.declared.day.DayNumber.{DayNumber}
 use Rattle.station_base.specs.CivilMinute.{CivilMinute, archive_day_of}
-use Rattle.daily_summary.specs.declared.summary.DaySummary.{DaySummary}
 use Rattle.daily_summary.specs.Measured.{IsMeasured}
 use Rattle.daily_summary.specs.Summary.{is_of_day, rows_of_day, summary_of}
 use Rattle.daily_summary.proofs.Typed.{bounds_of, typed_of}
 use Rattle.weather_book.specs.Closed.{IsClosedAt}
-use Rattle.weather_book.specs.Closing.{begins_day, closings, day_of_stamp, last_day, last_day_rows, closing_slot, summary_slot}
+use Rattle.weather_book.specs.Closing.{begins_day, closings, day_of_stamp, last_day, closing_slot, summary_slot}
 use Rattle.weather_book.specs.Days.{day_of_row, is_before, is_up_to}
 use Rattle.weather_book.specs.Kept.{KeepsOf}
 use Rattle.weather_book.specs.Packed.{AreReadBack}
@@ -22,8 +21,8 @@ use Rattle.weather_book.specs.Rising.{exceeds, rise, last_after, last_stamp}
 use Rattle.weather_book.specs.Rows.{rows_from, holds, slot_total}
 use Rattle.weather_book.specs.declared.kept.DayEntry.{DayEntry}
 use Rattle.weather_book.specs.declared.tail.Tail.{Tail}
-use Rattle.weather_book.proofs.ClosedDays.{AreClosing, closing_at}
-use Rattle.weather_book.proofs.DayRows.{Splits, splits, day_count, last_day_is, few_of}
+use Rattle.weather_book.proofs.ClosedDays.{closing_at}
+use Rattle.weather_book.proofs.DayRows.{splits, day_count, last_day_is, few_of}
 use Rattle.weather_book.proofs.Measured.{all_measured}
 use Rattle.weather_book.proofs.RowLaws.{and_left, and_right, last_join, total_push}
 use Rattle.weather_book.proofs.DayLaws.{later_day, still_beyond}

@@ -1,20 +1,17 @@
 -- The rows of a day among rising rows.
-use Rattle.std.proofs.Common.{◌≡◌, ◌⊎◌, inl, inr, ⊎_elim, ℕ, ℤ, pos, negsuc, zero, suc, ◌+◌, ◌-◌, ◌*◌, ◌/◌, ◌<◌, ◌≤◌, Bool, true, false, cond, List, [], ◌∷◌, ◌++◌, length, take, drop, get_or, Option, Some, None, refl, sym, ap, subst, ◌∙◌, arith, append-nil, length-append}
-use Rattle.std.specs.Prelude.{◌&&◌, filter, count_by, int_lt, int_le, nat_lt, nat_eq, not, max}
+use Rattle.std.proofs.Common.{◌≡◌, ◌⊎◌, inl, inr, ℕ, ℤ, pos, negsuc, suc, ◌+◌, ◌-◌, ◌*◌, ◌<◌, ◌≤◌, Bool, true, false, cond, List, [], ◌∷◌, ◌++◌, length, Option, Some, None, refl, sym, ap, subst, ◌∙◌, arith}
+use Rattle.std.specs.Prelude.{filter, count_by, int_lt, int_le, max}
 use Rattle.std.specs.Ordering.{int_eq}
 use Rattle.std.proofs.lemmas.Bool.{ltb-true}
 use Rattle.std.proofs.lemmas.Bool.Decides.{nat_tests}
 use Rattle.std.proofs.lemmas.List.Sums.{count_by-le-length}
-use Rattle.std.proofs.lemmas.Int.{ints}
-use Rattle.std.proofs.lemmas.List.Elements.{filter-append}
-use Rattle.std.proofs.Math.Seq.{take-append_seam, drop-append_seam}
 use Rattle.station_base.specs.declared.row.Row.{Row}
 use Rattle.station_base.specs.declared.day.DayNumber.{DayNumber}
 use Rattle.station_base.specs.CivilMinute.{CivilMinute, minute_of, archive_day_of}
 use Rattle.daily_summary.specs.Summary.{is_of_day, rows_of_day}
-use Rattle.weather_book.specs.Closing.{begins_day, day_of_stamp, last_day, last_day_rows}
+use Rattle.weather_book.specs.Closing.{day_of_stamp, last_day}
 use Rattle.weather_book.specs.Days.{day_of_row, is_before, is_up_to}
-use Rattle.weather_book.specs.Rising.{exceeds, rise, last_after, last_stamp}
+use Rattle.weather_book.specs.Rising.{exceeds, rise, last_after}
 use Rattle.weather_book.proofs.DayLaws.{later_day, still_beyond, count_yes, count_no}
 use Rattle.weather_book.proofs.RowLaws.{and_left, and_right}
 

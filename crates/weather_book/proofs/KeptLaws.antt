@@ -1,7 +1,6 @@
 -- What a book keeps, one row more.
-use Rattle.std.proofs.Common.{◌≡◌, ◌⊎◌, inl, inr, ℕ, zero, suc, ◌+◌, ◌-◌, ◌*◌, ◌≤◌, ◌<◌, Bool, true, false, List, [], ◌∷◌, ◌++◌, length, Option, Some, None, refl, sym, ◌∙◌, ap, subst, arith, append-nil, length-append}
-use Rattle.std.specs.Prelude.{ℤ, pos, not, nat_eq, option_map, ◌||◌, ◌==◌}
-use Rattle.std.specs.Ordering.{int_eq}
+use Rattle.std.proofs.Common.{◌≡◌, ◌⊎◌, inl, inr, ℕ, suc, ◌+◌, ◌-◌, ◌*◌, ◌≤◌, ◌<◌, Bool, true, false, List, [], ◌∷◌, ◌++◌, length, Option, Some, None, refl, sym, ◌∙◌, ap, subst, arith, append-nil, length-append}
+use Rattle.std.specs.Prelude.{ℤ, not, ◌||◌, ◌==◌}
 use Rattle.std.proofs.lemmas.Bool.{eqb-true}
 use Rattle.station_base.specs.declared.row.Row.{Row}
 use Rattle.station_base.specs.CivilMinute.{CivilMinute, archive_day_of}
@@ -9,7 +8,7 @@ use Rattle.station_base.specs.DayText.{IsDayNumber}
 use Rattle.weather_book.specs.declared.kept.DayEntry.{DayEntry}
 use Rattle.weather_book.specs.declared.tail.Tail.{Tail}
 use Rattle.weather_book.specs.Closing.{begins_day}
-use Rattle.weather_book.specs.Days.{day_of_row, is_day, with_day, days_from, days_of}
+use Rattle.weather_book.specs.Days.{day_of_row, is_day, with_day, days_from}
 use Rattle.weather_book.specs.Rows.{slot_total}
 use Rattle.weather_book.specs.Kept.{with_entry, days_to, entries_from, entries_of, KeepsOf, AreKnown}
 use Rattle.weather_book.specs.Packed.{IsReadBack}

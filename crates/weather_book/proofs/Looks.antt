@@ -1,7 +1,7 @@
 -- Reads of a book.
 use Rattle.std.proofs.Common.{◌≡◌, ℕ, ◌+◌, ◌≤◌, [], ◌∷◌, refl, false}
 use Rattle.disk_model.specs.Medium.{Medium}
-use Rattle.disk_model.specs.Calls.{DiskCall, was_read}
+use Rattle.disk_model.specs.Calls.{was_read}
 use Rattle.disk_model.specs.declared.disk.Disked.{Disked}
 use Rattle.disk_model.specs.declared.disk.Disked.TheVariants.{Done, Failed}
 use Rattle.gated_log.specs.Calls.{any_failed, Looked}

@@ -1,16 +1,16 @@
 -- Rows that are read back of their slots can have been measured.
-use Rattle.std.proofs.Common.{◌≡◌, ℕ, ℤ, zero, suc, ◌+◌, ◌*◌, ◌/◌, ◌%◌, ◌≤◌, Bool, true, false, List, [], ◌∷◌, length, drop, Option, Some, None, refl, sym, ap, subst, ◌∙◌, arith}
-use Rattle.std.specs.Prelude.{All, unsigned_abs, nat_le, ◌==◌, filter}
+use Rattle.std.proofs.Common.{◌≡◌, ℕ, ℤ, zero, suc, ◌/◌, ◌%◌, ◌≤◌, Bool, true, false, List, [], ◌∷◌, drop, Option, Some, sym, subst, arith}
+use Rattle.std.specs.Prelude.{All, unsigned_abs, nat_le, ◌==◌}
 use Rattle.std.specs.Bool.{then_some}
 use Rattle.std.proofs.lemmas.Bool.Decides.{nat_tests}
 use Rattle.std.proofs.lemmas.Int.{ints}
-use Rattle.std.proofs.lemmas.List.Elements.{All-cons, All-nil, All-filter}
+use Rattle.std.proofs.lemmas.List.Elements.{All-cons, All-nil}
 use Rattle.station_base.specs.RowLine.{IsPrintable}
 use Rattle.station_base.specs.declared.row.Row.{Row}
 use Rattle.station_base.proofs.Printable.{printable_some, printable_none}
 use Rattle.station_base.proofs.Civil.{stamp_civil}
 use Rattle.station_base.specs.Period.{is_period}
-use Rattle.row_slot.specs.Slot.{slot_of, row_in, number_at}
+use Rattle.row_slot.specs.Slot.{slot_of, number_at}
 use Rattle.row_slot.specs.Values.{number_in, is_allowed, values_in}
 use Rattle.row_slot.proofs.Inverse.{parts_of, end_of}
 use Rattle.row_slot.proofs.Slots.{parts-row_in}

@@ -1,18 +1,18 @@
 -- Where the rows of a log stand among its slots.
-use Rattle.std.proofs.Common.{◌≡◌, inl, inr, ℕ, zero, suc, ◌+◌, ◌-◌, ◌*◌, ◌<◌, ◌≤◌, Bool, true, false, List, [], ◌∷◌, ◌++◌, length, take, drop, Option, Some, None, refl, sym, ◌∙◌, ap, subst, arith, append_assoc, append-nil, length-append, length-drop}
-use Rattle.std.specs.Prelude.{◌&&◌, ◌==◌, slice_get, get_or, ℤ}
+use Rattle.std.proofs.Common.{◌≡◌, inl, inr, ℕ, zero, suc, ◌+◌, ◌*◌, ◌<◌, Bool, true, false, List, [], ◌∷◌, ◌++◌, length, take, drop, Option, Some, None, refl, sym, ◌∙◌, ap, subst, arith, append_assoc, append-nil, length-append, length-drop}
+use Rattle.std.specs.Prelude.{◌&&◌, slice_get, get_or, ℤ}
 use Rattle.std.proofs.lemmas.Bool.{eqb-true}
 use Rattle.std.proofs.lemmas.Option.{slice_get-get_or, slice_get_within, get_or_from_slice_get}
 use Rattle.std.proofs.Math.Seq.{get_or-append_seam, take-suc}
 use Rattle.std.proofs.lemmas.List.{length-take, get_or-drop}
 use Rattle.station_base.specs.declared.row.Row.{Row}
-use Rattle.row_slot.specs.Slot.{row_in, is_marked, number_at, row_of}
+use Rattle.row_slot.specs.Slot.{row_in, is_marked, row_of}
 use Rattle.byteorder.specs.Endian.{little_number}
 use Rattle.gated_log.specs.Log.{unmarked}
 use Rattle.gated_log.specs.Stands.{IsSlot}
 use Rattle.station_base.specs.CivilMinute.{CivilMinute}
-use Rattle.weather_book.specs.Rows.{is_right, rows_with, shown_with, slot_total, rows_from, holds}
-use Rattle.weather_book.proofs.RowLaws.{AreRight, rows_to, shown_to, Hold, from_holds, count_right, rows_to_join, shown_to_join}
+use Rattle.weather_book.specs.Rows.{rows_with, shown_with, slot_total, rows_from, holds}
+use Rattle.weather_book.proofs.RowLaws.{AreRight, rows_to, shown_to, from_holds, count_right, shown_to_join}
 
 abbrev pub with_found : Option Row → List Row → List Row
 with_found None rows = rows

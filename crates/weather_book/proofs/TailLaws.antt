@@ -1,15 +1,13 @@
 -- The end of rows, one row more.
-use Rattle.std.proofs.Common.{◌≡◌, ℕ, zero, suc, ◌+◌, ◌-◌, ◌*◌, ◌/◌, ◌<◌, ◌≤◌, Bool, true, false, cond, List, [], ◌∷◌, ◌++◌, length, Option, Some, None, refl, sym, ◌∙◌, ap, subst, arith, append-nil, length-append, ◌⊎◌, inl, inr}
+use Rattle.std.proofs.Common.{◌≡◌, ℕ, ◌+◌, ◌-◌, ◌*◌, ◌/◌, ◌<◌, ◌≤◌, Bool, true, false, cond, List, [], ◌∷◌, ◌++◌, length, Option, Some, None, refl, sym, ◌∙◌, ap, arith, ◌⊎◌, inl, inr}
 use Rattle.std.specs.Prelude.{ℤ, pos, ◌&&◌, nat_lt, nat_eq, not, filter, is_some}
 use Rattle.std.specs.Ordering.{int_eq}
 use Rattle.std.proofs.lemmas.Bool.Decides.{nat_tests}
-use Rattle.std.proofs.lemmas.Bool.{eqb-true}
 use Rattle.std.proofs.lemmas.List.Elements.{filter-append}
 use Rattle.station_base.specs.declared.row.Row.{Row}
 use Rattle.station_base.specs.CivilMinute.{CivilMinute, minute_of, archive_day_of}
 use Rattle.daily_summary.specs.declared.summary.DaySummary.{DaySummary}
-use Rattle.daily_summary.specs.Bounds.{IsInBounds}
-use Rattle.daily_summary.specs.Summary.{summary_of, is_of_day, rows_of_day}
+use Rattle.daily_summary.specs.Summary.{summary_of, is_of_day}
 use Rattle.weather_book.specs.declared.tail.Tail.{Tail}
 use Rattle.std.specs.Str.{bytes_eq}
 use Rattle.gated_log.specs.Log.{unmarked}

@@ -1,5 +1,5 @@
 -- The summary slots that close a day. The layout is this project's own.
-use Rattle.std.specs.Prelude.{ℕ, ℤ, pos, ◌+◌, ◌*◌, ◌==◌, ◌&&◌, Bool, true, false, not, nat_eq, nat_lt, if◌then◌else◌, List, [], ◌∷◌, ◌++◌, length, replicate, map, Some, None}
+use Rattle.std.specs.Prelude.{ℕ, ℤ, pos, Bool, true, false, not, nat_eq, List, ◌∷◌, ◌++◌, replicate, map, Some, None}
 use Rattle.std.specs.declared.option.Option.{Option}
 use Rattle.std.specs.Int.{w32, cast_unsigned}
 use Rattle.std.specs.List.{range_with_len}

@@ -1,4 +1,4 @@
-use Rattle.std.proofs.Common.{◌≡◌, List, ℕ, length, take, drop}
+use Rattle.std.proofs.Common.{◌≡◌, List, ℕ, take, drop}
 use Rattle.causes.specs.Told.{WhereTold}
 use Rattle.arrayvec.specs.ArrayVec.{array_vec_len}
 use Rattle.station_base.specs.declared.row.Row.{Row}

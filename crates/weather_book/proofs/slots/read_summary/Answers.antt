@@ -1,8 +1,5 @@
-use Rattle.std.proofs.Common.{rules, ℕ, ℤ, false, ◌≡◌, ◌≤◌, ◌+◌, ◌*◌, [], List, Option, Some, None, length, sym, ap, ◌∙◌, subst, arith}
+use Rattle.std.proofs.Common.{◌≡◌, Option, Some, None, length, sym, ◌∙◌, arith}
 use Rattle.daily_summary.specs.declared.summary.DaySummary.{DaySummary}
-use Rattle.daily_summary.specs.Parts.{parts_of, AreTyped}
-use Rattle.daily_summary.specs.WellFormed.{IsStoredAs}
-use Rattle.weather_book.specs.Closed.{IsClosedAt, parts_at}
 use Rattle.weather_book.proofs.Looks.{one_look}
 use Rattle.weather_book.proofs.Stored.{parts_read, stored_as}
 use Rattle.weather_book.proofs.slots.read_summary.Goals as goal

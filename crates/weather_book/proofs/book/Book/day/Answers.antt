@@ -1,14 +1,10 @@
-use Rattle.std.proofs.Common.{rules, ◌≡◌, ◌+◌, ◌-◌, ◌*◌, ◌≤◌, ◌<◌, ◌^◌, ℕ, true, false, [], List, length, take, refl, sym, ap, subst, ◌∙◌, arith}
-use Rattle.std.specs.Prelude.{count_by}
-use Rattle.std.specs.Int.{w32}
+use Rattle.std.proofs.Common.{◌≡◌, ◌+◌, ◌-◌, ◌*◌, ◌≤◌, ℕ, length, take, refl, ap, subst, ◌∙◌, arith}
 use Rattle.std.proofs.Math.Logic.{∥∥₁_elim}
 use Rattle.std.proofs.Props.{props}
 use Rattle.std.proofs.lemmas.List.{nil_from_length}
 use Rattle.gated_log.specs.GatedLog.{slot_count}
 use Rattle.gated_log.specs.Stands.{StandsToRead}
-use Rattle.station_base.specs.declared.row.Row.{Row}
 use Rattle.daily_summary.specs.Summary.{rows_of_day, summary_of}
-use Rattle.weather_book.specs.Days.{is_before, is_up_to}
 use Rattle.weather_book.specs.Rows.{slot_total}
 use Rattle.weather_book.specs.declared.answers.DayAnswer.{DayAnswer}
 use Rattle.weather_book.specs.declared.answers.DayAnswer.TheVariants as answers

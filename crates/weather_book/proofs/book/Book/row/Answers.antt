@@ -1,4 +1,4 @@
-use Rattle.std.proofs.Common.{◌≡◌, ◌+◌, ◌*◌, ◌<◌, ◌≤◌, ◌-◌, List, [], ℕ, length, Some, sym, ◌∙◌, ap, subst, arith}
+use Rattle.std.proofs.Common.{◌≡◌, [], ℕ, Some, sym, ◌∙◌, ap, subst, arith}
 use Rattle.std.specs.Prelude.{get_or}
 use Rattle.gated_log.specs.GatedLog.{slot_count}
 use Rattle.gated_log.specs.Stands.{StandsToRead}

@@ -1,8 +1,6 @@
-use Rattle.std.proofs.Common.{◌≡◌, ◌+◌, ◌*◌, ◌<◌, ◌≤◌, ◌-◌, List, [], ℕ, length, take, drop, Some, sym, ◌∙◌, ap, subst, arith}
-use Rattle.std.specs.Prelude.{min}
+use Rattle.std.proofs.Common.{◌≡◌, ◌+◌, ◌*◌, ℕ, take, drop, ◌∙◌, ap, subst, arith}
 use Rattle.gated_log.specs.GatedLog.{slot_count}
 use Rattle.gated_log.specs.Stands.{StandsToRead}
-use Rattle.station_base.specs.declared.row.Row.{Row}
 use Rattle.weather_book.specs.declared.answers.RowsAnswer.{RowsAnswer}
 use Rattle.weather_book.specs.declared.answers.RowsAnswer.TheVariants as rows
 use Rattle.weather_book.specs.Rows.{slot_total}

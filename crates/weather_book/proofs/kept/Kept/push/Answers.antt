@@ -1,9 +1,8 @@
-use Rattle.std.proofs.Common.{◌≡◌, ℤ, ◌+◌, ◌++◌, ◌∷◌, [], List, true, false, refl, sym, ap, subst, ◌∙◌, arith}
+use Rattle.std.proofs.Common.{◌≡◌, ℤ, ◌++◌, ◌∷◌, [], List, true, false, refl, sym, ap, subst, ◌∙◌, arith}
 use Rattle.std.proofs.Math.Logic.{∥∥₁_map}
 use Rattle.std.proofs.lemmas.Int.{ints}
 use Rattle.station_base.specs.declared.row.Row.{Row}
 use Rattle.weather_book.specs.declared.kept.DayEntry.{DayEntry}
-use Rattle.weather_book.specs.Days.{day_of_row}
 use Rattle.weather_book.specs.Kept.{KeepsOf}
 use Rattle.weather_book.proofs.KeptLaws.{keeps_more}
 use Rattle.weather_book.proofs.kept.Kept.push.Goals as goal
