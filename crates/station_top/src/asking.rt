@@ -34,6 +34,7 @@ pub fn ask<L: Link>(task: &Task, link: &mut L, text: &mut Text) -> TaskEnd
     }
 }
 
+// Takes so many packets, and appends the line of each.
 fn take_packets<L: Link>(count: u8, link: &mut L, text: &mut Text) -> TaskEnd
     requires some { 1 ≤ count }
     requires most { count ≤ MOST_PACKETS }
@@ -49,6 +50,7 @@ fn take_packets<L: Link>(count: u8, link: &mut L, text: &mut Text) -> TaskEnd
     end
 }
 
+// Reads so many bytes of the memory from a place on.
 fn read_memory<L: Link>(at: u16, count: u8, link: &mut L, text: &mut Text) -> TaskEnd
     requires within { AreWithin at count }
     requires empty { text.old.items ≡ [] }
@@ -61,6 +63,7 @@ fn read_memory<L: Link>(at: u16, count: u8, link: &mut L, text: &mut Text) -> Ta
     end
 }
 
+// Writes bytes of the memory from a place on.
 fn write_memory<L: Link>(
     at: u16,
     bytes: &ArrayVec<u8, MOST_BYTES>,
@@ -75,6 +78,7 @@ fn write_memory<L: Link>(
     write_eeprom(link, at, bytes)
 }
 
+// Reads what the clock shows.
 fn read_clock<L: Link>(link: &mut L, text: &mut Text) -> TaskEnd
     requires { text.old.items ≡ [] }
     ensures { Gives L.traffic Task.ReadClock link.old result text.new.items link.new }
@@ -92,6 +96,7 @@ fn read_clock<L: Link>(link: &mut L, text: &mut Text) -> TaskEnd
     end
 }
 
+// Sets the clock.
 fn set_clock<L: Link>(time: &ClockTime, link: &mut L, text: &mut Text) -> TaskEnd
     requires civil { can_be_shown time.now ≡ true }
     requires empty { text.old.items ≡ [] }
@@ -101,6 +106,7 @@ fn set_clock<L: Link>(time: &ClockTime, link: &mut L, text: &mut Text) -> TaskEn
     set_time(link, time)
 }
 
+// Sets the period.
 fn change_period<L: Link>(period: Period, link: &mut L, text: &mut Text) -> TaskEnd
     requires { text.old.items ≡ [] }
     ensures { Gives L.traffic (Task.SetPeriod period) link.old result text.new.items link.new }
@@ -109,6 +115,7 @@ fn change_period<L: Link>(period: Period, link: &mut L, text: &mut Text) -> Task
     set_period(link, period)
 }
 
+// Reads which kind of station it is.
 fn read_kind<L: Link>(link: &mut L, text: &mut Text) -> TaskEnd
     requires { text.old.items ≡ [] }
     ensures { Gives L.traffic Task.Kind link.old result text.new.items link.new }

@@ -36,6 +36,7 @@ pub fn read_task(words: &[&str]) -> Option<Task>
     }
 }
 
+// `loop N`.
 fn read_packets(words: &[&str]) -> Option<Task>
     ensures task { result ≡ packets_in (texts words.now) }
     ensures can { IfSome result CanBeMade }
@@ -46,6 +47,7 @@ fn read_packets(words: &[&str]) -> Option<Task>
     }
 }
 
+// `eeprom read ..` or `eeprom write ..`.
 fn read_memory(words: &[&str]) -> Option<Task>
     ensures task { result ≡ memory_in (texts words.now) }
     ensures can { IfSome result CanBeMade }
@@ -58,6 +60,7 @@ fn read_memory(words: &[&str]) -> Option<Task>
     }
 }
 
+// `eeprom read AT N`.
 #[tactic(auto, unfolding(crate::specs::TaskWords::reading_in))]
 fn read_reading(words: &[&str]) -> Option<Task>
     ensures task { result ≡ reading_in (texts words.now) }
@@ -74,6 +77,7 @@ fn read_reading(words: &[&str]) -> Option<Task>
     Some(Task::ReadMemory { at, count })
 }
 
+// `eeprom write AT HEX`.
 #[tactic(auto, unfolding(crate::specs::TaskWords::writing_in))]
 fn read_writing(words: &[&str]) -> Option<Task>
     ensures task { result ≡ writing_in (texts words.now) }
@@ -98,6 +102,7 @@ fn read_place(word: &str) -> Option<u16>
     Some(read_number(word.as_bytes(), HEXADECIMAL, PLACE_DIGITS)? as u16)
 }
 
+// `time`, or `time set DATE TIME`.
 fn read_clock(words: &[&str]) -> Option<Task>
     ensures task { result ≡ clock_in (texts words.now) }
     ensures can { IfSome result CanBeMade }
@@ -112,6 +117,7 @@ fn read_clock(words: &[&str]) -> Option<Task>
     }
 }
 
+// `period M`.
 #[tactic(auto, unfolding(crate::specs::TaskWords::period_in))]
 fn read_period(words: &[&str]) -> Option<Task>
     ensures task { result ≡ period_in (texts words.now) }
@@ -124,6 +130,7 @@ fn read_period(words: &[&str]) -> Option<Task>
     Some(Task::SetPeriod(Period::from_minutes(minutes)?))
 }
 
+// `kind`.
 fn read_kind(words: &[&str]) -> Option<Task>
     ensures task { result ≡ kind_in (texts words.now) }
     ensures can { IfSome result CanBeMade }
