@@ -1,12 +1,14 @@
-//! The outside as the system has it: files, a line over TCP, and the standard streams.
+//! The outside as the system has it: files, an archive's file, a line over TCP, and the standard streams.
 #![tactic(auto)]
 
+mod file_disk;
 mod outcome;
 mod std_files;
 mod std_sink;
 mod streams;
 mod tcp_link;
 
+pub use file_disk::FileDisk;
 pub use outcome::{Outcome, understand};
 pub use std_files::StdFiles;
 pub use std_sink::StdSink;

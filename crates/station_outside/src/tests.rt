@@ -3,12 +3,14 @@ ghost use Rattle.std.specs.Prelude.{◌≤◌, IfOk};
 use crate::std_files::read_front;
 use crate::std_sink::write_whole;
 use crate::tcp_link::{accept, bind};
-use crate::{StdFiles, TcpLink, hold_standard_streams};
+use crate::{FileDisk, StdFiles, TcpLink, hold_standard_streams};
+use disk_model::{Disk, Disked, Length};
 use serial_link::{Connected, Link, Recv, Sent, Side};
 use station_io::{Files, LONGEST, Put, TextRead};
 use std::fs::{self, File};
 use std::io::{self, ErrorKind, Read, Write};
 use std::net::TcpStream;
+use std::os::unix::fs::symlink;
 use std::rt;
 use std::test::Fail;
 use std::time::{Duration, Instant};
@@ -199,5 +201,94 @@ fn two_ends_of_a_line(rt: HostRuntime) -> Result<(), Fail> {
     );
     assert_eq!(rt; host.send(b"x"), Sent::Failed);
     assert_eq!(rt; host.connect(Side::Call, "no address"), Connected::Failed);
+    Ok(())
+}
+
+#[test]
+fn a_disk_keeps_what_is_written(rt: HostRuntime) -> Result<(), Fail> {
+    const FOLDER: &str = "station_outside_disk";
+    const NAME: &str = "station_outside_disk/archive";
+    let _ = fs::remove_dir_all(&rt, FOLDER);
+    fs::create_dir(&rt, FOLDER)?;
+    let mut disk = FileDisk::new(&rt);
+    assert_eq!(rt; disk.length(), Length::Failed);
+    assert_eq!(rt; disk.attach(NAME, false), Disked::Failed);
+    assert!(rt;
+        !fs::exists(&rt, NAME)?,
+        "an attach without make makes none"
+    );
+    assert_eq!(rt; disk.attach(NAME, true), Disked::Done);
+    assert_eq!(rt; disk.length(), Length::Known(0));
+    assert_eq!(rt; disk.write_at(3, b"abc"), Disked::Done);
+    assert_eq!(rt; disk.sync(), Disked::Done);
+    assert_eq!(rt; disk.moment(), 2);
+    assert_eq!(rt; disk.length(), Length::Known(6));
+    let mut back = [9; 4];
+    assert_eq!(rt; disk.read(1, &mut back), Disked::Done);
+    assert_eq!(rt; back, *b"\0\0ab");
+    assert_eq!(rt; disk.read(3, &mut back), Disked::Failed, "past the end");
+    drop(disk);
+    let mut disk = FileDisk::new(&rt);
+    assert_eq!(rt; disk.attach(NAME, true), Disked::Done);
+    assert_eq!(rt; disk.length(), Length::Known(6), "nothing is cut off");
+    assert_eq!(rt; disk.write_at(u64::MAX - 2, b"abc"), Disked::Failed);
+    drop(disk);
+    let mut reader = FileDisk::new(&rt);
+    assert_eq!(rt; reader.attach(NAME, false), Disked::Done);
+    assert_eq!(rt;
+        reader.write_at(0, b"x"),
+        Disked::Failed,
+        "opened to be read"
+    );
+    assert_eq!(rt; reader.read(2, &mut back), Disked::Done);
+    assert_eq!(rt; back, *b"\0abc");
+    fs::remove_dir_all(&rt, FOLDER)?;
+    Ok(())
+}
+
+#[test]
+fn one_disk_alone_writes_a_file(rt: HostRuntime) -> Result<(), Fail> {
+    const NAME: &str = "station_outside_locked";
+    let _ = fs::remove_file(&rt, NAME);
+    let mut first = FileDisk::new(&rt);
+    assert_eq!(rt; first.attach(NAME, true), Disked::Done);
+    let mut second = FileDisk::new(&rt);
+    assert_eq!(rt; second.attach(NAME, true), Disked::Failed);
+    assert_eq!(rt; second.attach(NAME, false), Disked::Done, "it may be read");
+    drop(first);
+    assert_eq!(rt; second.attach(NAME, true), Disked::Done);
+    fs::remove_file(&rt, NAME)?;
+    Ok(())
+}
+
+#[test]
+fn a_link_leads_to_the_file(rt: HostRuntime) -> Result<(), Fail> {
+    const FOLDER: &str = "station_outside_links";
+    let _ = fs::remove_dir_all(&rt, FOLDER);
+    fs::create_dir(&rt, FOLDER)?;
+    fs::create_dir(&rt, "station_outside_links/far")?;
+    symlink(&rt, "far/archive", "station_outside_links/link")?;
+    let mut disk = FileDisk::new(&rt);
+    assert_eq!(rt;
+        disk.attach("station_outside_links/link", true),
+        Disked::Done
+    );
+    assert!(rt; fs::metadata(&rt, "station_outside_links/far/archive")?.is_file());
+    fs::remove_dir_all(&rt, FOLDER)?;
+    Ok(())
+}
+
+#[test]
+fn what_is_no_plain_file_is_refused(rt: HostRuntime) -> Result<(), Fail> {
+    let mut disk = FileDisk::new(&rt);
+    for make in [false, true] {
+        assert_eq!(rt; disk.attach("/", make), Disked::Failed);
+        assert_eq!(rt; disk.attach("/dev/null", make), Disked::Failed);
+        assert_eq!(rt; disk.attach("", make), Disked::Failed);
+        assert_eq!(rt;
+            disk.attach("station_outside_none/archive", make),
+            Disked::Failed
+        );
+    }
     Ok(())
 }
