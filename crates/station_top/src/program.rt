@@ -158,6 +158,8 @@ fn print_reading<K: Sink>(read: TextRead, bytes: &[u8], style: &Style<'_>, out: 
 }
 
 #[cfg(test)]
+mod console_tests;
+#[cfg(test)]
 mod task_tests;
 #[cfg(test)]
 mod tests;
