@@ -1,7 +1,7 @@
 #!/usr/bin/env bash
 # Measures a schedule of 20,000 records in 200 rounds over the modelled line and the driver of a dump: a program goes
-# through the schedule once, and eleven times, in turns; the medians differ by ten times. It prints the seconds of one,
-# and the size of a talk item. It is no test, and the program is built with no proof and with checks on.
+# through the schedule once, and eleven times, in turns; the medians differ by ten times. It prints the seconds of the
+# processor for one, and the size of a talk item. It is no test.
 set -eu
 cd "$(dirname "$0")/.."
 copy=out/bench/line
@@ -16,7 +16,9 @@ cat >"$copy/crates/measure/src/main.rt" <<'PROGRAM'
 //! Goes through the schedule of a file as often as there are further words, and prints how many records were kept.
 #![tactic(auto)]
 
-ghost use Rattle.std.specs.Prelude.{◌≡◌, ◌≤◌};
+ghost use Rattle.std.specs.Prelude.{◌≡◌};
+ghost use Rattle.archive_record.specs.Reading.{stamp_in};
+ghost use Rattle.station_base.specs.LastStamp.{last_stamp};
 
 use archive_record::Rec52;
 use causes::OutOfMemory;
@@ -30,6 +32,7 @@ use station_sim::{Schedule, Sim, Step};
 use std::alloc::Global;
 use std::{env, fs, io, mem};
 
+#[derive(Drop)]
 struct Counter {
     last: Option<Stamp>,
     kept: u32,
@@ -45,12 +48,21 @@ impl Keeper for Counter {
     } };
 
     fn keep(&mut self, rows: &[Rec52]) -> Kept {
-        for row in rows {
-            self.last = Some(row.stamp());
-            self.kept += 1;
-        }
+        self.last = last_of(rows, self.last);
+        self.kept = self.kept.saturating_add(rows.len() as u32);
         Kept::Done
     }
+}
+
+// The stamp of the last record, or the one before where there is none.
+fn last_of(rows: &[Rec52], before: Option<Stamp>) -> Option<Stamp>
+    ensures { result ≡ last_stamp stamp_in rows.now before }
+{
+    let mut last = before;
+    for row in rows {
+        last = Some(row.stamp());
+    }
+    last
 }
 
 // The record a period later with the same values.
@@ -116,25 +128,39 @@ fn main(rt: HostRuntime) -> io::Result<()> {
     Ok(())
 }
 PROGRAM
+mkdir -p "$copy/crates/measure/proofs/last_of"
+cat >"$copy/crates/measure/proofs/last_of/Invariants.antt" <<'PROOF'
+use Rattle.std.proofs.Common.{◌≡◌, drop}
+use Rattle.station_base.specs.LastStamp.{last_stamp}
+use Rattle.archive_record.specs.Reading.{stamp_in}
+use Rattle.measure.proofs.last_of.Given as goal
+
+abbrev pub invariant-loop-row : goal.invariant-loop-row
+invariant-loop-row l = last_stamp stamp_in (drop l.row-index l.rows) l.last ≡ last_stamp stamp_in l.rows l.initial.last
+PROOF
+(cd "$copy/crates/measure" && rt run -- >/dev/null)
 python3 - "$copy" <<'MEASURE'
-import statistics, subprocess, sys, time
+import os, statistics, subprocess, sys
 from datetime import datetime, timedelta
 
-folder = f'{sys.argv[1]}/crates/measure'
-with open(f'{folder}/schedule.txt', 'w') as file:
+copy = sys.argv[1]
+program = f'{copy}/crates/measure/out/measure'
+path = f'{copy}/schedule.txt'
+with open(path, 'w') as file:
     for n in range(200):
         first = datetime(2024, 1, 1) + timedelta(minutes=500 * n)
         file.write(f'run {first:%Y-%m-%d %H:%M} 100 outTemp=650\nround\n')
 
-def seconds(times):
-    began = time.perf_counter()
-    words = ['rt', 'try', '--', 'schedule.txt'] + ['again'] * times
-    said = subprocess.run(words, cwd=folder, capture_output=True, text=True)
-    assert said.stdout.count('20000\n') == times, said.stdout + said.stderr
-    return time.perf_counter() - began, said.stdout.splitlines()[0]
+def run(times):
+    process = subprocess.Popen([program, path] + ['again'] * times, stdout=subprocess.PIPE, text=True)
+    said = process.stdout.read()
+    _, status, usage = os.wait4(process.pid, 0)
+    assert status == 0 and said.count('20000\n') == times, said
+    return usage.ru_utime + usage.ru_stime, usage.ru_maxrss, said.splitlines()[0]
 
-runs = {times: [seconds(times) for turn in range(3)] for times in (1, 11)}
-medians = {times: statistics.median(run[0] for run in of) for times, of in runs.items()}
+runs = {times: [run(times) for turn in range(3)] for times in (1, 11)}
+medians = {times: statistics.median(seconds for seconds, _, _ in of) for times, of in runs.items()}
 print(f'one time: {(medians[11] - medians[1]) / 10:.2f} s')
-print(runs[1][0][1])
+print(f'resident at most {max(memory for _, memory, _ in runs[1]) / 1024:.1f} MiB')
+print(runs[1][0][2])
 MEASURE
