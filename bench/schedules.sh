@@ -1,11 +1,12 @@
 #!/usr/bin/env bash
-# Measures a schedule of 20,000 records in 200 rounds over the modelled line and the driver of a dump: a program goes
-# through the schedule once, and eleven times, in turns; the medians differ by ten times. It prints the seconds of the
-# processor for one, and the size of a talk item. It is no test.
+# Measures schedules by a proved program: the reading of two of 10,000 lines, one with 20,000 records and one with 9,998
+# fates of a round; and one of 20,000 records in 200 rounds over the modelled line and the driver of a dump. The program
+# does it once, and more often, in turns, and the medians of the processor's time differ by what is repeated. It prints
+# the time of one, the greatest resident memory, and the size of a talk item. It is no test.
 set -eu
 cd "$(dirname "$0")/.."
-copy=out/bench/line
-mkdir -p "$copy/crates/measure/src"
+copy=out/bench/schedules
+mkdir -p "$copy/crates/measure/src" "$copy/crates/measure/proofs/last_of"
 cp HANDLES "$copy"
 below='causes station_base archive_record loop_packet eeprom_map console_model serial_link dmpaft_driver station_sim'
 sed "s/^station_replay:.*/measure: $below/" crates.txt >"$copy/crates.txt"
@@ -13,7 +14,8 @@ for name in $(sed -n 's/^\([a-z_]*\):.*/\1/p' "$copy/crates.txt"); do
     [ "$name" = measure ] || tar -C crates --exclude=out -c "$name" | tar -C "$copy/crates" -x
 done
 cat >"$copy/crates/measure/src/main.rt" <<'PROGRAM'
-//! Goes through the schedule of a file as often as there are further words, and prints how many records were kept.
+//! `read FILE ..` reads the schedule of a file as often as there are further words, and prints how many records it has;
+//! `go FILE ..` goes through it as often, and prints how many records were kept.
 #![tactic(auto)]
 
 ghost use Rattle.std.specs.Prelude.{◌≡◌};
@@ -107,28 +109,35 @@ fn go_through(alloc: Global, schedule: &Schedule, period: Period) -> Result<u32,
     Ok(counter.kept)
 }
 
+// Reads the schedule, goes through it where that is asked for, and answers the number to print.
+fn measure(alloc: Global, text: &[u8], period: Period, goes: bool) -> Option<u32> {
+    let schedule = Schedule::read(alloc, text, period).ok()?;
+    if goes {
+        go_through(alloc, &schedule, period).ok()
+    } else {
+        Some(schedule.records())
+    }
+}
+
 fn main(rt: HostRuntime) -> io::Result<()> {
     let Some(period) = Period::from_minutes(5) else {
         return Ok(());
     };
     let mut words = env::args(&rt)?.skip(1);
-    let Some(name) = words.next() else {
+    let (Some(what), Some(name)) = (words.next(), words.next()) else {
         return Ok(());
     };
     let text = fs::read(&rt, &name)?;
     println!(rt; "a talk item has {} bytes", mem::size_of::<TalkItem>())?;
     for _word in words {
-        if let Ok(schedule) = Schedule::read(rt.alloc(), &text, period) {
-            match go_through(rt.alloc(), &schedule, period) {
-                Ok(kept) => println!(rt; "{kept}")?,
-                Err(_) => println!(rt; "no memory")?,
-            }
+        match measure(rt.alloc(), &text, period, what.as_str() == "go") {
+            Some(records) => println!(rt; "{records}")?,
+            None => println!(rt; "refused, or no memory")?,
         }
     }
     Ok(())
 }
 PROGRAM
-mkdir -p "$copy/crates/measure/proofs/last_of"
 cat >"$copy/crates/measure/proofs/last_of/Invariants.antt" <<'PROOF'
 use Rattle.std.proofs.Common.{◌≡◌, drop}
 use Rattle.station_base.specs.LastStamp.{last_stamp}
@@ -146,21 +155,33 @@ from datetime import datetime, timedelta
 copy = sys.argv[1]
 program = f'{copy}/crates/measure/out/measure'
 path = f'{copy}/schedule.txt'
-with open(path, 'w') as file:
-    for n in range(200):
-        first = datetime(2024, 1, 1) + timedelta(minutes=500 * n)
-        file.write(f'run {first:%Y-%m-%d %H:%M} 100 outTemp=650\nround\n')
 
-def run(times):
-    process = subprocess.Popen([program, path] + ['again'] * times, stdout=subprocess.PIPE, text=True)
+def stamp(first, minutes):
+    return f'{first + timedelta(minutes=minutes):%Y-%m-%d %H:%M}'
+
+first = datetime(2024, 1, 1)
+records = [f'due {stamp(first, 5 * n)} outTemp=650 rain=1' for n in range(9_998)]
+fates = [f'host {n} drop 1 1' for n in range(9_998, 0, -1)]
+rounds = [line for n in range(200) for line in (f'run {stamp(first, 500 * n)} 100 outTemp=650', 'round')]
+schedules = {
+    'to read 20,000 records': ('read', 100, records + ['run 2024-06-01 00:00 10002 outTemp=650', 'round']),
+    'to read 9,998 fates': ('read', 100, ['run 2024-01-01 00:00 20000', 'round'] + fates),
+    'to go through 200 rounds': ('go', 10, rounds),
+}
+
+def run(what, times):
+    process = subprocess.Popen([program, what, path] + ['again'] * times, stdout=subprocess.PIPE, text=True)
     said = process.stdout.read()
     _, status, usage = os.wait4(process.pid, 0)
-    assert status == 0 and said.count('20000\n') == times, said
+    assert status == 0 and said.splitlines()[1:] == ['20000'] * times, said
     return usage.ru_utime + usage.ru_stime, usage.ru_maxrss, said.splitlines()[0]
 
-runs = {times: [run(times) for turn in range(3)] for times in (1, 11)}
-medians = {times: statistics.median(seconds for seconds, _, _ in of) for times, of in runs.items()}
-print(f'one time: {(medians[11] - medians[1]) / 10:.2f} s')
-print(f'resident at most {max(memory for _, memory, _ in runs[1]) / 1024:.1f} MiB')
+for name, (what, more, lines) in schedules.items():
+    with open(path, 'w') as file:
+        file.write('\n'.join(lines) + '\n')
+    runs = {times: [run(what, times) for turn in range(3)] for times in (1, 1 + more)}
+    medians = {times: statistics.median(seconds for seconds, _, _ in of) for times, of in runs.items()}
+    once = (medians[1 + more] - medians[1]) / more
+    print(f'{name}: {once * 1000:.1f} ms, resident at most {max(memory for _, memory, _ in runs[1]) / 1024:.1f} MiB')
 print(runs[1][0][2])
 MEASURE
