@@ -33,7 +33,8 @@ le_test m n h = grind (arith, nat_tests)
 lt_test : (m n : ℕ) → m < n → nat_lt m n ≡ true
 lt_test m n h = grind (arith, nat_tests)
 
-test_holds : (c : CivilMinute) → IsCivilMinute c → is_civil_minute c ≡ true
+-- a civil minute passes the test
+pub test_holds : (c : CivilMinute) → IsCivilMinute c → is_civil_minute c ≡ true
 test_holds c civil =
     all_of (nat_le 2000 c.year) (nat_le c.year 2127) (nat_le 1 c.month) (nat_le c.month 12) (nat_le 1 c.day) (nat_le c.day (days_in_month (pos c.year) c.month)) (nat_lt c.hour 24) (nat_lt c.minute 60)
     (le_test _ _ civil.year_from) (le_test _ _ civil.year_to) (le_test _ _ civil.month_from) (le_test _ _ civil.month_to) (le_test _ _ civil.day_from) (le_test _ _ civil.day_to) (lt_test _ _ civil.hour_to) (lt_test _ _ civil.minute_to)

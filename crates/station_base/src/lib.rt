@@ -16,7 +16,7 @@ pub use causes::OutOfMemory;
 pub use clock::ClockTime;
 pub use day::DayNumber;
 pub use field::{FIELD_COUNT, FieldId};
-pub use laws::words_order_as_time;
+pub use laws::{text_names_stamp, words_order_as_time};
 pub use period::Period;
 pub use row::{LINE_ROOM, Row};
 pub use stamp::Stamp;

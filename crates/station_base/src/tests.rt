@@ -38,6 +38,26 @@ fn days_are_read_from_1999_to_2127(rt: HostRuntime) {
 }
 
 #[test]
+fn a_stamp_is_read_where_the_calendar_has_it(rt: HostRuntime) {
+    let stamp = Stamp::from_words(12_513, 10);
+    assert!(rt; stamp.is_some());
+    assert_eq!(rt; Stamp::from_text(b"2024-07-01 00:10"), stamp);
+    let others: [&[u8]; 8] = [
+        b"1999-12-31 23:59",
+        b"2128-01-01 00:00",
+        b"2023-02-29 00:00",
+        b"2024-07-01 24:00",
+        b"2024-07-01 00:60",
+        b"2024-07-01T00:10",
+        b"2024-07-01 0:10",
+        b"2024-07-01 00:10 ",
+    ];
+    for text in others {
+        assert_eq!(rt; Stamp::from_text(text), None);
+    }
+}
+
+#[test]
 fn fields_are_named_by_their_numbers(rt: HostRuntime) {
     let names = [
         (0, "outTemp", "0.1 F"),
