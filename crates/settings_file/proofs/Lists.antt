@@ -1,14 +1,17 @@
 -- Elements of lists, and what stands past their end.
-use Rattle.std.proofs.Common.{◌≡◌, ℕ, zero, suc, ◌<◌, List, [], ◌∷◌, length, get_or, replicate, refl, arith}
-
--- within the list the default has no say
-pub get_or-default : {A : Type 0} (xs : List A) (i : ℕ) (d e : A) → i < length xs → get_or xs i d ≡ get_or xs i e
-get_or-default [] i d e below = absurd (omega arith)
-get_or-default (x ∷ xs) zero d e below = refl
-get_or-default (x ∷ xs) (suc i) d e below = get_or-default xs i d e (omega arith)
+use Rattle.std.proofs.Common.{◌≡◌, ℕ, zero, suc, List, [], ◌∷◌, get_or, replicate, set, Option, Some, None, IfSome, refl}
 
 -- the same element everywhere, past the end too
 pub get_or-replicate_default : {A : Type 0} (n i : ℕ) (x : A) → get_or (replicate n x) i x ≡ x
 get_or-replicate_default zero i x = refl
 get_or-replicate_default (suc n) zero x = refl
 get_or-replicate_default (suc n) (suc i) x = get_or-replicate_default n i x
+
+-- what is named stays in its range where one more is named
+pub named_set : {A : Type 0} (P : A → Type 0) (xs : List (Option A)) (i : ℕ) (x : A) → ((j : ℕ) → IfSome (get_or xs j None) P) → P x
+    → (j : ℕ) → IfSome (get_or (set xs i (Some x)) j None) P
+named_set P [] i x each px j = each j
+named_set P (y ∷ xs) zero x each px zero = px
+named_set P (y ∷ xs) zero x each px (suc j) = each (suc j)
+named_set P (y ∷ xs) (suc i) x each px zero = each zero
+named_set P (y ∷ xs) (suc i) x each px (suc j) = named_set P xs i x (λ k. each (suc k)) px j

@@ -5,12 +5,19 @@ use Rattle.station_base.specs.NumberText.{number_text}
 use Rattle.settings_file.specs.declared.fault.Section.{Section}
 use Rattle.settings_file.specs.declared.fault.Section.TheVariants as section
 use Rattle.settings_file.specs.declared.fault.SettingsFault.{SettingsFault}
-use Rattle.settings_file.specs.declared.fault.SettingsFault.TheVariants.{Syntax, UnknownKey, BadNumber, LimitsCrossed, BadPeriod, OutOfMemory}
+use Rattle.settings_file.specs.declared.fault.SettingsFault.TheVariants.{Syntax, UnknownKey, BadNumber, LimitsCrossed, BadPeriod, TooManyChanges, BadFrom, ChangeOrder, CrossedInChange, OutOfMemory}
+
+-- change n, from 0
+abbrev pub change_name : ℕ → List ℕ
+change_name n = codes "change-" ++ number_text n
 
 abbrev pub section_name : Section → List ℕ
 section_name section.Top = codes "top"
 section_name section.Calibration = codes "calibration"
 section_name section.Limits = codes "limits"
+section_name (section.Change n) = change_name n
+section_name (section.ChangeCalibration n) = change_name n ++ codes "-calibration"
+section_name (section.ChangeLimits n) = change_name n ++ codes "-limits"
 
 -- the name of a field, or a dash where there is none
 abbrev pub field_name : Option ℕ → List ℕ
@@ -30,4 +37,9 @@ fault_line (UnknownKey section field index) =
 fault_line (BadNumber section field index) = codes "settings bad number " ++ key_text section field index ++ codes "\n"
 fault_line (LimitsCrossed field) = codes "settings crossed " ++ name_of field ++ codes "\n"
 fault_line BadPeriod = codes "settings bad period\n"
+fault_line TooManyChanges = codes "settings too many changes\n"
+fault_line (BadFrom n) = codes "settings bad from " ++ number_text n ++ codes "\n"
+fault_line (ChangeOrder n) = codes "settings change order " ++ number_text n ++ codes "\n"
+fault_line (CrossedInChange n field) =
+    codes "settings crossed " ++ name_of field ++ codes " change " ++ number_text n ++ codes "\n"
 fault_line OutOfMemory = []

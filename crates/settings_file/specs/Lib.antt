@@ -1,10 +1,17 @@
 pub mod Calibration
 pub mod Limits
+pub mod Named
+pub mod Corrections
+pub mod Changes
+pub mod ChangesStored
+pub mod ChangesBack
 pub mod StationSettings
 pub mod KeyPlace
 pub mod Values
 pub mod Walk
 pub mod Fields
 pub mod Sections
+pub mod ChangesRead
 pub mod Reading
 pub mod FaultLine
+pub mod ChangeIsRead

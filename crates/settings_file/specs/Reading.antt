@@ -7,29 +7,34 @@ use Rattle.settings_file.specs.declared.fault.SettingsFault.{SettingsFault}
 use Rattle.settings_file.specs.declared.fault.SettingsFault.TheVariants.{Syntax}
 use Rattle.settings_file.specs.declared.fault.Section.TheVariants as section
 use Rattle.settings_file.specs.StationSettings.{StationSettings, plain_settings}
-use Rattle.settings_file.specs.KeyPlace.{unknown_key}
 use Rattle.settings_file.specs.Values.{between, whole_number, table_of, period_of}
 use Rattle.settings_file.specs.Walk.{Fill, ◌>>=◌, walk}
+use Rattle.settings_file.specs.KeyPlace.{unknown_key}
 use Rattle.settings_file.specs.Sections.{calibrations_key, all_limits_key}
+use Rattle.settings_file.specs.ChangesRead.{changes_of}
 
--- `calibration` and `limits` with their tables, `period`, and `rows` from 1 to 1,048,576
+-- `calibration` and `limits` with the tables of their fields, `change` with its changes, `period`, and `rows` from 1 to
+-- 1,048,576
 abbrev pub settings_key : Fill StationSettings
 settings_key at key value s =
     if bytes_eq key (codes "calibration") then (do
       fields ← table_of at value
-      all ← walk calibrations_key section.Calibration None 0 fields s.calibrations
-      Ok (record s { calibrations = all }))
+      all ← walk calibrations_key section.Calibration None 0 fields s.own.calibrations
+      Ok (record s { own = record { calibrations = all; limits = s.own.limits } }))
+    else (if bytes_eq key (codes "change") then (do
+      changes ← changes_of at value
+      Ok (record s { changes = changes }))
     else (if bytes_eq key (codes "limits") then (do
       fields ← table_of at value
-      all ← walk all_limits_key section.Limits None 0 fields s.limits
-      Ok (record s { limits = all }))
+      all ← walk all_limits_key section.Limits None 0 fields s.own.limits
+      Ok (record s { own = record { calibrations = s.own.calibrations; limits = all } }))
     else (if bytes_eq key (codes "period") then (do
       minutes ← period_of value
       Ok (record s { period = minutes }))
     else (if bytes_eq key (codes "rows") then (do
       rows ← whole_number (between (pos 1) (pos 1048576)) at value
       Ok (record s { most = unsigned_abs rows }))
-    else Err (unknown_key at))))
+    else Err (unknown_key at)))))
 
 -- the document that TOML makes of the bytes, which are to be UTF-8
 abbrev pub document_of : List ℕ → Option Members

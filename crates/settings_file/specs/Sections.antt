@@ -4,7 +4,9 @@ use Rattle.std.specs.Prelude.{ℤ, pos, neg_ℤ, int_lt, List, ℕ, Bool, false,
 use Rattle.settings_file.specs.declared.calibration.Calibration.{Calibration}
 use Rattle.settings_file.specs.declared.limits.Limits.{Limits}
 use Rattle.settings_file.specs.declared.fault.SettingsFault.{SettingsFault}
-use Rattle.settings_file.specs.declared.fault.SettingsFault.TheVariants.{LimitsCrossed}
+use Rattle.settings_file.specs.declared.fault.SettingsFault.TheVariants.{LimitsCrossed, CrossedInChange}
+use Rattle.settings_file.specs.declared.fault.Section.{Section}
+use Rattle.settings_file.specs.declared.fault.Section.TheVariants as section
 use Rattle.settings_file.specs.Calibration.{uncalibrated}
 use Rattle.settings_file.specs.Limits.{unlimited}
 use Rattle.settings_file.specs.KeyPlace.{unknown_key}
@@ -43,23 +45,38 @@ are_crossed (Some least) (Some greatest) = int_lt greatest least
 are_crossed (Some least) None = false
 are_crossed None greatest = false
 
+-- the calibrations of a change where the section is one, and else those of the file
+abbrev pub calibrations_of : Section → Section
+calibrations_of (section.Change n) = section.ChangeCalibration n
+calibrations_of other = section.Calibration
+
+-- the limits of a change where the section is one, and else those of the file
+abbrev pub limits_of : Section → Section
+limits_of (section.Change n) = section.ChangeLimits n
+limits_of other = section.Limits
+
+-- the limits of a field in this section are crossed
+abbrev pub crossed_in : Section → ℕ → SettingsFault
+crossed_in (section.ChangeLimits n) field = CrossedInChange n field
+crossed_in other field = LimitsCrossed field
+
 -- the limits of a field, where they are not crossed
-abbrev pub uncrossed : ℕ → Limits → Result Limits SettingsFault
-uncrossed field l = if are_crossed l.least l.greatest then Err (LimitsCrossed field) else Ok l
+abbrev pub uncrossed : Section → ℕ → Limits → Result Limits SettingsFault
+uncrossed section field l = if are_crossed l.least l.greatest then Err (crossed_in section field) else Ok l
 
 -- a field's name with the table of its calibration
-abbrev pub calibrations_key : Fill (List Calibration)
+abbrev pub calibrations_key : Fill (List (Option Calibration))
 calibrations_key at name value all = do
   field ← field_at at name
   numbers ← table_of at value
   c ← walk calibration_key at.section (Some field) 0 numbers uncalibrated
-  Ok (slice_set all field c)
+  Ok (slice_set all field (Some c))
 
 -- a field's name with the table of its limits
-abbrev pub all_limits_key : Fill (List Limits)
+abbrev pub all_limits_key : Fill (List (Option Limits))
 all_limits_key at name value all = do
   field ← field_at at name
   numbers ← table_of at value
   read ← walk limits_key at.section (Some field) 0 numbers unlimited
-  l ← uncrossed field read
-  Ok (slice_set all field l)
+  l ← uncrossed at.section field read
+  Ok (slice_set all field (Some l))

@@ -1,44 +1,46 @@
 -- What a settings file settles (this project's profile).
-use Rattle.std.specs.Prelude.{ℕ, ◌≤◌, ◌≡◌, List, length, replicate, slice_index_or}
+use Rattle.std.specs.Prelude.{ℕ, ◌≤◌, List, []}
+use Rattle.std.specs.Option.{option_or, unwrap_or}
+use Rattle.station_base.specs.CivilMinute.{CivilMinute}
+use Rattle.station_base.specs.Period.{IsPeriod}
 use Rattle.settings_file.specs.declared.calibration.Calibration.{Calibration}
 use Rattle.settings_file.specs.declared.limits.Limits.{Limits}
-use Rattle.station_base.specs.Period.{IsPeriod}
-use Rattle.settings_file.specs.Calibration.{IsCalibration, uncalibrated}
-use Rattle.settings_file.specs.Limits.{AreLimits, unlimited}
+use Rattle.settings_file.specs.declared.corrections.Corrections.{Corrections}
+use Rattle.settings_file.specs.declared.change.Change.{Change}
+use Rattle.settings_file.specs.Calibration.{uncalibrated}
+use Rattle.settings_file.specs.Limits.{unlimited}
+use Rattle.settings_file.specs.Corrections.{calibration_in, limits_in, nothing_named, AreCorrections}
+use Rattle.settings_file.specs.Changes.{AreChanges, named_by, last_given}
 
--- the minutes between two records, the most rows of the archive, and for each field by its number how it is calibrated
--- and what is kept of it
+-- the minutes between two records, the most rows of the archive, what the file names of each field, and what its changes
+-- name from a stamp on
 pub record StationSettings : Type 0 where
   pub period : ℕ
   pub most : ℕ
-  pub calibrations : List Calibration
-  pub limits : List Limits
+  pub own : Corrections
+  pub changes : List Change
 
-abbrev pub calibration_of : StationSettings → ℕ → Calibration
-calibration_of settings field = slice_index_or settings.calibrations field uncalibrated
+-- the calibration in force at a stamp: that of the last change which is not later and names one of the field, or else the
+-- file's own, or none
+abbrev pub calibration_of : StationSettings → ℕ → CivilMinute → Calibration
+calibration_of settings field stamp =
+    unwrap_or (option_or (last_given (named_by (calibration_in field) stamp) settings.changes) (calibration_in field settings.own))
+    uncalibrated
 
-abbrev pub limits_of : StationSettings → ℕ → Limits
-limits_of settings field = slice_index_or settings.limits field unlimited
+-- the limits in force at a stamp, likewise
+abbrev pub limits_of : StationSettings → ℕ → CivilMinute → Limits
+limits_of settings field stamp =
+    unwrap_or (option_or (last_given (named_by (limits_in field) stamp) settings.changes) (limits_in field settings.own))
+    unlimited
 
--- there is a calibration for each of the 37 fields, with its numbers in their ranges
-pub record AreCalibrations (all : List Calibration) : Type 0 where
-  pub count : length all ≡ 37
-  pub each : (field : ℕ) → IsCalibration (slice_index_or all field uncalibrated)
-
--- there are limits for each of the 37 fields, with their numbers in the range
-pub record AreAllLimits (all : List Limits) : Type 0 where
-  pub count : length all ≡ 37
-  pub each : (field : ℕ) → AreLimits (slice_index_or all field unlimited)
-
--- each number is in its range
+-- each number is in its range, and the changes are in order
 pub record AreSettings (settings : StationSettings) : Type 0 where
   pub period : IsPeriod settings.period
   pub most_from : 1 ≤ settings.most
   pub most_to : settings.most ≤ 1048576
-  pub calibrations : AreCalibrations settings.calibrations
-  pub limits : AreAllLimits settings.limits
+  pub own : AreCorrections settings.own
+  pub changes : AreChanges settings.changes
 
--- a period of 5 minutes, 1,048,576 rows, no calibration and no limits
+-- a period of 5 minutes, 1,048,576 rows, no calibration, no limits and no change
 abbrev pub plain_settings : StationSettings
-plain_settings =
-    record { period = 5; most = 1048576; calibrations = replicate 37 uncalibrated; limits = replicate 37 unlimited }
+plain_settings = record { period = 5; most = 1048576; own = nothing_named; changes = [] }

@@ -1,7 +1,9 @@
 -- What the values of the file may be (this project's profile; the periods are those of the console's command SETPER).
-use Rattle.std.specs.Prelude.{ℕ, ℤ, pos, int_le, ◌&&◌, if◌then◌else◌, Result, Ok, Err}
-use Rattle.toml.specs.Data.{Data, integer, table, Members}
+use Rattle.std.specs.Prelude.{ℕ, ℤ, pos, int_le, ◌&&◌, if◌then◌else◌, List, [], ◌∷◌, Option, None, Result, Ok, Err}
+use Rattle.toml.specs.Data.{Data, string, integer, array, table, Items, no_items, item, Members}
+use Rattle.station_base.specs.CivilMinute.{CivilMinute}
 use Rattle.station_base.specs.Period.{is_period}
+use Rattle.station_base.specs.Stamp.{stamp_of_text}
 use Rattle.settings_file.specs.declared.fault.SettingsFault.{SettingsFault}
 use Rattle.settings_file.specs.declared.fault.SettingsFault.TheVariants.{BadPeriod}
 use Rattle.settings_file.specs.declared.key_place.KeyPlace.{KeyPlace}
@@ -26,3 +28,18 @@ table_of at value = Err (bad_number at)
 abbrev pub period_of : Data → Result ℕ SettingsFault
 period_of (integer (pos minutes)) = if is_period minutes then Ok minutes else Err BadPeriod
 period_of value = Err BadPeriod
+
+-- the values of an array, in order
+abbrev pub members_of : Items → List Data
+members_of no_items = []
+members_of (item value values) = value ∷ members_of values
+
+-- the values of the array that a value is, where it is one
+abbrev pub tables_of : KeyPlace → Data → Result (List Data) SettingsFault
+tables_of at (array values) = Ok (members_of values)
+tables_of at value = Err (bad_number at)
+
+-- the stamp that a value is the text of, as YYYY-MM-DD HH:MM
+abbrev pub stamp_of : Data → Option CivilMinute
+stamp_of (string text) = stamp_of_text text
+stamp_of value = None

@@ -69,10 +69,10 @@ impl Filled for Calibration {
     }
 }
 
-// The calibrations of the fields, by their numbers.
-impl Filled for [Calibration; FIELD_COUNT] {
+// The calibrations of the fields by their numbers, where they are named.
+impl Filled for [Option<Calibration>; FIELD_COUNT] {
     ghost use Rattle.settings_file.specs.Sections.{calibrations_key};
-    ghost use Rattle.settings_file.specs.StationSettings.{AreCalibrations};
+    ghost use Rattle.settings_file.specs.Named.{AreCalibrations};
 
     ghost filled = { calibrations_key };
 
@@ -81,7 +81,8 @@ impl Filled for [Calibration; FIELD_COUNT] {
     fn fill(mut self, at: &KeyPlace, key: &str, value: &Value) -> Result<Self, SettingsFault> {
         let field = at.field(key)?;
         let numbers = at.table(value)?;
-        self[field.index()] = read_table(at.section, Some(field), numbers, Calibration::NONE)?;
+        let calibration = read_table(at.section, Some(field), numbers, Calibration::NONE)?;
+        self[field.index()] = Some(calibration);
         Ok(self)
     }
 }

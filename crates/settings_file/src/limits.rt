@@ -1,10 +1,10 @@
 ghost use Rattle.std.specs.Prelude.{◌≡◌};
 
-use crate::fault::SettingsFault;
+use crate::fault::{Section, SettingsFault};
 use crate::key_place::KeyPlace;
 use crate::range::Range;
 use crate::table::{Filled, read_table};
-use station_base::FIELD_COUNT;
+use station_base::{FIELD_COUNT, FieldId};
 use toml::Value;
 
 const LIMIT: Range = Range {
@@ -65,10 +65,10 @@ impl Filled for Limits {
     }
 }
 
-// The limits of the fields, by their numbers.
-impl Filled for [Limits; FIELD_COUNT] {
+// The limits of the fields by their numbers, where they are named.
+impl Filled for [Option<Limits>; FIELD_COUNT] {
     ghost use Rattle.settings_file.specs.Sections.{all_limits_key};
-    ghost use Rattle.settings_file.specs.StationSettings.{AreAllLimits};
+    ghost use Rattle.settings_file.specs.Named.{AreAllLimits};
 
     ghost filled = { all_limits_key };
 
@@ -79,9 +79,23 @@ impl Filled for [Limits; FIELD_COUNT] {
         let numbers = at.table(value)?;
         let limits = read_table(at.section, Some(field), numbers, Limits::NONE)?;
         if limits.are_crossed() {
-            return Err(SettingsFault::LimitsCrossed(field));
+            return Err(at.section.crossed(field));
         }
-        self[field.index()] = limits;
+        self[field.index()] = Some(limits);
         Ok(self)
+    }
+}
+
+impl Section {
+    ghost use Rattle.settings_file.specs.Sections.{crossed_in};
+
+    // The limits of a field in this section are crossed.
+    fn crossed(self, field: FieldId) -> SettingsFault
+        ensures { result ≡ crossed_in self field }
+    {
+        match self {
+            Section::ChangeLimits { at } => SettingsFault::CrossedInChange { at, field },
+            _ => SettingsFault::LimitsCrossed(field),
+        }
     }
 }

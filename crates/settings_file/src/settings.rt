@@ -3,12 +3,15 @@ ghost use Rattle.toml.specs.View.{view};
 ghost use Rattle.settings_file.specs.Values.{period_of};
 
 use crate::calibration::Calibration;
+use crate::change::Changes;
+use crate::change_read::read_changes;
+use crate::corrections::Corrections;
 use crate::fault::{Section, SettingsFault};
 use crate::key_place::KeyPlace;
 use crate::limits::Limits;
 use crate::range::Range;
 use crate::table::{Filled, read_table};
-use station_base::{FIELD_COUNT, FieldId, Period};
+use station_base::{FieldId, Period, Stamp};
 use std::alloc::Global;
 use std::marker::Model;
 use toml::Value;
@@ -24,13 +27,13 @@ const ROWS: Range = Range {
 // The minutes between two records, where the file does not name them.
 const MINUTES: u16 = 5;
 
-/// The settings of a station.
+/// The settings of a station. They hold no heap memory, and have about 22,800 bytes: lend them.
 #[derive(Clone, Copy, Debug)]
 pub struct Settings {
     period: Period,
     most: u32,
-    calibrations: [Calibration; FIELD_COUNT],
-    limits: [Limits; FIELD_COUNT],
+    own: Corrections,
+    changes: Changes,
 }
 
 impl Model for Settings {
@@ -38,11 +41,11 @@ impl Model for Settings {
 
     ghost Value = { StationSettings };
 
-    ghost view = { λ s. record { period = s.period; most = s.most; calibrations = s.calibrations; limits = s.limits } };
+    ghost view = { λ s. record { period = s.period; most = s.most; own = s.own; changes = s.changes } };
 
-    ghost invariant = { λ s. AreSettings (record { period = s.period; most = s.most; calibrations = s.calibrations; limits = s.limits }) };
+    ghost invariant = { λ s. AreSettings (record { period = s.period; most = s.most; own = s.own; changes = s.changes }) };
 
-    ghost inverse = { λ s. record { period = s.period; most = s.most; calibrations = s.calibrations; limits = s.limits } };
+    ghost inverse = { λ s. record { period = s.period; most = s.most; own = s.own; changes = s.changes } };
 }
 
 impl Settings {
@@ -53,15 +56,16 @@ impl Settings {
     ghost use Rattle.settings_file.specs.StationSettings.{plain_settings, calibration_of, limits_of};
     ghost use Rattle.settings_file.specs.Reading.{settings_of};
 
-    /// The settings of an empty file: a period of 5 minutes, at most 1,048,576 rows, no calibration and no limits.
+    /// The settings of an empty file: a period of 5 minutes, at most 1,048,576 rows, no calibration, no limits and no
+    /// change.
     pub fn plain() -> Settings
         ensures { result ≡ plain_settings }
     {
         Settings {
             period: Period::from_minutes(MINUTES).unwrap(),
             most: MOST_ROWS,
-            calibrations: [Calibration::NONE; FIELD_COUNT],
-            limits: [Limits::NONE; FIELD_COUNT],
+            own: Corrections::NONE,
+            changes: Changes::none(),
         }
     }
 
@@ -96,20 +100,28 @@ impl Settings {
         self.most
     }
 
-    /// How the values of a field are calibrated.
-    pub fn calibration(&self, field: FieldId) -> Calibration
-        ensures value { result ≡ calibration_of self.now field }
+    /// How the values of a field are calibrated in a row of this stamp: as the last change says that is not from a later
+    /// stamp and names a calibration of the field, or else as the file's own table does.
+    pub fn calibration(&self, field: FieldId, stamp: Stamp) -> Calibration
+        ensures value { result ≡ calibration_of self.now field stamp }
         ensures range { IsCalibration result }
     {
-        self.calibrations[field.index()]
+        self.changes
+            .calibration(field, &stamp)
+            .or(self.own.calibration(field))
+            .unwrap_or(Calibration::NONE)
     }
 
-    /// Which calibrated values of a field are kept.
-    pub fn limits(&self, field: FieldId) -> Limits
-        ensures value { result ≡ limits_of self.now field }
+    /// Which calibrated values of a field are kept in a row of this stamp: as the last change says that is not from a
+    /// later stamp and names limits of the field, or else as the file's own table does.
+    pub fn limits(&self, field: FieldId, stamp: Stamp) -> Limits
+        ensures value { result ≡ limits_of self.now field stamp }
         ensures range { AreLimits result }
     {
-        self.limits[field.index()]
+        self.changes
+            .limits(field, &stamp)
+            .or(self.own.limits(field))
+            .unwrap_or(Limits::NONE)
     }
 }
 
@@ -124,16 +136,17 @@ impl Filled for Settings {
         match key {
             "calibration" => {
                 let fields = at.table(value)?;
-                self.calibrations = read_table(
+                self.own.calibrations = read_table(
                     Section::Calibration,
                     None,
                     fields,
-                    self.calibrations,
+                    self.own.calibrations,
                 )?;
             }
+            "change" => self.changes = read_changes(at, value)?,
             "limits" => {
                 let fields = at.table(value)?;
-                self.limits = read_table(Section::Limits, None, fields, self.limits)?;
+                self.own.limits = read_table(Section::Limits, None, fields, self.own.limits)?;
             }
             "period" => self.period = period(value)?,
             "rows" => self.most = ROWS.whole_number(at, value)?.unsigned_abs(),
@@ -159,5 +172,7 @@ fn period(value: &Value) -> Result<Period, SettingsFault>
     }
 }
 
+#[cfg(test)]
+mod change_tests;
 #[cfg(test)]
 mod tests;

@@ -1,22 +1,22 @@
 use super::*;
 use std::test::Fail;
 
-const OUT_TEMP: usize = 0;
+pub(super) const OUT_TEMP: usize = 0;
 
-const RAIN: usize = 3;
+pub(super) const RAIN: usize = 3;
 
-fn field(index: usize) -> Option<FieldId> {
+pub(super) fn field(index: usize) -> Option<FieldId> {
     FieldId::from_index(index)
 }
 
-fn fault_of(alloc: Global, text: &[u8]) -> Option<SettingsFault> {
+pub(super) fn fault_of(alloc: Global, text: &[u8]) -> Option<SettingsFault> {
     match Settings::read(alloc, text) {
         Ok(_) => None,
         Err(fault) => Some(fault),
     }
 }
 
-fn unknown(section: Section, field: Option<FieldId>, index: u32) -> SettingsFault {
+pub(super) fn unknown(section: Section, field: Option<FieldId>, index: u32) -> SettingsFault {
     SettingsFault::UnknownKey {
         section,
         field,
@@ -24,7 +24,7 @@ fn unknown(section: Section, field: Option<FieldId>, index: u32) -> SettingsFaul
     }
 }
 
-fn number(section: Section, field: Option<FieldId>, index: u32) -> SettingsFault {
+pub(super) fn number(section: Section, field: Option<FieldId>, index: u32) -> SettingsFault {
     SettingsFault::BadNumber {
         section,
         field,
@@ -45,15 +45,18 @@ fn settings_are_read(rt: HostRuntime) -> Result<(), Fail> {
         den: 10_000,
         add: -900_000,
     };
-    assert_eq!(rt; settings.calibration(rain), calibration);
-    assert_eq!(rt; settings.limits(rain), Limits::NONE);
+    assert_eq!(rt; settings.calibration(rain, Stamp::first()), calibration);
+    assert_eq!(rt; settings.limits(rain, Stamp::first()), Limits::NONE);
     let temperature = field(OUT_TEMP).ok_or("no field")?;
     let limits = Limits {
         least: Some(-2_000_000_000),
         greatest: Some(2_000_000_000),
     };
-    assert_eq!(rt; settings.calibration(temperature), Calibration::NONE);
-    assert_eq!(rt; settings.limits(temperature), limits);
+    assert_eq!(rt;
+        settings.calibration(temperature, Stamp::first()),
+        Calibration::NONE
+    );
+    assert_eq!(rt; settings.limits(temperature, Stamp::first()), limits);
     Ok(())
 }
 
@@ -219,18 +222,22 @@ fn a_long_key_is_unknown(rt: HostRuntime) {
     );
 }
 
+// The field with the longest name.
+fn longest() -> Option<FieldId> {
+    FieldId::by_name("highRadiation")
+}
+
 #[test]
 fn each_fault_has_its_line(rt: HostRuntime) -> Result<(), Fail> {
-    let longest = FieldId::by_name("highRadiation");
     let rain = field(RAIN).ok_or("no field")?;
-    let cases: [(SettingsFault, &[u8]); 7] = [
+    let cases: [(SettingsFault, &[u8]); 14] = [
         (SettingsFault::Syntax, b"settings syntax\n"),
         (
             unknown(Section::Top, None, 0),
             b"settings unknown key top - 0\n",
         ),
         (
-            unknown(Section::Calibration, longest, u32::MAX),
+            unknown(Section::Calibration, longest(), u32::MAX),
             b"settings unknown key calibration highRadiation 4294967295\n",
         ),
         (
@@ -242,6 +249,34 @@ fn each_fault_has_its_line(rt: HostRuntime) -> Result<(), Fail> {
             b"settings crossed rain\n",
         ),
         (SettingsFault::BadPeriod, b"settings bad period\n"),
+        (
+            unknown(Section::Change { at: 0 }, None, 1),
+            b"settings unknown key change-0 - 1\n",
+        ),
+        (
+            unknown(Section::ChangeCalibration { at: 255 }, longest(), u32::MAX),
+            b"settings unknown key change-255-calibration highRadiation 4294967295\n",
+        ),
+        (
+            number(Section::ChangeLimits { at: 15 }, Some(rain), 1),
+            b"settings bad number change-15-limits rain 1\n",
+        ),
+        (
+            SettingsFault::TooManyChanges,
+            b"settings too many changes\n",
+        ),
+        (
+            SettingsFault::BadFrom { index: 2 },
+            b"settings bad from 2\n",
+        ),
+        (
+            SettingsFault::ChangeOrder { index: 1 },
+            b"settings change order 1\n",
+        ),
+        (
+            SettingsFault::CrossedInChange { at: 3, field: rain },
+            b"settings crossed rain change 3\n",
+        ),
         (SettingsFault::OutOfMemory, b""),
     ];
     for (fault, line) in cases {

@@ -1,0 +1,16 @@
+-- For each field by its number a calibration, or limits, where they are named.
+use Rattle.std.specs.Prelude.{ℕ, ◌≡◌, List, length, slice_index_or, Option, None, IfSome}
+use Rattle.settings_file.specs.declared.calibration.Calibration.{Calibration}
+use Rattle.settings_file.specs.declared.limits.Limits.{Limits}
+use Rattle.settings_file.specs.Calibration.{IsCalibration}
+use Rattle.settings_file.specs.Limits.{AreLimits}
+
+-- there is a place for each of the 37 fields, and what is named has its numbers in their ranges
+pub record AreCalibrations (all : List (Option Calibration)) : Type 0 where
+  pub count : length all ≡ 37
+  pub each : (field : ℕ) → IfSome (slice_index_or all field None) IsCalibration
+
+-- the same of limits
+pub record AreAllLimits (all : List (Option Limits)) : Type 0 where
+  pub count : length all ≡ 37
+  pub each : (field : ℕ) → IfSome (slice_index_or all field None) AreLimits
