@@ -10,7 +10,8 @@ use Rattle.archive_record.specs.Kind.{value_of, least_of, greatest_of}
 use Rattle.archive_record.specs.Place.{CanHold, means_missing, can_hold}
 use Rattle.archive_record.specs.Table.{field_places, places, place}
 use Rattle.archive_record.specs.declared.kind.Kind.TheVariants.{Byte}
-use Rattle.archive_record.specs.Writing.{CanHoldAll, can_hold_all}
+use Rattle.station_base.specs.declared.row.Row.{Row}
+use Rattle.archive_record.specs.Writing.{CanHoldAll, can_hold_all, can_tell}
 
 le_to : (a b : ℤ) → int_le a b ≡ true → a ≤ℤ b
 le_to a b h = search rules
@@ -84,3 +85,7 @@ can_hold_all-decides vs false iff = go (can_hold_all places vs) refl
     go : (test : Bool) → can_hold_all places vs ≡ test → false ≡ can_hold_all places vs
     go true holds = absurd (false≢true (iff.1 (can_hold_to vs holds)))
     go false fails = sym fails
+
+-- where limits made no field missing, a record can tell a row exactly where it can hold the values
+pub can_tell-holds : (row : Row) → row.limited ≡ 0 → can_tell row ≡ can_hold_all places row.values
+can_tell-holds row unlimited = rw unlimited refl

@@ -1,5 +1,5 @@
 -- Which bytes read as a row, and as which.
-use Rattle.std.proofs.Common.{◌≡◌, ℕ, ℤ, ◌==◌, Bool, true, false, cond, List, length, slice_index, Option, Some, None, IsSome, refl, ap, arith}
+use Rattle.std.proofs.Common.{◌≡◌, ℕ, ℤ, ◌==◌, Bool, true, false, cond, List, length, slice_index, Option, Some, None, IsSome, refl, sym, ap, ◌∙◌, arith}
 use Rattle.std.proofs.lemmas.List.Folds.{list_all_at}
 use Rattle.station_base.specs.CivilMinute.{CivilMinute}
 use Rattle.station_base.specs.declared.row.Row.{Row}
@@ -17,23 +17,24 @@ pub record HasParts (bytes : List ℕ) (row : Row) : Type 0 where
   pub known : (slice_index bytes 42 == 0) ≡ true
   pub stamp : stamp_in bytes ≡ Some row.stamp
   pub values : values_in bytes ≡ row.values
+  pub unlimited : row.limited ≡ 0
 
 parts_by : (unwritten known : Bool) (stamp : Option CivilMinute) (bytes : List ℕ) (row : Row) → chosen unwritten known stamp bytes row.interval ≡ ReadRow row →
-    (known ≡ true) × (stamp ≡ Some row.stamp) × (values_in bytes ≡ row.values)
+    (known ≡ true) × (stamp ≡ Some row.stamp) × (values_in bytes ≡ row.values) × (row.limited ≡ 0)
 unfolding chosen
 parts_by true known stamp bytes row is = cc
 parts_by false false stamp bytes row is = cc
 parts_by false true None bytes row is = cc
 parts_by false true (Some stamp) bytes row is =
-    let made : Row = record { stamp = stamp; interval = row.interval; values = values_in bytes } in
+    let made : Row = record { stamp = stamp; interval = row.interval; values = values_in bytes; limited = 0 } in
     let same : made ≡ row = cc in
-    (refl, ap (λ r. Some r.stamp) same, ap (λ r. r.values) same)
+    (refl, ap (λ r. Some r.stamp) same, ap (λ r. r.values) same, sym (ap (λ r. r.limited) same))
 
 pub row_parts : (bytes : List ℕ) (row : Row) → reading bytes row.interval ≡ ReadRow row → HasParts bytes row
 unfolding chosen reading
 row_parts bytes row is =
     let parts = parts_by (is_unwritten bytes) (slice_index bytes 42 == 0) (stamp_in bytes) bytes row is in
-    record { known = parts.0; stamp = parts.1; values = parts.2 }
+    record { known = parts.0; stamp = parts.1; values = parts.2; unlimited = parts.3 }
 
 -- a slot that was never written has no record of revision B
 written : (bytes : List ℕ) → length bytes ≡ 52 → slice_index bytes 42 ≡ 0 → is_unwritten bytes ≡ false
@@ -41,26 +42,27 @@ written bytes long revision =
     list_all_at (λ byte. byte == 255) bytes 42 0 (omega arith) (ap (λ byte. byte == 255) revision)
 
 made : CivilMinute → ℕ → List (Option ℤ) → Row
-made stamp interval values = record { stamp = stamp; interval = interval; values = values }
+made stamp interval values = record { stamp = stamp; interval = interval; values = values; limited = 0 }
 
-same_row : (stamp : CivilMinute) (interval : ℕ) (values : List (Option ℤ)) (row : Row) → stamp ≡ row.stamp → interval ≡ row.interval → values ≡ row.values →
+same_row : (stamp : CivilMinute) (interval : ℕ) (values : List (Option ℤ)) (row : Row) → stamp ≡ row.stamp → interval ≡ row.interval → values ≡ row.values → row.limited ≡ 0 →
     made stamp interval values ≡ row
 unfolding made
-same_row stamp interval values row s i v =
-    let same : made stamp interval values ≡ made row.stamp row.interval row.values = rw (s, i, v) refl in same
+same_row stamp interval values row s i v l =
+    let same : made stamp interval values ≡ made row.stamp row.interval row.values = rw (s, i, v) refl in
+    same ∙ ap (λ (n : ℕ). record { stamp = row.stamp; interval = row.interval; values = row.values; limited = n }) (sym l)
 
 chosen_row : (unwritten known : Bool) (stamp : Option CivilMinute) (bytes : List ℕ) (row : Row) → unwritten ≡ false → known ≡ true →
-    stamp ≡ Some row.stamp → values_in bytes ≡ row.values → chosen unwritten known stamp bytes row.interval ≡ ReadRow row
+    stamp ≡ Some row.stamp → values_in bytes ≡ row.values → row.limited ≡ 0 → chosen unwritten known stamp bytes row.interval ≡ ReadRow row
 unfolding chosen made
-chosen_row unwritten known stamp bytes row u k s v =
-    rw (u, k, s) (ap (λ r. ReadRow r) (same_row row.stamp row.interval (values_in bytes) row refl refl v))
+chosen_row unwritten known stamp bytes row u k s v l =
+    rw (u, k, s) (ap (λ r. ReadRow r) (same_row row.stamp row.interval (values_in bytes) row refl refl v l))
 
 -- bytes with the parts of a row read as that row
-pub parts_row : (bytes : List ℕ) (row : Row) → length bytes ≡ 52 → slice_index bytes 42 ≡ 0 → stamp_in bytes ≡ Some row.stamp → values_in bytes ≡ row.values →
+pub parts_row : (bytes : List ℕ) (row : Row) → length bytes ≡ 52 → slice_index bytes 42 ≡ 0 → stamp_in bytes ≡ Some row.stamp → values_in bytes ≡ row.values → row.limited ≡ 0 →
     reading bytes row.interval ≡ ReadRow row
 unfolding chosen reading made
-parts_row bytes row long revision stamp values =
-    chosen_row (is_unwritten bytes) (slice_index bytes 42 == 0) (stamp_in bytes) bytes row (written bytes long revision) (ap (λ byte. byte == 0) revision) stamp values
+parts_row bytes row long revision stamp values unlimited =
+    chosen_row (is_unwritten bytes) (slice_index bytes 42 == 0) (stamp_in bytes) bytes row (written bytes long revision) (ap (λ byte. byte == 0) revision) stamp values unlimited
 
 -- what reads as a row has a stamp
 some_by : (unwritten known : Bool) (stamp : Option CivilMinute) (bytes : List ℕ) → IsRow (chosen unwritten known stamp bytes 1) → IsSome stamp

@@ -23,10 +23,10 @@ words_stay old new same = (
 )
 
 -- what tells a row reads as the row
-pub tells_read : (bytes : List ℕ) (row : Row) → length bytes ≡ 52 → IsCivilMinute row.stamp → Tells bytes row → reading bytes row.interval ≡ ReadRow row
-tells_read bytes row long civil tells =
+pub tells_read : (bytes : List ℕ) (row : Row) → length bytes ≡ 52 → IsCivilMinute row.stamp → row.limited ≡ 0 → Tells bytes row → reading bytes row.interval ≡ ReadRow row
+tells_read bytes row long civil unlimited tells =
     let stamp : stamp_in bytes ≡ Some row.stamp = rw (tells.date, tells.time) (stamp_of_words-of row.stamp civil) in
-    parts_row bytes row long tells.revision stamp tells.values
+    parts_row bytes row long tells.revision stamp tells.values unlimited
 
 byte_zero : (n : ℕ) → (n == 0) ≡ true → n ≡ 0
 byte_zero n is = grind (arith, nat_tests)

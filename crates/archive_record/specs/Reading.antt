@@ -25,7 +25,7 @@ values_in bytes = map (value_in bytes) places
 -- a record of revision B, whose words may name no stamp
 abbrev pub dated : List ℕ → ℕ → Option CivilMinute → RecordRead
 dated bytes interval None = BadStamp (word_at bytes 0) (word_at bytes 2)
-dated bytes interval (Some stamp) = ReadRow (record { stamp = stamp; interval = interval; values = values_in bytes })
+dated bytes interval (Some stamp) = ReadRow (record { stamp = stamp; interval = interval; values = values_in bytes; limited = 0 })
 
 -- what the 52 bytes of a slot say, where records are written at that interval (Davis serial manual)
 unfoldable pub reading : List ℕ → ℕ → RecordRead

@@ -33,7 +33,8 @@ unmeasured (Some mark) = None
 
 -- the row of the first minute with as few values as a record can tell
 abbrev pub unmeasured_row : Row
-unmeasured_row = record { stamp = first_minute; interval = 1; values = map (λ place. unmeasured place.mark) places }
+unmeasured_row =
+    record { stamp = first_minute; interval = 1; values = map (λ place. unmeasured place.mark) places; limited = 0 }
 
 -- fifty-two bytes
 pub record IsRecord (bytes : List ℕ) : Type 0 where

@@ -31,7 +31,8 @@ pub enum RecordRead {
     BadStamp { date: u16, time: u16 },
 }
 
-/// Reads a slot of a console that writes records at this interval (Davis serial manual, revision B).
+/// Reads a slot of a console that writes records at this interval (Davis serial manual, revision B). A record tells of no
+/// limits, so no field of its row is one of `limited`.
 #[tactic(auto, unfolding(crate::specs::Reading::reading))]
 pub fn read(bytes: &[u8; RECORD_SIZE], interval: Period) -> RecordRead
     ensures reading { result ≡ reading bytes.now interval }
@@ -50,6 +51,7 @@ pub fn read(bytes: &[u8; RECORD_SIZE], interval: Period) -> RecordRead
             stamp,
             interval,
             values: values_in(bytes),
+            limited: 0,
         }),
     }
 }

@@ -2,8 +2,7 @@ ghost use Rattle.std.specs.Prelude.{◌≡◌, ◌⊎◌, ◌<◌, ◌↔◌, �
 ghost use Rattle.archive_record.specs.declared.record_read.RecordRead.{RecordRead};
 ghost use Rattle.archive_record.specs.Reading.{reading, values_in};
 ghost use Rattle.archive_record.specs.Record.{IsRecord};
-ghost use Rattle.archive_record.specs.Table.{places};
-ghost use Rattle.archive_record.specs.Writing.{CanHoldAll, Tells, can_hold_all};
+ghost use Rattle.archive_record.specs.Writing.{CanHoldAll, CanTell, Tells, can_tell};
 
 use crate::place::{RECORD_SIZE, put_word};
 use crate::record::Rec52;
@@ -12,14 +11,18 @@ use crate::table::places;
 use station_base::{FIELD_COUNT, Row};
 
 /// The record that reads as the row. There is none for a row with a value beyond those of its field, with a value that is
-/// its field's missing mark, or without a value in a field that has no mark.
+/// its field's missing mark, or without a value in a field that has no mark, and none for a row that limits made a field
+/// of missing.
 pub fn write(row: &Row) -> Option<Rec52>
-    ensures can { IsSome result ↔ CanHoldAll row.now.values }
-    ensures test { is_some result ≡ can_hold_all places row.now.values }
+    ensures can { IsSome result ↔ CanTell row.now }
+    ensures test { is_some result ≡ can_tell row.now }
     ensures read_back { IfSome result (λ bytes. reading bytes row.now.interval ≡ RecordRead.Row row.now) }
     ensures written_back { (bytes : List ℕ) → IsRecord bytes
         → reading bytes row.now.interval ≡ RecordRead.Row row.now → result ≡ Some bytes }
 {
+    if row.limited != 0 {
+        return None;
+    }
     let mut bytes = [0; RECORD_SIZE];
     put_word(&mut bytes, DATE, row.stamp.date_word());
     put_word(&mut bytes, TIME, row.stamp.time_word());

@@ -1,10 +1,11 @@
 -- Numbers that are read of bytes and written again.
-use Rattle.std.proofs.Common.{◌≡◌, ℕ, zero, suc, ◌+◌, ◌*◌, ◌/◌, ◌%◌, ◌^◌, ◌<◌, ◌≤◌, List, [], ◌∷◌, ◌++◌, length, take, drop, replicate, refl, sym, ap, ◌∙◌, arith}
+use Rattle.std.proofs.Common.{◌≡◌, ℕ, zero, suc, ◌+◌, ◌*◌, ◌/◌, ◌%◌, ◌^◌, ◌<◌, ◌≤◌, List, [], ◌∷◌, ◌++◌, length, take, drop, replicate, refl, sym, ap, ◌∙◌, arith, append_assoc, append-nil, length-append}
 use Rattle.std.specs.Prelude.{ℤ, pos, negsuc, FitsSigned}
 use Rattle.std.specs.Int.{w32, byte_at, bytes_low_first, cast_signed, cast_unsigned}
 use Rattle.std.proofs.Math.Nat.{div-div-eq-div-mul, pow-succ'}
 use Rattle.std.proofs.lemmas.Int.{of_z-to_z, to_z-of_z}
 use Rattle.std.proofs.Math.Seq.{take-append_seam, drop-append_seam}
+use Rattle.std.proofs.lemmas.List.{drop_all, length-drop, length-take-le}
 use borrow.Rule.Slice.PartMut.{put_mid}
 use Rattle.byteorder.specs.Endian.{little_from, little_bytes, little_number}
 use Rattle.byteorder.specs.Numbers.{little_from-cons, little_from-lt, little_number-reads_back}
@@ -64,3 +65,24 @@ copied head numbers first second first_is second_is head_long numbers_long =
     let behind : drop 20 (head ++ zeros) ≡ zeros = ap (λ (n : ℕ). drop n (head ++ zeros)) (sym head_long) ∙ drop-append_seam head zeros in
     ap (λ (xs : List ℕ). put_mid 20 148 (xs ++ zeros) second) first_is ∙ ap (put_mid 20 148 (head ++ zeros)) second_is
     ∙ ap (λ (xs : List ℕ). xs ++ (numbers ++ drop 148 (drop 20 (head ++ zeros)))) front ∙ ap (λ (xs : List ℕ). head ++ (numbers ++ drop 148 xs)) behind
+
+-- and a number in the place of the zeros behind them
+pub ended : (head numbers last : List ℕ) → length head ≡ 20 → length numbers ≡ 148 → take 168 (head ++ (numbers ++ little_bytes 8 0)) ++ last ≡ head ++ (numbers ++ last)
+ended head numbers last head_long numbers_long =
+    let front : List ℕ = head ++ numbers in
+    let long : length front ≡ 168 = omega (arith, length-append head numbers) in
+    let whole : head ++ (numbers ++ little_bytes 8 0) ≡ front ++ little_bytes 8 0 = sym (append_assoc head numbers (little_bytes 8 0)) in
+    let taken : take 168 (front ++ little_bytes 8 0) ≡ front = ap (λ (n : ℕ). take n (front ++ little_bytes 8 0)) (sym long) ∙ take-append_seam front (little_bytes 8 0) in
+    ap (λ (xs : List ℕ). take 168 xs ++ last) whole ∙ ap (λ (xs : List ℕ). xs ++ last) taken ∙ append_assoc head numbers last
+
+pub put_last : (slot last new : List ℕ) → length slot ≡ 176 → new ≡ last ++ drop 8 (take 8 (drop 168 slot)) → put_mid 168 8 slot new ≡ take 168 slot ++ last
+put_last slot last new long is =
+    let behind : List ℕ = drop 168 slot in
+    let eight : length behind ≡ 8 = omega (arith, length-drop 168 slot) in
+    let short : length (take 8 behind) ≡ 8 = length-take-le 8 behind (omega arith) in
+    let none : drop 8 (take 8 behind) ≡ [] = drop_all 8 (take 8 behind) (omega arith) in
+    let rest : drop 8 behind ≡ [] = drop_all 8 behind (omega arith) in
+    let new_is : new ≡ last = is ∙ ap (λ (xs : List ℕ). last ++ xs) none ∙ append-nil last in
+    ap (λ (xs : List ℕ). take 168 slot ++ (xs ++ drop 8 behind)) new_is
+    ∙ ap (λ (xs : List ℕ). take 168 slot ++ (last ++ xs)) rest
+    ∙ ap (λ (xs : List ℕ). take 168 slot ++ xs) (append-nil last)

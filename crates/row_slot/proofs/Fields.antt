@@ -1,8 +1,8 @@
 -- The values of fields, field by field.
-use Rattle.std.proofs.Common.{◌≡◌, ℕ, ℤ, zero, suc, ◌+◌, ◌*◌, ◌/◌, ◌%◌, ◌^◌, ◌<◌, ◌==◌, Bool, true, List, [], ◌∷◌, length, drop, get_or, Option, Some, None, refl, sym, ap, ◌∙◌, arith, set, ◌≢◌, below_more, get_or-set_other, get_or-set_same}
+use Rattle.std.proofs.Common.{◌≡◌, ℕ, ℤ, zero, suc, ◌+◌, ◌*◌, ◌/◌, ◌%◌, ◌^◌, ◌<◌, ◌==◌, Bool, true, false, List, [], ◌∷◌, length, drop, get_or, Option, Some, None, refl, sym, ap, ◌∙◌, arith, set, ◌≢◌, below_more, get_or-set_other, get_or-set_same}
 use Rattle.std.specs.Bool.{then_some}
 use Rattle.std.specs.Int.{w32, bit_at, cast_signed, cast_unsigned}
-use Rattle.std.specs.Prelude.{IsSome}
+use Rattle.std.specs.Prelude.{IsSome, is_some}
 use Rattle.std.proofs.Math.Nat.{pow-suc}
 use Rattle.std.proofs.lemmas.Bool.{eqb-true, false≢true}
 use Rattle.std.proofs.lemmas.Int.{to_z-of_z}
@@ -56,6 +56,25 @@ fields_of (suc count) presence bytes values is =
     all_allowed count presence bytes first rest (suc field) within =
         ap (λ (b : Bool). is_allowed b (number_of bytes (suc field))) (next_bit presence field)
         ∙ ap (is_allowed (has_value (presence / 2) field)) (next_number bytes field) ∙ rest field (omega arith)
+
+-- where values are read, a field has one exactly where its bit is 1
+pub some_at : (count presence : ℕ) (bytes : List ℕ) (values : List (Option ℤ)) → values_in count presence bytes ≡ Some values → (field : ℕ) → field < count →
+    is_some (get_or values field None) ≡ has_value presence field
+unfolding values_in
+some_at zero presence bytes values is field within = absurd (omega arith)
+some_at (suc count) presence bytes values is field within =
+    let parts = parts_of (is_allowed (presence % 2 == 1) (number_in bytes)) (then_some (presence % 2 == 1) (number_in bytes)) (values_in count (presence / 2) (drop 4 bytes)) values is in
+    ap (λ (vs : List (Option ℤ)). is_some (get_or vs field None)) parts.1.1.1
+    ∙ at (presence % 2 == 1) (number_in bytes) parts.1.0 field within (sym (first_bit presence)) (λ i small. some_at count (presence / 2) (drop 4 bytes) parts.1.0 parts.1.1.0 i small)
+  where
+    some_of : (b : Bool) (number : ℤ) → is_some (then_some b number) ≡ b
+    some_of true number = refl
+    some_of false number = refl
+
+    at : (b : Bool) (number : ℤ) (rest : List (Option ℤ)) (field : ℕ) → field < suc count → b ≡ has_value presence 0 →
+        ((i : ℕ) → i < count → is_some (get_or rest i None) ≡ has_value (presence / 2) i) → is_some (get_or (then_some b number ∷ rest) field None) ≡ has_value presence field
+    at b number rest zero within is_first others = some_of b number ∙ is_first
+    at b number rest (suc i) within is_first others = others i (omega arith) ∙ sym (next_bit presence i)
 
 -- each field has the value that its bit and its number tell
 abbrev pub Tells : ℕ → ℕ → List ℕ → List (Option ℤ) → Type 0

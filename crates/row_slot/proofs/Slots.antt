@@ -1,21 +1,24 @@
 -- A row and its slot.
-use Rattle.std.proofs.Common.{◌≡◌, ℕ, ℤ, suc, ◌+◌, ◌*◌, ◌%◌, ◌^◌, ◌<◌, ◌≤◌, ◌==◌, ◌&&◌, Bool, true, false, List, [], ◌∷◌, ◌++◌, length, take, drop, get_or, All, Option, Some, None, cond, refl, sym, ap, subst, ◌∙◌, arith}
+use Rattle.std.proofs.Common.{◌≡◌, ℕ, ℤ, suc, ◌+◌, ◌*◌, ◌%◌, ◌^◌, ◌<◌, ◌≤◌, ◌==◌, ◌&&◌, Bool, true, false, List, [], ◌∷◌, ◌++◌, length, take, drop, get_or, All, Option, Some, None, cond, refl, sym, ap, subst, ◌∙◌, arith, append-nil}
 use Rattle.std.specs.Prelude.{slice_index}
 use Rattle.std.proofs.Math.Seq.{drop-append_seam, drop-cons}
 use Rattle.std.proofs.lemmas.Bool.{and_parts, eqb-true}
+use Rattle.std.specs.Bool.{then_some}
 use Rattle.std.proofs.lemmas.List.{length-drop, drop-drop, drop_all, take-append-drop}
 use Rattle.byteorder.specs.Endian.{little_bytes, little_number}
 use Rattle.byteorder.specs.Numbers.{little_number-reads_back}
 use Rattle.station_base.specs.CivilMinute.{CivilMinute, IsCivilMinute, is_civil_minute}
+use Rattle.station_base.specs.FieldSet.{AreMissing, are_missing}
 use Rattle.station_base.specs.Period.{IsPeriod, is_period}
 use Rattle.station_base.specs.RowLine.{IsPrintable}
 use Rattle.station_base.specs.Stamp as words
 use Rattle.station_base.specs.Stamp.{date_word_of, time_word_of, stamp_of_words}
 use Rattle.station_base.specs.declared.row.Row.{Row}
+use Rattle.station_base.proofs.FieldSets.{missing_below}
 use Rattle.station_base.proofs.Periods.{period_bound}
 use Rattle.station_base.proofs.Words.{stamp_of_words-of, words_of-stamp}
 use Rattle.row_slot.specs.Values.{presence_of, numbers_of, spelled, values_in}
-use Rattle.row_slot.specs.Slot.{slot_of, number_at, is_marked, stamp_in, interval_in, row_of, row_in}
+use Rattle.row_slot.specs.Slot.{slot_of, number_at, is_marked, stamp_in, interval_in, limited_in, row_of, row_in}
 use Rattle.causes.specs.Lists.{AreBytes}
 use Rattle.causes.proofs.Bytes.{bytes_behind}
 use Rattle.row_slot.proofs.Bytes.{bytes_again}
@@ -28,8 +31,9 @@ pub record IsWritable (row : Row) : Type 0 where
   pub period : IsPeriod row.interval
   pub long : length row.values ≡ 37
   pub printable : All IsPrintable row.values
+  pub missing : AreMissing row.limited row.values
 
-spelled_long : (values : List (Option ℤ)) → length (spelled (numbers_of values)) ≡ 4 * length values
+pub spelled_long : (values : List (Option ℤ)) → length (spelled (numbers_of values)) ≡ 4 * length values
 spelled_long [] = refl
 spelled_long (value ∷ values) = let rest = spelled_long values in omega (arith, rest)
 
@@ -50,15 +54,16 @@ time_small : (c : CivilMinute) → IsCivilMinute c → time_word_of c < 65536
 time_small c civil = omega (arith, civil.hour_to, civil.minute_to)
 
 -- parts that are all there make the row
-made : CivilMinute → ℕ → List (Option ℤ) → Row
-made stamp interval values = record { stamp = stamp; interval = interval; values = values }
+made : CivilMinute → ℕ → List (Option ℤ) → ℕ → Row
+made stamp interval values limited = record { stamp = stamp; interval = interval; values = values; limited = limited }
 
-parts_row : (marked periodic : Bool) (stamp : Option CivilMinute) (interval : ℕ) (values : Option (List (Option ℤ))) (row : Row) → marked ≡ true → stamp ≡ Some row.stamp →
-    periodic ≡ true → interval ≡ row.interval → values ≡ Some row.values → row_of marked stamp periodic interval values ≡ Some row
+parts_row : (marked periodic : Bool) (stamp : Option CivilMinute) (interval : ℕ) (values : Option (List (Option ℤ))) (limited : ℕ) (row : Row) → marked ≡ true → stamp ≡ Some row.stamp →
+    periodic ≡ true → interval ≡ row.interval → values ≡ Some row.values → limited ≡ row.limited → AreMissing row.limited row.values →
+    row_of marked stamp periodic interval values limited ≡ Some row
 unfolding made
-parts_row marked periodic stamp interval values row m s p i v =
-    let same : made row.stamp row.interval row.values ≡ row = refl in
-    rw (m, s, p, i, v) (ap Some same)
+parts_row marked periodic stamp interval values limited row m s p i v l missing =
+    let same : made row.stamp row.interval row.values row.limited ≡ row = refl in
+    rw (m, s, p, i, v, l, missing) (ap Some same)
 
 -- the bytes that belong to no part, and the kind
 pub record AreMarks (slot : List ℕ) : Type 0 where
@@ -66,39 +71,39 @@ pub record AreMarks (slot : List ℕ) : Type 0 where
   pub gate : slice_index slot 0 ≡ 0
   pub batch : number_at 2 2 slot ≡ 0
   pub spare : number_at 2 10 slot ≡ 0
-  pub rest : number_at 8 168 slot ≡ 0
 
-marks_by : (kind gate batch spare rest : ℕ) → kind ≡ 1 → gate ≡ 0 → batch ≡ 0 → spare ≡ 0 → rest ≡ 0 →
-    ((kind == 1) && (gate == 0) && (batch == 0) && (spare == 0) && (rest == 0)) ≡ true
-marks_by kind gate batch spare rest k g b s r = rw (k, g, b, s, r) refl
+marks_by : (kind gate batch spare : ℕ) → kind ≡ 1 → gate ≡ 0 → batch ≡ 0 → spare ≡ 0 → ((kind == 1) && (gate == 0) && (batch == 0) && (spare == 0)) ≡ true
+marks_by kind gate batch spare k g b s = rw (k, g, b, s) refl
 
 pub is_marked-marks : (slot : List ℕ) → AreMarks slot → is_marked slot ≡ true
-is_marked-marks slot are = marks_by _ _ _ _ _ are.kind are.gate are.batch are.spare are.rest
+is_marked-marks slot are = marks_by _ _ _ _ are.kind are.gate are.batch are.spare
 
-parts_marked : (kind gate batch spare rest : ℕ) → ((kind == 1) && (gate == 0) && (batch == 0) && (spare == 0) && (rest == 0)) ≡ true →
-    (kind ≡ 1) × (gate ≡ 0) × (batch ≡ 0) × (spare ≡ 0) × (rest ≡ 0)
-parts_marked kind gate batch spare rest all =
-    let first = and_parts ((kind == 1) && (gate == 0) && (batch == 0) && (spare == 0)) (rest == 0) all in
-    let second = and_parts ((kind == 1) && (gate == 0) && (batch == 0)) (spare == 0) first.0 in
-    let third = and_parts ((kind == 1) && (gate == 0)) (batch == 0) second.0 in
-    let last = and_parts (kind == 1) (gate == 0) third.0 in
-    (eqb-true kind 1 last.0, eqb-true gate 0 last.1, eqb-true batch 0 third.1, eqb-true spare 0 second.1, eqb-true rest 0 first.1)
+parts_marked : (kind gate batch spare : ℕ) → ((kind == 1) && (gate == 0) && (batch == 0) && (spare == 0)) ≡ true → (kind ≡ 1) × (gate ≡ 0) × (batch ≡ 0) × (spare ≡ 0)
+parts_marked kind gate batch spare all =
+    let first = and_parts ((kind == 1) && (gate == 0) && (batch == 0)) (spare == 0) all in
+    let second = and_parts ((kind == 1) && (gate == 0)) (batch == 0) first.0 in
+    let last = and_parts (kind == 1) (gate == 0) second.0 in
+    (eqb-true kind 1 last.0, eqb-true gate 0 last.1, eqb-true batch 0 second.1, eqb-true spare 0 first.1)
 
 pub marks-is_marked : (slot : List ℕ) → is_marked slot ≡ true → AreMarks slot
 marks-is_marked slot marked =
-    let parts = parts_marked (slice_index slot 1) (slice_index slot 0) (number_at 2 2 slot) (number_at 2 10 slot) (number_at 8 168 slot) marked in
-    record { kind = parts.0; gate = parts.1; batch = parts.2; spare = parts.3; rest = parts.4 }
+    let parts = parts_marked (slice_index slot 1) (slice_index slot 0) (number_at 2 2 slot) (number_at 2 10 slot) marked in
+    record { kind = parts.0; gate = parts.1; batch = parts.2; spare = parts.3 }
 
 -- the last bytes of a written slot
-rest_of : (row : Row) → length row.values ≡ 37 → drop 168 (slot_of row) ≡ little_bytes 8 0
+rest_of : (row : Row) → length row.values ≡ 37 → drop 168 (slot_of row) ≡ little_bytes 8 row.limited
 unfolding slot_of
 rest_of row long =
     let values : length (spelled (numbers_of row.values)) ≡ 148 = omega (arith, spelled_long row.values) in
-    ap (λ (n : ℕ). drop n (spelled (numbers_of row.values) ++ little_bytes 8 0)) (sym values) ∙ drop-append_seam (spelled (numbers_of row.values)) (little_bytes 8 0)
+    ap (λ (n : ℕ). drop n (spelled (numbers_of row.values) ++ little_bytes 8 row.limited)) (sym values) ∙ drop-append_seam (spelled (numbers_of row.values)) (little_bytes 8 row.limited)
 
 marks_written : (row : Row) → length row.values ≡ 37 → AreMarks (slot_of row)
 unfolding slot_of
-marks_written row long = record { kind = refl; gate = refl; batch = refl; spare = refl; rest = ap (little_number 8) (rest_of row long) }
+marks_written row long = record { kind = refl; gate = refl; batch = refl; spare = refl }
+
+limited_written : (row : Row) → length row.values ≡ 37 → row.limited < 2 ^ 37 → limited_in (slot_of row) ≡ row.limited
+limited_written row long below =
+    ap (little_number 8) (rest_of row long ∙ sym (append-nil (little_bytes 8 row.limited))) ∙ little_number-reads_back 8 row.limited [] (omega arith)
 
 stamp_written : (row : Row) → IsCivilMinute row.stamp → stamp_in (slot_of row) ≡ Some row.stamp
 unfolding slot_of
@@ -119,7 +124,7 @@ values_written row long printable =
     let presence : number_at 8 12 (slot_of row) ≡ presence_of row.values = little_number-reads_back 8 (presence_of row.values) (drop 20 (slot_of row)) (omega arith) in
     ap (λ (n : ℕ). values_in 37 n (drop 20 (slot_of row))) presence
     ∙ ap (λ (n : ℕ). values_in n (presence_of row.values) (drop 20 (slot_of row))) (sym long)
-    ∙ values_back row.values (little_bytes 8 0) printable
+    ∙ values_back row.values (little_bytes 8 row.limited) printable
 
 -- what is written of a row is read as this row
 pub row_in-slot_of : (row : Row) → IsWritable row → row_in (slot_of row) ≡ Some row
@@ -127,9 +132,9 @@ unfolding row_in
 row_in-slot_of row is =
     let slot : List ℕ = slot_of row in
     let interval = interval_written row is.period in
-    parts_row (is_marked slot) (is_period (interval_in slot)) (stamp_in slot) (interval_in slot) (values_in 37 (number_at 8 12 slot) (drop 20 slot)) row
+    parts_row (is_marked slot) (is_period (interval_in slot)) (stamp_in slot) (interval_in slot) (values_in 37 (number_at 8 12 slot) (drop 20 slot)) (limited_in slot) row
     (is_marked-marks slot (marks_written row is.long)) (stamp_written row is.civil) (ap is_period interval ∙ is.period) interval
-    (values_written row is.long is.printable)
+    (values_written row is.long is.printable) (limited_written row is.long (missing_below row.limited row.values is.missing)) is.missing
 
 -- the parts of a slot that is read as a row
 pub record AreParts (slot : List ℕ) (row : Row) : Type 0 where
@@ -138,23 +143,32 @@ pub record AreParts (slot : List ℕ) (row : Row) : Type 0 where
   pub period : is_period (interval_in slot) ≡ true
   pub interval : interval_in slot ≡ row.interval
   pub values : values_in 37 (number_at 8 12 slot) (drop 20 slot) ≡ Some row.values
+  pub limited : limited_in slot ≡ row.limited
+  pub missing : AreMissing row.limited row.values
 
-parts_by : (marked periodic : Bool) (stamp : Option CivilMinute) (interval : ℕ) (values : Option (List (Option ℤ))) (row : Row) → row_of marked stamp periodic interval values ≡ Some row →
-    (marked ≡ true) × (stamp ≡ Some row.stamp) × (periodic ≡ true) × (interval ≡ row.interval) × (values ≡ Some row.values)
+parts_by : (marked periodic : Bool) (stamp : Option CivilMinute) (interval : ℕ) (values : Option (List (Option ℤ))) (limited : ℕ) (row : Row) →
+    row_of marked stamp periodic interval values limited ≡ Some row →
+    (marked ≡ true) × (stamp ≡ Some row.stamp) × (periodic ≡ true) × (interval ≡ row.interval) × (values ≡ Some row.values) × (limited ≡ row.limited) × AreMissing row.limited row.values
 unfolding made
-parts_by false periodic stamp interval values row is = cc
-parts_by true periodic None interval values row is = cc
-parts_by true false (Some stamp) interval values row is = cc
-parts_by true true (Some stamp) interval None row is = cc
-parts_by true true (Some stamp) interval (Some values) row is =
-    let same : made stamp interval values ≡ row = cc in
-    (refl, ap (λ (r : Row). Some r.stamp) same, refl, ap (λ (r : Row). r.interval) same, ap (λ (r : Row). Some r.values) same)
+parts_by false periodic stamp interval values limited row is = cc
+parts_by true periodic None interval values limited row is = cc
+parts_by true false (Some stamp) interval values limited row is = cc
+parts_by true true (Some stamp) interval None limited row is = cc
+parts_by true true (Some stamp) interval (Some values) limited row is = go (are_missing limited values) refl is
+  where
+    go : (b : Bool) → are_missing limited values ≡ b → then_some b (made stamp interval values limited) ≡ Some row →
+        (true ≡ true) × (Some stamp ≡ Some row.stamp) × (true ≡ true) × (interval ≡ row.interval) × (Some values ≡ Some row.values) × (limited ≡ row.limited) × AreMissing row.limited row.values
+    go false are e = cc
+    go true are e =
+        let same : made stamp interval values limited ≡ row = cc in
+        let P : Row → Type 0 = λ r. AreMissing r.limited r.values in
+        (refl, ap (λ (r : Row). Some r.stamp) same, refl, ap (λ (r : Row). r.interval) same, ap (λ (r : Row). Some r.values) same, ap (λ (r : Row). r.limited) same, subst P same are)
 
 pub parts-row_in : (slot : List ℕ) (row : Row) → row_in slot ≡ Some row → AreParts slot row
 unfolding row_in
 parts-row_in slot row is =
-    let parts = parts_by (is_marked slot) (is_period (interval_in slot)) (stamp_in slot) (interval_in slot) (values_in 37 (number_at 8 12 slot) (drop 20 slot)) row is in
-    record { marked = parts.0; stamp = parts.1; period = parts.2; interval = parts.3; values = parts.4 }
+    let parts = parts_by (is_marked slot) (is_period (interval_in slot)) (stamp_in slot) (interval_in slot) (values_in 37 (number_at 8 12 slot) (drop 20 slot)) (limited_in slot) row is in
+    record { marked = parts.0; stamp = parts.1; period = parts.2; interval = parts.3; values = parts.4; limited = parts.5; missing = parts.6 }
 
 -- one part of a slot, and what stands behind it
 part_at : (n p q x : ℕ) (slot : List ℕ) → p + n ≡ q → q ≤ length slot → AreBytes slot → number_at n p slot ≡ x → drop p slot ≡ little_bytes n x ++ drop q slot
@@ -187,7 +201,7 @@ slot_of-row_in slot row long fits is =
     let none : drop 176 slot ≡ [] = drop_all 176 slot (omega (arith, long)) in
     chained slot (drop 1 slot) (drop 2 slot) (drop 4 slot) (drop 6 slot) (drop 8 slot) (drop 10 slot) (drop 12 slot) (drop 20 slot) (drop 168 slot)
     (little_bytes 2 0) (little_bytes 2 (date_word_of row.stamp)) (little_bytes 2 (time_word_of row.stamp)) (little_bytes 2 row.interval) (little_bytes 2 0)
-    (little_bytes 8 (presence_of row.values)) (spelled (numbers_of row.values)) (little_bytes 8 0)
+    (little_bytes 8 (presence_of row.values)) (spelled (numbers_of row.values)) (little_bytes 8 row.limited)
     (byte_at_place 0 1 0 slot refl (omega arith) marks.gate)
     (byte_at_place 1 2 1 slot refl (omega arith) marks.kind)
     (part_at 2 2 4 0 slot refl (omega arith) fits marks.batch)
@@ -197,13 +211,17 @@ slot_of-row_in slot row long fits is =
     (part_at 2 10 12 0 slot refl (omega arith) fits marks.spare)
     (part_at 8 12 20 (presence_of row.values) slot refl (omega arith) fits told.bits)
     values
-    (part_at 8 168 176 0 slot refl (omega arith) fits marks.rest ∙ ap (λ (xs : List ℕ). little_bytes 8 0 ++ xs) none)
+    (part_at 8 168 176 row.limited slot refl (omega arith) fits parts.limited ∙ ap (λ (xs : List ℕ). little_bytes 8 row.limited ++ xs) none)
 
 -- and its values are within the bound
 pub printable-row_in : (slot : List ℕ) (row : Row) → length slot ≡ 176 → AreBytes slot → row_in slot ≡ Some row → All IsPrintable row.values
 printable-row_in slot row long fits is =
     let parts : AreParts slot row = parts-row_in slot row is in
     (values_again 37 (number_at 8 12 slot) (drop 20 slot) row.values (omega (arith, length-drop 20 slot)) (bytes_behind 20 slot fits) parts.values).printable
+
+-- and a field that limits made missing has none
+pub missing-row_in : (slot : List ℕ) (row : Row) → row_in slot ≡ Some row → AreMissing row.limited row.values
+missing-row_in slot row is = (parts-row_in slot row is).missing
 
 -- bytes that are the slot of a row are read as this row
 pub read_back : (slot : List ℕ) (row : Row) → IsWritable row → slot ≡ slot_of row → row_in slot ≡ Some row

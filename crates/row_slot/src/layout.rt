@@ -26,7 +26,8 @@ pub const PRESENCE: usize = 12;
 // Four bytes for each field.
 pub const VALUES: usize = 20;
 
-pub const REST: usize = 168;
+// The fields that limits made missing, a bit for each.
+pub const LIMITED: usize = 168;
 
 /// The kind of a slot that holds a row.
 pub const ROW: u8 = 1;

@@ -43,7 +43,9 @@ fn one_wrong_byte_makes_a_slot_ill_formed(rt: HostRuntime) {
         ("a number where a value is missing", 24, 1),
         ("a value below -2,000,000", 86, 0),
         ("a value of 2,000,001", 164, 0x81),
-        ("a byte behind the values", 175, 1),
+        ("a limited field that has a value", 168, 1),
+        ("a limited field 37", 172, 0x20),
+        ("a limited field 63", 175, 0x80),
     ];
     for (fault, place, byte) in faults {
         let mut slot = SLOT;

@@ -1,10 +1,11 @@
 ghost use Rattle.std.specs.Prelude.{◌≡◌, ◌+◌, ◌*◌, ◌<◌, drop, length};
+ghost use Rattle.station_base.specs.FieldSet.{are_missing};
 ghost use Rattle.row_slot.specs.Slot.{number_at};
 ghost use Rattle.row_slot.specs.Values.{is_allowed, number_in, numbers_of, presence_of, spelled, values_in};
 
-use crate::layout::{PRESENCE, REST, ROW_SIZE, VALUES};
+use crate::layout::{LIMITED, PRESENCE, ROW_SIZE, VALUES};
 use byteorder::{ByteOrder, LittleEndian};
-use station_base::FIELD_COUNT;
+use station_base::{FIELD_COUNT, FieldSet};
 
 // How far from 0 a value may lie.
 const GREATEST: u32 = 2_000_000;
@@ -23,7 +24,7 @@ pub fn presence_of(values: &[Option<i32>; FIELD_COUNT]) -> u64
 }
 
 // The number of each field one behind the other, with 0 where a value is missing.
-pub fn spelled(values: &[Option<i32>; FIELD_COUNT]) -> [u8; REST - VALUES]
+pub fn spelled(values: &[Option<i32>; FIELD_COUNT]) -> [u8; LIMITED - VALUES]
     ensures bytes { result ≡ spelled (numbers_of values.now) }
     ensures fields { length values.now ≡ FIELD_COUNT }
 {
@@ -31,7 +32,7 @@ pub fn spelled(values: &[Option<i32>; FIELD_COUNT]) -> [u8; REST - VALUES]
     for (field, value) in values.iter().enumerate() {
         numbers[field] = value.unwrap_or(0);
     }
-    let mut bytes = [0; REST - VALUES];
+    let mut bytes = [0; LIMITED - VALUES];
     LittleEndian::write_i32_into(&numbers, &mut bytes);
     bytes
 }
@@ -55,6 +56,23 @@ pub fn values_in(slot: &[u8; ROW_SIZE]) -> Option<[Option<i32>; FIELD_COUNT]>
         return None;
     }
     Some(values)
+}
+
+// The bits of the fields that limits made missing.
+pub fn limited_in(slot: &[u8; ROW_SIZE]) -> u64
+    ensures { result ≡ number_at 8 168 slot.now }
+{
+    LittleEndian::read_u64(&slot[LIMITED..])
+}
+
+// Whether none of the fields of these bits has a value, and no bit is set for further fields.
+pub fn are_missing(limited: u64, values: &[Option<i32>; FIELD_COUNT]) -> bool
+    ensures { result ≡ are_missing limited values.now }
+{
+    match FieldSet::from_bits(limited) {
+        Some(fields) => fields.are_missing(values),
+        None => false,
+    }
 }
 
 // The presence bits.

@@ -1,8 +1,10 @@
 ghost use Rattle.std.specs.Prelude.{◌≡◌, ◌+◌, ◌*◌, ◌<◌, ◌≤◌, ◌++◌, All};
 ghost use Rattle.arrayvec.specs.ArrayVec.{array_vec_len};
+ghost use Rattle.station_base.specs.FieldSet.{AreMissing};
 ghost use Rattle.station_base.specs.RowLine.{IsPrintable, value_text, values_text};
 
 use crate::field::{FIELD_COUNT, FieldId};
+use crate::field_set::FieldSet;
 use crate::period::Period;
 use crate::stamp::Stamp;
 use crate::text::{push_bytes, push_number, push_signed};
@@ -20,24 +22,30 @@ pub struct Row {
     pub interval: Period,
     /// The value of each field by its number, in the field's unit, and none where a sensor told none.
     pub values: [Option<i32>; FIELD_COUNT],
+    /// The fields whose value was beyond its limits and is missing for that, as the bits of a `FieldSet`: bit f is 1 for
+    /// field f.
+    pub limited: u64,
 }
 
 impl Row {
     ghost use Rattle.station_base.specs.RowLine.{row_line};
 
-    /// The line `row YYYY-MM-DD HH:MM I`, where I is the interval in minutes, and then ` NAME=VALUE` for each field that
-    /// has a value. It ends with a line feed, and has at most 876 bytes. Values are to lie within 2,000,000 either way.
+    /// The line `row YYYY-MM-DD HH:MM I`, where I is the interval in minutes, and then by their numbers ` NAME=VALUE` for
+    /// each field that has a value and ` NAME=limit` for each that limits made missing. It ends with a line feed, and has
+    /// at most 876 bytes. Values are to lie within 2,000,000 either way, and a field of `limited` is to have none.
     pub fn line(&self) -> ArrayVec<u8, LINE_ROOM>
-        requires { All IsPrintable self.now.values }
+        requires values { All IsPrintable self.now.values }
+        requires limited { AreMissing self.now.limited self.now.values }
         ensures text { result.items ≡ row_line self.now }
         ensures size { array_vec_len result ≤ 876 }
     {
+        let limited = FieldSet::from_bits(self.limited).unwrap();
         let mut line = ArrayVec::new();
         push_bytes(&mut line, b"row ");
         push_bytes(&mut line, &self.stamp.text());
         push_bytes(&mut line, b" ");
         push_number(&mut line, u32::from(self.interval.minutes()));
-        push_values(&mut line, &self.values);
+        push_values(&mut line, &self.values, limited);
         push_bytes(&mut line, b"\n");
         line
     }
@@ -54,34 +62,53 @@ impl Default for Row {
             stamp: Stamp::first(),
             interval: Period::shortest(),
             values: [None; FIELD_COUNT],
+            limited: 0,
         }
     }
 }
 
-// Appends each value with the name of its field.
-fn push_values(line: &mut ArrayVec<u8, LINE_ROOM>, values: &[Option<i32>; FIELD_COUNT])
+// Appends each value with the name of its field, and the names of those that limits made missing.
+fn push_values(
+    line: &mut ArrayVec<u8, LINE_ROOM>,
+    values: &[Option<i32>; FIELD_COUNT],
+    limited: FieldSet,
+)
     requires room { array_vec_len line.old ≤ 24 }
     requires printable { All IsPrintable values.now }
-    ensures text { line.new.items ≡ line.old.items ++ values_text 0 values.now }
+    ensures text { line.new.items ≡ line.old.items ++ values_text limited 0 values.now }
     ensures length { array_vec_len line.new ≤ array_vec_len line.old + 23 * FIELD_COUNT }
 {
     for (index, value) in values.iter().enumerate() {
-        push_value(line, FieldId::from_index(index).unwrap(), *value);
+        let field = FieldId::from_index(index).unwrap();
+        push_value(line, field, *value, limited.contains(field));
     }
 }
 
-// Appends a value with the name of its field, if there is one.
-fn push_value(line: &mut ArrayVec<u8, LINE_ROOM>, field: FieldId, value: Option<i32>)
+// Appends a value with the name of its field, or the name alone where limits made it missing.
+fn push_value(
+    line: &mut ArrayVec<u8, LINE_ROOM>,
+    field: FieldId,
+    value: Option<i32>,
+    is_limited: bool,
+)
     requires room { array_vec_len line.old + 23 ≤ LINE_ROOM }
     requires field { field < 37 }
     requires printable { IsPrintable value }
-    ensures text { line.new.items ≡ line.old.items ++ value_text field value }
+    ensures text { line.new.items ≡ line.old.items ++ value_text is_limited field value }
     ensures length { array_vec_len line.new ≤ array_vec_len line.old + 23 }
 {
-    if let Some(value) = value {
-        push_bytes(line, b" ");
-        push_bytes(line, field.name().as_bytes());
-        push_bytes(line, b"=");
-        push_signed(line, value);
+    match value {
+        Some(value) => {
+            push_bytes(line, b" ");
+            push_bytes(line, field.name().as_bytes());
+            push_bytes(line, b"=");
+            push_signed(line, value);
+        }
+        None if is_limited => {
+            push_bytes(line, b" ");
+            push_bytes(line, field.name().as_bytes());
+            push_bytes(line, b"=limit");
+        }
+        None => {}
     }
 }

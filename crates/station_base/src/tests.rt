@@ -90,6 +90,23 @@ fn a_row_is_printed_with_its_values(rt: HostRuntime) {
 }
 
 #[test]
+fn a_row_names_what_limits_made_missing(rt: HostRuntime) {
+    let mut row = Row::default();
+    row.stamp = Stamp::from_words(12_513, 5).expect(&rt, "a stamp");
+    row.interval = Period::from_minutes(5).expect(&rt, "a period");
+    row.limited = 1;
+    row.values[3] = Some(0);
+    row.values[4] = Some(0);
+    row.values[7] = Some(0);
+    row.values[12] = Some(0);
+    row.values[16] = Some(0);
+    let line = row.line();
+    let wanted =
+        b"row 2024-07-01 00:05 5 outTemp=limit rain=0 highRainRate=0 windSamples=0 windGust=0 ET=0\n";
+    assert!(rt; line.as_slice() == wanted.as_slice());
+}
+
+#[test]
 fn a_clock_shows_the_seconds_of_the_calendar_from_1900_to_2155(rt: HostRuntime) {
     let second = |year, month, day| {
         let time = ClockTime {

@@ -2,13 +2,11 @@ ghost use Rattle.std.specs.Prelude.{◌≡◌, ◌<◌, slice_index};
 ghost use Rattle.vantage_frames.specs.Slots.{slot_at};
 ghost use Rattle.vantage_frames.specs.Reading.{TellsPage};
 
+use archive_record::RECORD_SIZE;
 use std::marker::Model;
 
 /// The slots of a page.
 pub const SLOTS: u8 = 5;
-
-/// The bytes of an archive record, which a slot holds one of.
-pub const RECORD_SIZE: usize = 52;
 
 // What stands in a page besides its slots: the sequence, bytes of no use, and the check.
 const SEQUENCE_SIZE: usize = 1;

@@ -30,3 +30,21 @@ returns-in-Some-clause-length c =
     let within = c.requires.printable c.in-Some.value c.in-Some.is in
     let short = rw (printable_back c.in-Some.value within) at c.push_signed.ensures.length in
     omega (arith, signed_text_width c.in-Some.value within)
+
+pub push_bytes-requires-in-None-2 : goal.push_bytes-requires-in-None-2
+push_bytes-requires-in-None-2 c =
+    let width = name_width c.args.field c.requires.field in
+    let same : length c.as_bytes-in-None.result.now ≡ length (name_of c.args.field) = search rules in
+    (lit< tt, omega arith)
+
+pub push_bytes-requires-in-None-3 : goal.push_bytes-requires-in-None-3
+push_bytes-requires-in-None-3 c =
+    let width = name_width c.args.field c.requires.field in
+    let same : length c.as_bytes-in-None.result.now ≡ length (name_of c.args.field) = search rules in
+    (lit< tt, omega arith)
+
+pub returns-in-None-clause-length : goal.returns-in-None-clause-length
+returns-in-None-clause-length c =
+    let width = name_width c.args.field c.requires.field in
+    let same : length c.as_bytes-in-None.result.now ≡ length (name_of c.args.field) = search rules in
+    omega arith

@@ -5,7 +5,7 @@ use Rattle.station_base.proofs.row.push_values.Given as goal
 
 abbrev pub invariant-loop-index : goal.invariant-loop-index
 invariant-loop-index l = record {
-  text : l.line.items ++ values_text l.index (drop l.index l.values) ≡ l.initial.line.items ++ values_text 0 l.values;
+  text : l.line.items ++ values_text l.limited l.index (drop l.index l.values) ≡ l.initial.line.items ++ values_text l.limited 0 l.values;
   length : array_vec_len l.line ≤ array_vec_len l.initial.line + 23 * l.index;
   room : array_vec_len l.initial.line ≤ 24;
 }

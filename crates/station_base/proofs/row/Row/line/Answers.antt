@@ -2,9 +2,15 @@ use Rattle.std.proofs.Common.{◌≡◌, ◌≤◌, arith, rules, lit<, length, 
 use Rattle.arrayvec.specs.ArrayVec.{array_vec_len}
 use Rattle.station_base.specs.NumberText.{number_text}
 use Rattle.station_base.specs.RowLine.{row_line}
+use Rattle.station_base.proofs.FieldSets.{missing_below}
 use Rattle.station_base.proofs.NumberWidths.{number_text_short}
 use Rattle.station_base.proofs.Periods.{period_bound}
 use Rattle.station_base.proofs.row.Row.line.Goals as goal
+
+pub unwrap-limited-requires : goal.unwrap-limited-requires
+unwrap-limited-requires c =
+    let below = missing_below c.args.self.now.limited c.args.self.now.values c.requires.limited in
+    search rules
 
 pub push_number-requires : goal.push_number-requires
 push_number-requires c =
@@ -28,7 +34,8 @@ pub returns-clause-text : goal.returns-clause-text
 unfolding row_line
 returns-clause-text c =
     let empty : c.new-line.result.items ≡ [] = search rules in
-    rw (c.push_bytes-4.ensures.bytes, c.push_values.ensures.text, c.push_number.ensures.digits, c.push_bytes-3.ensures.bytes, c.push_bytes-2.ensures.bytes, c.push_bytes.ensures.bytes, empty, c.text.ensures, c.from.ensures, c.minutes.ensures.minutes)
+    let limited : c.unwrap-limited.result ≡ c.args.self.now.limited = search rules in
+    rw (c.push_bytes-4.ensures.bytes, c.push_values.ensures.text, c.push_number.ensures.digits, c.push_bytes-3.ensures.bytes, c.push_bytes-2.ensures.bytes, c.push_bytes.ensures.bytes, empty, limited, c.text.ensures, c.from.ensures, c.minutes.ensures.minutes)
     refl
 
 pub returns-clause-size : goal.returns-clause-size
