@@ -1,3 +1,4 @@
 pub mod Floor
 pub mod Ranges
 pub mod Values
+pub mod Taken

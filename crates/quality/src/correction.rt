@@ -1,47 +1,83 @@
-ghost use Rattle.std.specs.Prelude.{◌≡◌, ◌+ℤ◌, ◌*ℤ◌, ◌≤ℤ◌, ◌<ℤ◌, pos, All};
+ghost use Rattle.std.specs.Prelude.{◌≡◌, ◌≢◌, ℕ, ◌<◌, true, false, ◌+ℤ◌, ◌*ℤ◌, ◌≤ℤ◌, ◌<ℤ◌, pos, All};
 ghost use Rattle.std.specs.Int.{int_div_euclid};
 ghost use Rattle.jiff.specs.Words.{IsWithin};
+ghost use Rattle.station_base.specs.FieldSet.{is_member, AreMissing};
 ghost use Rattle.station_base.specs.RowLine.{IsPrintable};
 ghost use Rattle.settings_file.specs.Calibration.{IsCalibration};
-ghost use Rattle.quality.specs.Corrected.{IsReading, calibrated, scaled, is_kept, corrected_value, corrected_values, corrected_row};
+ghost use Rattle.quality.specs.Corrected.{IsReading, IsUnlimited, calibrated, scaled, is_kept, corrected_value, corrected_values, is_taken, taken, was_taken, corrected_row};
 
 use settings_file::{Calibration, Limits, Settings};
-use station_base::{FIELD_COUNT, FieldId, Row};
+use station_base::{FIELD_COUNT, FieldId, FieldSet, Row, Stamp};
 
 /// The row as it is kept: each value is calibrated, and is missing then where it is below the least or above the greatest
-/// value of its field. A missing value stays missing. Values are to lie within 65,535 either way, as those of an archive
-/// record do.
+/// value of its field, by the calibration and the limits in force at the row's stamp. A missing value stays missing.
+/// `limited` names the fields that had a value and are made missing so; the row handed in names none. Values are to lie
+/// within 65,535 either way, as those of an archive record do.
 pub fn corrected(settings: &Settings, row: &Row) -> Row
-    requires { All IsReading row.now.values }
+    requires reading { All IsReading row.now.values }
+    requires unlimited { IsUnlimited row.now }
     ensures exact { result ≡ corrected_row settings.now row.now }
     ensures printable { All IsPrintable result.values }
+    ensures missing { AreMissing result.limited result.values }
+    ensures named { (field : ℕ) → field < 37
+        → is_member result.limited field ≡ was_taken row.now.values result.values field }
 {
+    let values = corrected_values(settings, row.stamp, &row.values);
     Row {
         stamp: row.stamp,
         interval: row.interval,
-        values: corrected_values(settings, &row.values),
+        values,
+        limited: taken(&row.values, &values),
     }
 }
 
-// The values of all fields, each by its own calibration and limits.
+// The values of all fields in a row of this stamp, each by its own calibration and limits.
 fn corrected_values(
     settings: &Settings,
+    stamp: Stamp,
     values: &[Option<i32>; FIELD_COUNT],
 ) -> [Option<i32>; FIELD_COUNT]
     requires { All IsReading values.now }
-    ensures exact { result ≡ corrected_values settings.now 0 values.now }
+    ensures exact { result ≡ corrected_values settings.now stamp 0 values.now }
     ensures printable { All IsPrintable result }
 {
     let mut corrected = [None; FIELD_COUNT];
     for (index, value) in values.iter().enumerate() {
         let field = FieldId::from_index(index).unwrap();
         corrected[index] = corrected_value(
-            settings.calibration(field),
-            settings.limits(field),
+            settings.calibration(field, stamp),
+            settings.limits(field, stamp),
             *value,
         );
     }
     corrected
+}
+
+// The fields that had a value and have none now, as the bits of a set.
+fn taken(before: &[Option<i32>; FIELD_COUNT], after: &[Option<i32>; FIELD_COUNT]) -> u64
+    ensures exact { result ≡ taken before.now after.now }
+    ensures named { (field : ℕ) → field < 37 → is_member result field ≡ was_taken before.now after.now field }
+    ensures missing { AreMissing result after.now }
+{
+    let mut fields = FieldSet::empty();
+    for (index, value) in before.iter().enumerate() {
+        let now = after[index];
+        fields = with_taken(fields, FieldId::from_index(index).unwrap(), *value, now);
+    }
+    fields.bits()
+}
+
+// These fields, and this one where it had a value and has none now.
+fn with_taken(fields: FieldSet, field: FieldId, before: Option<i32>, after: Option<i32>) -> FieldSet
+    ensures added { is_taken before after ≡ true → is_member result field ≡ true }
+    ensures kept { is_taken before after ≡ false → result ≡ fields }
+    ensures others { (other : ℕ) → other ≢ field → is_member result other ≡ is_member fields other }
+{
+    if before.is_some() && after.is_none() {
+        fields.with(field)
+    } else {
+        fields
+    }
 }
 
 // A value calibrated, or none where its limits refuse that.

@@ -22,13 +22,13 @@ pub record StationSettings : Type 0 where
 
 -- the calibration in force at a stamp: that of the last change which is not later and names one of the field, or else the
 -- file's own, or none
-abbrev pub calibration_of : StationSettings → ℕ → CivilMinute → Calibration
+unfoldable pub calibration_of : StationSettings → ℕ → CivilMinute → Calibration
 calibration_of settings field stamp =
     unwrap_or (option_or (last_given (named_by (calibration_in field) stamp) settings.changes) (calibration_in field settings.own))
     uncalibrated
 
 -- the limits in force at a stamp, likewise
-abbrev pub limits_of : StationSettings → ℕ → CivilMinute → Limits
+unfoldable pub limits_of : StationSettings → ℕ → CivilMinute → Limits
 limits_of settings field stamp =
     unwrap_or (option_or (last_given (named_by (limits_in field) stamp) settings.changes) (limits_in field settings.own))
     unlimited

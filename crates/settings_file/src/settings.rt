@@ -102,6 +102,7 @@ impl Settings {
 
     /// How the values of a field are calibrated in a row of this stamp: as the last change says that is not from a later
     /// stamp and names a calibration of the field, or else as the file's own table does.
+    #[tactic(auto, unfolding(crate::specs::StationSettings::calibration_of))]
     pub fn calibration(&self, field: FieldId, stamp: Stamp) -> Calibration
         ensures value { result ≡ calibration_of self.now field stamp }
         ensures range { IsCalibration result }
@@ -114,6 +115,7 @@ impl Settings {
 
     /// Which calibrated values of a field are kept in a row of this stamp: as the last change says that is not from a
     /// later stamp and names limits of the field, or else as the file's own table does.
+    #[tactic(auto, unfolding(crate::specs::StationSettings::limits_of))]
     pub fn limits(&self, field: FieldId, stamp: Stamp) -> Limits
         ensures value { result ≡ limits_of self.now field stamp }
         ensures range { AreLimits result }

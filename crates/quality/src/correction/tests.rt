@@ -1,21 +1,23 @@
 ghost use Rattle.std.specs.Prelude.{All, IfSome};
-ghost use Rattle.quality.specs.Corrected.{IsReading};
+ghost use Rattle.quality.specs.Corrected.{IsReading, IsUnlimited};
 
 use super::*;
-use station_base::{Period, Stamp};
+use station_base::Period;
 use std::alloc::Global;
 use std::test::Fail;
 
-// A row of 2024-07-01 00:05 with an outside temperature alone.
-fn row(tenths: i16) -> Option<Row>
-    ensures { IfSome result (λ row. All IsReading row.values) }
+// A row of this stamp with an outside temperature alone.
+fn row(stamp: &[u8], tenths: i16) -> Option<Row>
+    ensures reading { IfSome result (λ row. All IsReading row.values) }
+    ensures unlimited { IfSome result IsUnlimited }
 {
     let mut values = [None; FIELD_COUNT];
     values[0] = Some(i32::from(tenths));
     Some(Row {
-        stamp: Stamp::from_words(0x30E1, 5)?,
+        stamp: Stamp::from_text(stamp)?,
         interval: Period::from_minutes(10)?,
         values,
+        limited: 0,
     })
 }
 
@@ -41,12 +43,31 @@ fn a_value_is_calibrated_and_then_held_against_its_limits(rt: HostRuntime) -> Re
     ];
     for (text, tenths, kept) in cases {
         let settings = settings_of(rt.alloc(), text).ok_or("refused")?;
-        let before = row(tenths).ok_or("no row")?;
+        let before = row(b"2024-07-01 00:05", tenths).ok_or("no row")?;
         let after = corrected(&settings, &before);
         assert_eq!(rt; after.values[0], kept);
         assert_eq!(rt; after.values[1], None);
+        assert_eq!(rt; after.limited, u64::from(kept.is_none()));
         assert_eq!(rt; after.stamp, before.stamp);
         assert_eq!(rt; after.interval, before.interval);
+    }
+    Ok(())
+}
+
+#[test]
+fn a_row_is_corrected_as_its_stamp_says(rt: HostRuntime) -> Result<(), Fail> {
+    let text =
+        b"[[change]]\nfrom = '2024-07-01 00:10'\n[change.calibration.outTemp]\nadd = 3\n[change.limits.outTemp]\ngreatest = 653\n";
+    let cases: [(&[u8], i16, Option<i32>); 4] = [
+        (b"2024-07-01 00:05", 650, Some(650)),
+        (b"2024-07-01 00:10", 650, Some(653)),
+        (b"2024-07-01 00:09", 651, Some(651)),
+        (b"2024-07-01 00:15", 651, None),
+    ];
+    let settings = settings_of(rt.alloc(), text).ok_or("refused")?;
+    for (stamp, tenths, kept) in cases {
+        let before = row(stamp, tenths).ok_or("no row")?;
+        assert_eq!(rt; corrected(&settings, &before).values[0], kept);
     }
     Ok(())
 }

@@ -9,14 +9,14 @@ pub loop-index-preserved : goal.loop-index-preserved
 loop-index-preserved c =
     let i = c.loop-index.index in
     let within : i < length c.args.values.now = omega arith in
-    let exact : c.corrected_value.result ≡ corrected_at c.args.settings.now i (get_or c.args.values.now i None) = search rules in
-    AreCorrected-more c.args.settings.now i c.args.values.now c.loop-index.corrected c.corrected_value.result
+    let exact : c.corrected_value.result ≡ corrected_at c.args.settings.now c.args.stamp i (get_or c.args.values.now i None) = search rules in
+    AreCorrected-more c.args.settings.now c.args.stamp i c.args.values.now c.loop-index.corrected c.corrected_value.result
     c.loop-index.invariant within (omega arith) exact c.corrected_value.ensures.printable
 
 pub returns-clause-exact : goal.returns-clause-exact
 returns-clause-exact c =
-    AreCorrected-all c.args.settings.now c.loop-index.index c.args.values.now c.loop-index.corrected c.loop-index.invariant (omega arith) (omega arith)
+    AreCorrected-all c.args.settings.now c.args.stamp c.loop-index.index c.args.values.now c.loop-index.corrected c.loop-index.invariant (omega arith) (omega arith)
 
 pub returns-clause-printable : goal.returns-clause-printable
 returns-clause-printable c =
-    AreCorrected-printable c.args.settings.now c.loop-index.index c.args.values.now c.loop-index.corrected c.loop-index.invariant (omega arith)
+    AreCorrected-printable c.args.settings.now c.args.stamp c.loop-index.index c.args.values.now c.loop-index.corrected c.loop-index.invariant (omega arith)

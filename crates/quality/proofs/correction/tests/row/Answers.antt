@@ -11,8 +11,8 @@ missing x is = cc
 reading : (z : ℤ) → IsWithin 65535 z → IsReading (Some z)
 reading z within x is = let same : z ≡ x = cc in let P : ℤ → Type 0 = IsWithin 65535 in subst P same within
 
-pub returns : goal.returns
-returns c =
+pub returns-clause-reading : goal.returns-clause-reading
+returns-clause-reading c =
     let same : c.from.result ≡ c.args.tenths = search rules in
     let fits : FitsSigned w16 c.args.tenths = c.ranges.tenths in
     let wide : FitsSigned w32 c.from.result = search rules in
