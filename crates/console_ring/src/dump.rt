@@ -8,7 +8,8 @@ ghost use Rattle.console_ring.specs.Standing.{StandsFor};
 
 use crate::plan::Plan;
 use crate::ring::{Ring, SLOT_COUNT};
-use vantage_frames::{PAGE_SIZE, RECORD_SIZE, SLOTS};
+use archive_record::RECORD_SIZE;
+use vantage_frames::{PAGE_SIZE, SLOTS};
 
 // The pages of the archive.
 const PAGE_COUNT: u32 = 512;

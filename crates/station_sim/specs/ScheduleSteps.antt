@@ -99,9 +99,10 @@ steps_said s = (s.before ++ turn_steps s.turn s.details s.stop) ++ s.since
 
 -- what the bytes of the record of this stamp and these values read as
 abbrev pub read_at : ℕ → Option CivilMinute → Option (List (Option ℤ)) → RecordRead
-read_at period (Some stamp) (Some values) = ReadRow (record { stamp = stamp; interval = period; values = values })
-read_at period (Some stamp) None = ReadRow (record { stamp = stamp; interval = period; values = [] })
-read_at period None values = ReadRow (record { stamp = first_minute; interval = period; values = [] })
+read_at period (Some stamp) (Some values) =
+    ReadRow (record { stamp = stamp; interval = period; values = values; limited = 0 })
+read_at period (Some stamp) None = ReadRow (record { stamp = stamp; interval = period; values = []; limited = 0 })
+read_at period None values = ReadRow (record { stamp = first_minute; interval = period; values = []; limited = 0 })
 
 abbrev pub record_told : ℕ → Told → RecordRead
 record_told period told = read_at period told.stamp told.values

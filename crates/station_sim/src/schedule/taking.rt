@@ -123,6 +123,7 @@ impl Reader {
             stamp,
             interval: self.period,
             values,
+            limited: 0,
         };
         match write(&row) {
             Some(record) => Ok(record),
