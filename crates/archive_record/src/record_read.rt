@@ -37,6 +37,7 @@ pub enum RecordRead {
 pub fn read(bytes: &[u8; RECORD_SIZE], interval: Period) -> RecordRead
     ensures reading { result ≡ reading bytes.now interval }
     ensures within { IfRow result (λ row. All (IsValueWithin 65_535) row.values) }
+    ensures unlimited { IfRow result (λ row. row.limited ≡ 0) }
 {
     if is_unwritten(bytes) {
         return RecordRead::Empty;

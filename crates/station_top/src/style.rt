@@ -1,6 +1,6 @@
 ghost use Rattle.std.specs.Prelude.{◌≡◌, ◌+◌, ◌≤◌, ◌++◌, All};
 ghost use Rattle.arrayvec.specs.ArrayVec.{array_vec_len};
-ghost use Rattle.quality.specs.Corrected.{IsReading};
+ghost use Rattle.quality.specs.Corrected.{IsReading, IsUnlimited};
 ghost use Rattle.station_top.specs.SlotText.{row_text};
 ghost use Rattle.station_top.specs.Style.{period_of, short};
 
@@ -41,6 +41,7 @@ impl<'a> Style<'a> {
     pub fn push_row(&self, text: &mut Text, row: &Row)
         requires room { array_vec_len text.old + LINE_ROOM ≤ ROOM }
         requires reading { All IsReading row.now.values }
+        requires unlimited { IsUnlimited row.now }
         ensures line { text.new.items ≡ text.old.items ++ row_text (style_of self.now) row.now }
         ensures length { array_vec_len text.new ≤ array_vec_len text.old + LINE_ROOM }
     {

@@ -1,6 +1,6 @@
 ghost use Rattle.std.specs.Prelude.{◌≡◌, ◌+◌, ◌<◌, ◌≤◌, ◌++◌};
 ghost use Rattle.arrayvec.specs.ArrayVec.{array_vec_len};
-ghost use Rattle.station_top.specs.SlotText.{slot_text, place_text, IsReadable};
+ghost use Rattle.station_top.specs.SlotText.{slot_text, place_text, IsReadable, IsUncorrected};
 ghost use Rattle.station_top.specs.StyleRead.{style_of};
 
 use crate::style::Style;
@@ -27,6 +27,7 @@ pub fn push_slot(text: &mut Text, page: u32, place: u8, style: &Style<'_>, slot:
     requires place { place < SLOTS }
     requires room { array_vec_len text.old + LINE_ROOM ≤ ROOM }
     requires readable { IsReadable slot.now }
+    requires uncorrected { IsUncorrected slot.now }
     ensures line { text.new.items ≡ text.old.items ++ slot_text (style_of style.now) page place slot.now }
     ensures length { array_vec_len text.new ≤ array_vec_len text.old + LINE_ROOM }
 {
