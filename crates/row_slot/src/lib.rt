@@ -8,6 +8,7 @@ mod writing;
 
 pub use layout::ROW_SIZE;
 pub use reading::read;
+pub use values::limited_in;
 pub use writing::write;
 
 #[cfg(test)]

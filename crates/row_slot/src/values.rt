@@ -58,7 +58,7 @@ pub fn values_in(slot: &[u8; ROW_SIZE]) -> Option<[Option<i32>; FIELD_COUNT]>
     Some(values)
 }
 
-// The bits of the fields that limits made missing.
+/// The bits of a slot for the fields that limits made missing, whether the slot is well-formed or not.
 pub fn limited_in(slot: &[u8; ROW_SIZE]) -> u64
     ensures { result ≡ number_at 8 168 slot.now }
 {

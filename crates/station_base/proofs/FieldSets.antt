@@ -49,6 +49,13 @@ pub missing_free : (bits : ℕ) (values : List (Option ℤ)) → AreMissing bits
 unfolding are_missing
 missing_free bits values are field small = each_free (is_free bits values) 37 (and_parts (nat_lt bits (2 ^ 37)) _ are).1 field small
 
+pub not_below : (bits : ℕ) (values : List (Option ℤ)) → (bits < 2 ^ 37 → ⊥) → are_missing bits values ≡ false
+not_below bits values above = refuted (are_missing bits values) (λ are. above (missing_below bits values are))
+  where
+    refuted : (b : Bool) → (b ≡ true → ⊥) → b ≡ false
+    refuted true not_so = absurd (not_so refl)
+    refuted false not_so = refl
+
 -- a field with a value is not missing
 pub not_missing : (bits : ℕ) (values : List (Option ℤ)) (field : ℕ) → field < 37 → is_member bits field ≡ true → is_some (get_or values field None) ≡ true →
     are_missing bits values ≡ false

@@ -136,17 +136,17 @@ place_is slots rows n place are lt at =
 -- a slot with a row is as it was handed in
 pub row_unmarked : (slot : List ℕ) (row : Row) → row_in slot ≡ Some row → unmarked slot ≡ slot
 unfolding row_in
-row_unmarked slot row is = by slot (marked (is_marked slot) _ _ _ _ is)
+row_unmarked slot row is = by slot (marked (is_marked slot) _ _ _ _ _ is)
   where
-    marked : (b : Bool) (stamp : Option CivilMinute) (periodic : Bool) (interval : ℕ) (values : Option (List (Option ℤ))) → row_of b stamp periodic interval values ≡ Some row → b ≡ true
-    marked true stamp periodic interval values e = refl
-    marked false stamp periodic interval values e = absurd cc
+    marked : (b : Bool) (stamp : Option CivilMinute) (periodic : Bool) (interval : ℕ) (values : Option (List (Option ℤ))) (limited : ℕ) → row_of b stamp periodic interval values limited ≡ Some row → b ≡ true
+    marked true stamp periodic interval values limited e = refl
+    marked false stamp periodic interval values limited e = absurd cc
 
-    parts : (A B C D E : Bool) → (A && B && C && D && E) ≡ true → (B ≡ true) × (C ≡ true)
-    parts true true true D E e = (refl, refl)
-    parts true true false D E e = absurd cc
-    parts true false C D E e = absurd cc
-    parts false B C D E e = absurd cc
+    parts : (A B C D : Bool) → (A && B && C && D) ≡ true → (B ≡ true) × (C ≡ true)
+    parts true true true D e = (refl, refl)
+    parts true true false D e = absurd cc
+    parts true false C D e = absurd cc
+    parts false B C D e = absurd cc
 
     by : (s : List ℕ) → is_marked s ≡ true → unmarked s ≡ s
     by [] e = refl
@@ -154,7 +154,7 @@ row_unmarked slot row is = by slot (marked (is_marked slot) _ _ _ _ is)
     by (a ∷ b ∷ []) e = refl
     by (a ∷ b ∷ c ∷ []) e = refl
     by (a ∷ b ∷ c ∷ d ∷ rest) e =
-        let p = parts _ _ _ _ _ e in
+        let p = parts _ _ _ _ e in
         let a0 : a ≡ 0 = eqb-true a 0 p.0 in
         let n : little_number 2 (c ∷ d ∷ rest) ≡ 0 = eqb-true (little_number 2 (c ∷ d ∷ rest)) 0 p.1 in
         let m : little_number 2 (c ∷ d ∷ rest) ≡ c + 256 * (d + 256 * 0) = refl in

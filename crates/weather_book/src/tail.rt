@@ -8,14 +8,14 @@ ghost use Rattle.daily_summary.specs.Summary.{summary_of};
 ghost use Rattle.weather_book.specs.Closing.{begins_day, closings, closing_slot, last_day, summary_slot};
 ghost use Rattle.weather_book.specs.Packed.{IsReadBack};
 ghost use Rattle.weather_book.specs.Rising.{exceeds, last_stamp};
-ghost use Rattle.weather_book.specs.Rows.{may_follow, is_closing};
+ghost use Rattle.weather_book.specs.Rows.{may_follow, is_closing, is_known, as_read};
 ghost use Rattle.gated_log.specs.Log.{unmarked};
 ghost use Rattle.weather_book.specs.Into.{minutes_into};
 ghost use Rattle.std.proofs.Props.{props};
 
 use byteorder::{ByteOrder, LittleEndian};
 use daily_summary::{DaySummary, PART_COUNT, PART_SIZE};
-use gated_log::SLOT_SIZE;
+use gated_log::{SLOT_SIZE, Version};
 use station_base::{DayNumber, Row, Stamp};
 
 // How many summary slots close a day.
@@ -143,8 +143,21 @@ impl Tail {
         slot == closing
     }
 
+    // What a slot of an archive of this version is behind so many summary slots.
+    pub fn judge_as(&self, version: Version, shown: u8, slot: &[u8; SLOT_SIZE]) -> Judged
+        ensures judges { (rows : List Row) → EndsRows self.now rows → Judges result rows shown (as_read version slot.now) }
+        ensures printable { OnRowJudged result (λ row. All IsPrintable row.values) }
+        ensures back { OnRowJudged result IsReadBack }
+    {
+        let known = is_known(version, slot);
+        if !known {
+            return Judged::Wrong;
+        }
+        self.judge(shown, slot)
+    }
+
     // What a slot is behind so many summary slots.
-    pub fn judge(&self, shown: u8, slot: &[u8; SLOT_SIZE]) -> Judged
+    fn judge(&self, shown: u8, slot: &[u8; SLOT_SIZE]) -> Judged
         ensures judges { (rows : List Row) → EndsRows self.now rows → Judges result rows shown slot.now }
         ensures printable { OnRowJudged result (λ row. All IsPrintable row.values) }
         ensures back { OnRowJudged result IsReadBack }
@@ -165,6 +178,16 @@ impl Tail {
                 }
             }
         }
+    }
+}
+
+// Whether a slot may stand in an archive of this version, which is a question to a row alone.
+fn is_known(version: Version, slot: &[u8; SLOT_SIZE]) -> bool
+    ensures { result ≡ is_known version slot.now }
+{
+    match version {
+        Version::First => row_slot::limited_in(slot) == 0,
+        Version::Second => true,
     }
 }
 

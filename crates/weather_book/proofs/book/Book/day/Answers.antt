@@ -14,6 +14,9 @@ use Rattle.daily_summary.specs.declared.summary.DaySummary.{DaySummary}
 use Rattle.weather_book.specs.Closed.{IsClosedAt}
 use Rattle.weather_book.proofs.DayRows.{day_count, few_of}
 use Rattle.weather_book.proofs.KeptLaws.{total_kept}
+use Rattle.weather_book.specs.Rows.{as_read}
+use Rattle.std.proofs.Common.{map}
+use Rattle.weather_book.proofs.Versions.{closed_read}
 use Rattle.weather_book.proofs.book.Book.day.Goals as goal
 
 pub returns-then-end-first-clause-none : goal.returns-then-end-first-clause-none
@@ -78,7 +81,7 @@ returns-clause-summary g c =
     let same : slot_total rows ≡ slot_count self.log = omega (arith, self.counted, total_kept kept.days.items kept.count kept.tail rows keeps, kept.days.ok.0) in
     let log = subst (λ (n : ℕ). StandsToRead m n c.args.disk.now stands.slots) same stands.log in
     h stands.slots day.0 (summary_of (rows_of_day day.0 rows)) log
-    (subst (λ (n : ℕ). IsClosedAt stands.slots n day.0 (summary_of (rows_of_day day.0 rows))) place (o.closed stands.slots stands.rows_are))
+    (subst (λ (n : ℕ). IsClosedAt stands.slots n day.0 (summary_of (rows_of_day day.0 rows))) place (closed_read stands.version stands.slots _ day.0 (summary_of (rows_of_day day.0 rows)) (o.closed (map (as_read stands.version) stands.slots) stands.rows_are)))
     (summary_rows (rows_of_day day.0 rows) ∙ rows_between rows day c.rows_before-first.result c.rows_to-end.result before to) x told) c.read_summary.ensures.summary
 
 pub returns-clause-none : goal.returns-clause-none

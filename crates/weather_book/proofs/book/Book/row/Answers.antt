@@ -1,8 +1,10 @@
-use Rattle.std.proofs.Common.{◌≡◌, [], ℕ, Some, sym, ◌∙◌, ap, subst, arith}
+use Rattle.std.proofs.Common.{◌≡◌, [], ℕ, Some, sym, ◌∙◌, ap, subst, arith, map}
 use Rattle.std.specs.Prelude.{get_or}
 use Rattle.gated_log.specs.GatedLog.{slot_count}
 use Rattle.gated_log.specs.Stands.{StandsToRead}
-use Rattle.weather_book.specs.Rows.{slot_total}
+use Rattle.row_slot.specs.Slot.{row_in}
+use Rattle.weather_book.specs.Rows.{slot_total, as_read}
+use Rattle.weather_book.proofs.Versions.{row_read, read_at}
 use Rattle.weather_book.proofs.Places.{place_is, slot_row}
 use Rattle.weather_book.proofs.KeptLaws.{total_kept}
 use Rattle.weather_book.proofs.Looks.{one_look}
@@ -13,8 +15,9 @@ returns-in-Done-clause-row g c rows stands x told =
     let self = c.args.self.now in let kept = self.kept in let keeps = stands.stands_for.keeps in let m = g.D.Disk.medium in
     let same : slot_total rows ≡ slot_count self.log = omega (arith, self.counted, total_kept kept.days.items kept.count kept.tail rows keeps, kept.days.ok.0) in
     let log = subst (λ (n : ℕ). StandsToRead m n c.args.disk.now stands.slots) same stands.log in
-    let at = place_is stands.slots rows c.args.n c.place-place.result stands.rows_are (omega (arith, c.requires, keeps.count_is)) (c.place-place.ensures.rows rows keeps) in
-    at.1 ∙ ap Some (sym (c.row_of.ensures at.0 (slot_row (get_or stands.slots c.place-place.result []) c.slot.new.buf at.0 (c.in-Done.ensures.bytes stands.slots log x told) at.2)))
+    let at = place_is (map (as_read stands.version) stands.slots) rows c.args.n c.place-place.result stands.rows_are (omega (arith, c.requires, keeps.count_is)) (c.place-place.ensures.rows rows keeps) in
+    at.1 ∙ ap Some (sym (c.row_of.ensures at.0 (slot_row (get_or stands.slots c.place-place.result []) c.slot.new.buf at.0 (c.in-Done.ensures.bytes stands.slots log x told)
+    (row_read stands.version (get_or stands.slots c.place-place.result []) at.0 (ap row_in (sym (read_at stands.version stands.slots c.place-place.result)) ∙ at.2)))))
 
 pub returns-in-Done-clause-went : goal.returns-in-Done-clause-went
 returns-in-Done-clause-went g c rows stands =

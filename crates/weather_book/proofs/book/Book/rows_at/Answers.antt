@@ -1,9 +1,12 @@
-use Rattle.std.proofs.Common.{◌≡◌, ◌+◌, ◌*◌, ℕ, take, drop, ◌∙◌, ap, subst, arith}
+use Rattle.std.proofs.Common.{◌≡◌, ◌+◌, ◌*◌, ℕ, take, drop, ◌∙◌, ap, subst, arith, sym, map, []}
 use Rattle.gated_log.specs.GatedLog.{slot_count}
 use Rattle.gated_log.specs.Stands.{StandsToRead}
 use Rattle.weather_book.specs.declared.answers.RowsAnswer.{RowsAnswer}
 use Rattle.weather_book.specs.declared.answers.RowsAnswer.TheVariants as rows
-use Rattle.weather_book.specs.Rows.{slot_total}
+use Rattle.std.specs.Prelude.{get_or}
+use Rattle.row_slot.specs.Slot.{row_in}
+use Rattle.weather_book.specs.Rows.{slot_total, as_read}
+use Rattle.weather_book.proofs.Versions.{row_read, read_at}
 use Rattle.weather_book.specs.Start.{OnRows}
 use Rattle.weather_book.proofs.Places.{place_is}
 use Rattle.weather_book.proofs.KeptLaws.{total_kept}
@@ -22,9 +25,9 @@ returns-clause-rows g c =
     let log = subst (λ (n : ℕ). StandsToRead m n c.args.disk.now stands.slots) same stands.log in
     h rows c.args.n stands.slots log
     (λ k lt.
-    let at = place_is stands.slots rows (c.args.n + k) (c.place-place.result + k) stands.rows_are (omega (arith, lt, c.rest-count.ensures.within, keeps.count_is))
+    let at = place_is (map (as_read stands.version) stands.slots) rows (c.args.n + k) (c.place-place.result + k) stands.rows_are (omega (arith, lt, c.rest-count.ensures.within, keeps.count_is))
     (let p = c.place-place.ensures.rows rows keeps in let q = c.rest-count.ensures.place rows keeps k lt in omega (arith, p, q)) in
-    (at.0, at.1, at.2)) x told
+    (at.0, at.1, row_read stands.version (get_or stands.slots (c.place-place.result + k) []) at.0 (ap row_in (sym (read_at stands.version stands.slots (c.place-place.result + k))) ∙ at.2))) x told
     ∙ ap (λ (n : ℕ). take n (drop c.args.n rows)) (c.rest-count.ensures.rows rows keeps)) c.read_slots.ensures.rows
 
 pub returns-clause-went : goal.returns-clause-went
