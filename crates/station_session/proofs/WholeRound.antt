@@ -68,7 +68,7 @@ stale_by round.OutOfMemory b = refl
 
 module _ {D : Type 0} (medium : Medium D) where
   shows : (old b : Book) (disk : D) (rows : List Row) → IsSameBook old b → StandsOn medium old disk rows → StandsOn medium b disk rows
-  shows old b disk rows same st = record { stands_for = same.rows rows st.stands_for; slots = st.slots; rows_are = st.rows_are; log = st.log }
+  shows old b disk rows same st = record { stands_for = same.rows rows st.stands_for; current = same.version ∙ st.current; slots = st.slots; rows_are = st.rows_are; log = st.log }
 
   -- the same, of a book that stands for the same
   stores_from : (settings : StationSettings) (old b : Book) (disk : D) (marks : List Mark) (rows : List Row) (ss : List Delivery) (l : Holding D) → IsSameBook old b → marks ≡ []
@@ -193,4 +193,4 @@ module _ {L D : Type 0} {traffic : Traffic L} {medium : Medium D} where
   }
 
 pub same_book : (b : Book) → IsSameBook b b
-same_book b = record { rows = λ rows h. h; len = refl; last = refl; most = refl; stale = refl }
+same_book b = record { rows = λ rows h. h; len = refl; last = refl; most = refl; stale = refl; version = refl }

@@ -1,7 +1,7 @@
 use Rattle.std.proofs.Common.{List, length, refl, sym, ◌∙◌, ap, subst, arith}
 use Rattle.std.proofs.lemmas.Grind.{common_steps}
 use Rattle.station_base.specs.declared.row.Row.{Row}
-use Rattle.weather_book.specs.Adding.{ArePrintable}
+use Rattle.weather_book.specs.Adding.{ArePrintable, AreLimited}
 use Rattle.weather_book.specs.Rising.{RowsRise}
 use Rattle.weather_book.specs.Book.{last_of}
 use Rattle.causes.specs.declared.stored.Stored.TheVariants as stored
@@ -18,6 +18,9 @@ add-requires-clause-rising g c =
 
 pub add-requires-clause-printable : goal.add-requires-clause-printable
 add-requires-clause-printable g c = subst (λ (x : List Row). ArePrintable x) (sym c.deref.ensures.0) c.stored_rows-rows.ensures.printable
+
+pub add-requires-clause-limited : goal.add-requires-clause-limited
+add-requires-clause-limited g c = subst (λ (x : List Row). AreLimited x) (sym c.deref.ensures.0) c.stored_rows-rows.ensures.limited
 
 pub returns-in-Done : goal.returns-in-Done
 returns-in-Done g c =
