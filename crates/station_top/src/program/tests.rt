@@ -1,9 +1,10 @@
 use super::*;
+use archive_record::RECORD_SIZE;
 use serial_link::ScriptLink;
 use station_io::{MemFile, MemFiles, MemSink};
 use std::alloc::AllocError;
 use std::test::Fail;
-use vantage_frames::{PAGE_SIZE, RECORD_SIZE};
+use vantage_frames::PAGE_SIZE;
 
 /// The record of 2024-07-01 00:05 with 65.0 degrees outside, each other field as a console without
 /// that sensor sends it.
