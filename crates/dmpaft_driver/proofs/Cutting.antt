@@ -1,5 +1,5 @@
 -- A turn that a link cuts off, and one that hands nothing over.
-use Rattle.std.proofs.Common.{◌≡◌, ℕ, ◌<◌, true, false, List, [], ◌∷◌, ◌++◌, length, refl, sym, ◌∙◌, ap, subst, inl, inr, arith, append-nil, Option, Some, None}
+use Rattle.std.proofs.Common.{◌≡◌, ◌≢◌, ℕ, ◌<◌, true, false, List, [], ◌∷◌, ◌++◌, length, refl, sym, ◌∙◌, ap, subst, inl, inr, arith, append-nil, Option, Some, None}
 use Rattle.station_base.specs.CivilMinute.{CivilMinute}
 use Rattle.serial_link.specs.Talk.{message}
 use Rattle.serial_link.specs.declared.talk.TalkItem.{TalkItem}
@@ -203,7 +203,7 @@ not_keeping_heard (stage.Ended end) count l = absurd (omega (arith, l))
 
 pub listened : (start : Tally) (a : Option CivilMinute) (s : State) (t : List TalkItem) (pump pump' : Pump) → Shows start a s pump → talks_at pump.stage ≡ true
     → (r : Option DumpEnd) → ListensTo r start a s t pump pump' → TurnsTo r start a s t [] pump pump'
-listened start a s t pump pump' h k None x = (x, inl refl)
+listened start a s t pump pump' h k None x = (x.0, inl (refl, x.1))
 listened start a s t pump pump' h k (Some end) x = (x.0, inr (x.1, refl, k, stays_none start a s pump t h k x.2, says_none start a s pump t h k x.2))
 
 module _ {K : Type 0} (ledger : Ledger K) (a : Option CivilMinute) (s : State) (k : K) where
@@ -212,3 +212,6 @@ module _ {K : Type 0} (ledger : Ledger K) (a : Option CivilMinute) (s : State) (
 
   pub last_same : ledger.last k ≡ last_kept (gives a s []) (ledger.last k)
   last_same = ap (λ (y : List Delivery). last_kept y (ledger.last k)) (gives_none a s)
+
+pub some_words : (bytes : List ℕ) → 0 < length bytes → bytes ≢ []
+some_words bytes l none = absurd (omega (arith, l, ap (λ (y : List ℕ). length y) none))

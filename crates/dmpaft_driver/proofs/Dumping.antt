@@ -149,7 +149,7 @@ module _ (a : Option CivilMinute) where
 
   -- what a turn hands over joins what was handed over before
   pub handed_turn : (s : State) (t : List TalkItem) (ks : List Stored) → pump_from a s t ks ≢ Astray → IsOneStep a s t ks → handed a (pump_from a s t ks) ≡ handed a s ++ gives a s ks
-  handed_turn s t ks ne (inl e) =
+  handed_turn s t ks ne (inl (e, call)) =
       ap (λ (y : List Stored). handed a (pump_from a s t y)) e ∙ handed_items s t (λ z. ne (ap (λ (y : List Stored). pump_from a s t y) e ∙ z)) ∙ sym (append-nil (handed a s))
       ∙ ap (λ (y : List Delivery). handed a s ++ y) (sym (none_given s)) ∙ ap (λ (y : List Stored). handed a s ++ gives a s y) (sym e)
   handed_turn s t ks ne (inr (te, k, ke, more, place, taken, page, is, some)) =

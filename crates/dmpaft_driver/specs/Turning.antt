@@ -1,10 +1,11 @@
 -- One turn of a pump with a link and a keeper.
-use Rattle.std.specs.Prelude.{◌≡◌, ◌≢◌, ◌⊎◌, ℕ, ◌+◌, ◌≤◌, true, List, [], ◌∷◌, length, Option, Some, None}
+use Rattle.std.specs.Prelude.{◌≡◌, ◌≢◌, ◌⊎◌, ℕ, ◌+◌, ◌≤◌, true, List, [], ◌∷◌, length, map, Option, Some, None}
 use Rattle.station_base.specs.CivilMinute.{CivilMinute}
 use Rattle.archive_record.specs.Reading.{stamp_in}
 use Rattle.serial_link.specs.declared.talk.TalkItem.{TalkItem}
+use Rattle.serial_link.specs.declared.talk.TalkItem.TheVariants.{Heard, Quiet}
 use Rattle.serial_link.specs.Traffic.{Traffic}
-use Rattle.serial_link.specs.Talk.{Adds}
+use Rattle.serial_link.specs.Talk.{message, Adds}
 use Rattle.dmpaft_driver.specs.Ledger.{Ledger}
 use Rattle.causes.specs.declared.stored.Stored.{Stored}
 use Rattle.dmpaft_driver.specs.declared.outcome.DumpEnd.{DumpEnd}
@@ -57,11 +58,16 @@ abbrev pub CutsAt : DumpEnd → Option CivilMinute → State → List TalkItem �
 CutsAt end after s talk answers pump = IsCut end × (answers ≡ []) × (talks_at pump.stage ≡ true)
     × Stays after s talk × SaysLast after s talk
 
--- something was said or heard, or one batch was answered
+-- one message was said, or some bytes were heard, or one wait passed
+abbrev pub IsOneCall : List TalkItem → Type 0
+IsOneCall talk = ((bytes : List ℕ) × (bytes ≢ []) × ((talk ≡ message bytes) ⊎ (talk ≡ map Heard bytes)))
+    ⊎ (talk ≡ Quiet ∷ [])
+
+-- there was one call of the link, or one batch was answered
 abbrev pub IsOneStep : Option CivilMinute → State → List TalkItem → List Stored → Type 0
-IsOneStep after s talk answers = (answers ≡ [])
-    ⊎ ((talk ≡ []) × (answer : Stored) × (answers ≡ answer ∷ []) × (more : ℕ) × (place : ℕ)
-    × (taken : List (List ℕ)) × (page : List ℕ)
+IsOneStep after s talk answers = ((answers ≡ []) × IsOneCall talk)
+    ⊎ ((talk ≡ []) × (answer : Stored) × (answers ≡ answer ∷ [])
+    × (more : ℕ) × (place : ℕ) × (taken : List (List ℕ)) × (page : List ℕ)
     × (s ≡ Keeping more place taken page) × (batch_of after place taken page ≢ []))
 
 -- where the attempt stands after a turn
@@ -95,5 +101,6 @@ pub record Turns {L K : Type 0} (traffic : Traffic L) (ledger : Ledger K) (resul
 
 -- after a listening
 abbrev pub ListensTo : Option DumpEnd → Tally → Option CivilMinute → State → List TalkItem → Pump → Pump → Type 0
-ListensTo None start after s talk pump pump' = Shows start after (pump_from after s talk []) pump'
+ListensTo None start after s talk pump pump' =
+    Shows start after (pump_from after s talk []) pump' × IsOneCall talk
 ListensTo (Some end) start after s talk pump pump' = (pump' ≡ pump) × IsCut end × (talk ≡ [])

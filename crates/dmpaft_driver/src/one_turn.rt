@@ -64,9 +64,10 @@ fn listen<L: Link>(pump: &mut Pump, link: &mut L, most: u16) -> Option<DumpEnd>
         (result ≡ Some DumpEnd.OutOfMemory) }
 {
     let mut buf = [0; PAGE_SIZE];
-    match link.recv(&mut buf[..usize::from(most)]) {
+    let room = &mut buf[..usize::from(most)];
+    match link.recv(room) {
         Recv::Got(count) => {
-            pump.heard(&buf[..count]);
+            pump.heard(&room[..count]);
             None
         }
         Recv::Quiet => {

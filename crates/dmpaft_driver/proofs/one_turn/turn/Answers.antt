@@ -1,9 +1,13 @@
+use Rattle.serial_link.specs.Talk.{message}
+use Rattle.serial_link.specs.declared.talk.TalkItem.{TalkItem}
+use Rattle.dmpaft_driver.specs.Shown.{Shows, said_at}
+use Rattle.dmpaft_driver.specs.Pump.{pump_from}
 use Rattle.std.proofs.Common.{◌≡◌, ℕ, ◌<◌, [], ◌∷◌, List, length, sym, ◌∙◌, ap, subst, refl, inl, inr, arith}
 use Rattle.serial_link.proofs.Growing.{adds_none}
 use Rattle.dmpaft_driver.specs.Keeper.{Delivery, delivery, last_kept}
 use Rattle.dmpaft_driver.specs.Pump.{State}
 use Rattle.dmpaft_driver.specs.Standing.{gives}
-use Rattle.dmpaft_driver.proofs.Cutting.{stays_saying, says_saying, listened, keeps_same, last_same, not_keeping_said, not_keeping_heard}
+use Rattle.dmpaft_driver.proofs.Cutting.{some_words, stays_saying, says_saying, listened, keeps_same, last_same, not_keeping_said, not_keeping_heard}
 use Rattle.dmpaft_driver.proofs.one_turn.turn.Goals as goal
 
 pub returns-in-Failed-clause-turns : goal.returns-in-Failed-clause-turns
@@ -99,4 +103,23 @@ returns-in-Ended-clause-turns g c = λ start after s h.
       newest = last_same g.K.Keeper.ledger after s k;
       few = omega arith;
       turns = (refl, inl (tells.0, tells.1, c.in-Ended.end, tells.2, c.dump_end.ensures, refl, refl));
+    }
+
+pub returns-in-Done-clause-turns : goal.returns-in-Done-clause-turns
+returns-in-Done-clause-turns g c = λ start after s h.
+    let said = c.in-Done.ensures.talk in
+    let allows = c.in-Say.ensures.allows start after s h in
+    let words : c.as_slice.result.now ≡ said_at after c.args.pump.now.stage = c.as_slice.ensures.value ∙ allows.0 in
+    let k = c.args.keeper.now in
+    record {
+      said = said.0;
+      answers = [];
+      adds = said.2;
+      handed = keeps_same g.K.Keeper.ledger after s k;
+      newest = last_same g.K.Keeper.ledger after s k;
+      few = omega arith;
+      turns = (
+        subst (λ (y : List TalkItem). Shows start after (pump_from after s y []) c.said.new.self) (sym (said.1 ∙ ap message words)) (c.said.ensures.shows start after s h),
+        inl (refl, inl (c.as_slice.result.now, some_words c.as_slice.result.now (subst (λ (y : List ℕ). 0 < length y) (sym c.as_slice.ensures.value) allows.1), inl said.1)),
+      );
     }
