@@ -6,6 +6,7 @@ use Rattle.station_base.specs.CivilMinute.{CivilMinute}
 use Rattle.serial_link.specs.declared.talk.TalkItem.{TalkItem}
 use Rattle.serial_link.specs.declared.talk.TalkItem.TheVariants.{Said}
 use Rattle.vantage_frames.specs.StampFrame.{stamp_frame_of}
+use Rattle.wake_retry.specs.Parts.{heard}
 use Rattle.dmpaft_driver.specs.declared.outcome.DumpEnd.{DumpEnd}
 use Rattle.dmpaft_driver.specs.Attempt.{End, Attempt}
 use Rattle.dmpaft_driver.specs.Batch.{batches, answered}
@@ -55,3 +56,14 @@ abbrev pub TakenAreAcknowledged : Type 0
 TakenAreAcknowledged = (frame : List ℕ) (talk : List TalkItem) (place : ℕ) (first more : List (List ℕ)) (end : End)
     → Attempt frame talk place (first ++ more) end → first ≢ [] → (more ≡ [] → end ≢ End.Refused)
     → Acknowledges frame talk place first
+
+-- these stand in these bytes, one behind the other
+abbrev pub StandIn : List (List ℕ) → List ℕ → Type 0
+StandIn [] bytes = Unit {0}
+StandIn (page ∷ more) bytes =
+    (before : List ℕ) × (behind : List ℕ) × (bytes ≡ before ++ (page ++ behind)) × StandIn more behind
+
+-- the pages that were taken stand in what was heard
+abbrev pub TakenWereHeard : Type 0
+TakenWereHeard = (frame : List ℕ) (talk : List TalkItem) (place : ℕ) (taken : List (List ℕ)) (end : End)
+    → Attempt frame talk place taken end → StandIn taken (heard talk)

@@ -1,3 +1,4 @@
+use Rattle.dmpaft_driver.proofs.HeardPages.{taken_were_heard}
 use Rattle.dmpaft_driver.proofs.Acknowledging.{one_attempt, one_front, acknowledged_are_kept, taken_are_acknowledged}
 use Rattle.dmpaft_driver.proofs.laws.attempts_end_once.Goals as goal
 
@@ -12,3 +13,6 @@ returns-clause-kept c = acknowledged_are_kept
 
 pub returns-clause-acknowledged : goal.returns-clause-acknowledged
 returns-clause-acknowledged c = taken_are_acknowledged
+
+pub returns-clause-heard : goal.returns-clause-heard
+returns-clause-heard c = taken_were_heard

@@ -1,0 +1,125 @@
+use Rattle.serial_link.specs.Talk.{message}
+use Rattle.serial_link.specs.declared.talk.TalkItem.{TalkItem}
+use Rattle.dmpaft_driver.specs.Shown.{Shows, said_at}
+use Rattle.dmpaft_driver.specs.Pump.{pump_from}
+use Rattle.std.proofs.Common.{◌≡◌, ℕ, ◌<◌, [], ◌∷◌, List, length, sym, ◌∙◌, ap, subst, refl, inl, inr, arith}
+use Rattle.serial_link.proofs.Growing.{adds_none}
+use Rattle.dmpaft_driver.specs.Keeper.{Delivery, delivery, last_kept}
+use Rattle.dmpaft_driver.specs.Pump.{State}
+use Rattle.dmpaft_driver.specs.Standing.{gives}
+use Rattle.dmpaft_driver.proofs.Cutting.{some_words, stays_saying, says_saying, listened, keeps_same, last_same, not_keeping_said, not_keeping_heard}
+use Rattle.dmpaft_driver.proofs.one_turn.turn.Goals as goal
+
+pub returns-in-Failed-clause-turns : goal.returns-in-Failed-clause-turns
+returns-in-Failed-clause-turns g c = λ start after s h.
+    let said = c.in-Failed.ensures.talk in
+    let tells = c.in-Say.ensures.tells start after s h in
+    let allows = c.in-Say.ensures.allows start after s h in
+    let k = c.args.keeper.now in
+    record {
+      said = said.0;
+      answers = [];
+      adds = said.2;
+      handed = keeps_same g.K.Keeper.ledger after s k;
+      newest = last_same g.K.Keeper.ledger after s k;
+      few = omega arith;
+      turns = (
+        refl,
+        inr (
+          inl refl,
+          refl,
+          not_keeping_said after c.args.pump.now.stage (subst (λ (y : List ℕ). 0 < length y) allows.0 allows.1),
+          stays_saying after s tells.0 c.as_slice.result.now said.0 said.1.0 tells.1 (c.as_slice.ensures.value ∙ tells.2) said.1.1,
+          says_saying after s tells.0 c.as_slice.result.now said.0 said.1.0 (subst (λ (y : List ℕ). 0 < length y) (sym c.as_slice.ensures.value) allows.1) tells.1 (c.as_slice.ensures.value ∙ tells.2) said.1.1,
+        ),
+      );
+    }
+
+pub returns-in-OutOfMemory-clause-turns : goal.returns-in-OutOfMemory-clause-turns
+returns-in-OutOfMemory-clause-turns g c = λ start after s h.
+    let said = c.in-OutOfMemory.ensures.talk in
+    let tells = c.in-Say.ensures.tells start after s h in
+    let allows = c.in-Say.ensures.allows start after s h in
+    let k = c.args.keeper.now in
+    record {
+      said = said.0;
+      answers = [];
+      adds = said.2;
+      handed = keeps_same g.K.Keeper.ledger after s k;
+      newest = last_same g.K.Keeper.ledger after s k;
+      few = omega arith;
+      turns = (
+        refl,
+        inr (
+          inr refl,
+          refl,
+          not_keeping_said after c.args.pump.now.stage (subst (λ (y : List ℕ). 0 < length y) allows.0 allows.1),
+          stays_saying after s tells.0 c.as_slice.result.now said.0 said.1.0 tells.1 (c.as_slice.ensures.value ∙ tells.2) said.1.1,
+          says_saying after s tells.0 c.as_slice.result.now said.0 said.1.0 (subst (λ (y : List ℕ). 0 < length y) (sym c.as_slice.ensures.value) allows.1) tells.1 (c.as_slice.ensures.value ∙ tells.2) said.1.1,
+        ),
+      );
+    }
+
+pub returns-in-Listen-clause-turns : goal.returns-in-Listen-clause-turns
+returns-in-Listen-clause-turns g c = λ start after s h.
+    let hears = c.listen.ensures.hears start after s h in
+    let allows = c.in-Listen.ensures.allows start after s h in
+    let k = c.args.keeper.now in
+    record {
+      said = hears.0;
+      answers = [];
+      adds = hears.1;
+      handed = keeps_same g.K.Keeper.ledger after s k;
+      newest = last_same g.K.Keeper.ledger after s k;
+      few = omega arith;
+      turns = listened start after s hears.0 c.args.pump.now c.listen.new.pump h (not_keeping_heard c.args.pump.now.stage c.args.pump.now.count (omega (arith, allows.0, allows.1))) c.listen.result hears.2;
+    }
+
+pub returns-in-Keep-clause-turns : goal.returns-in-Keep-clause-turns
+returns-in-Keep-clause-turns g c = λ start after s h.
+    let tells = c.in-Keep.ensures.tells start after s h in
+    let answer = c.keep-answer.result in
+    let rows = c.as_slice-in-Keep.ensures.value ∙ tells.5 in
+    let given : delivery c.as_slice-in-Keep.result.now answer ∷ [] ≡ gives after s (answer ∷ []) = ap (λ (y : List (List ℕ)). delivery y answer ∷ []) rows ∙ ap (λ (y : State). gives after y (answer ∷ [])) (sym tells.4) in
+    record {
+      said = [];
+      answers = answer ∷ [];
+      adds = adds_none g.L.Link.traffic c.args.link.now;
+      handed = subst (λ (y : List Delivery). g.K.Keeper.ledger.keeps c.args.keeper.now y c.keep-answer.new.self) given c.keep-answer.ensures.keeps;
+      newest = c.keep-answer.ensures.last ∙ ap (λ (y : List Delivery). last_kept y (g.K.Keeper.ledger.last c.args.keeper.now)) given;
+      few = omega (arith, c.keep-answer.ensures.room, ap (λ (y : List Delivery). length y) given);
+      turns = (c.kept.ensures.shows start after s h, inr (refl, answer, refl, tells.0, tells.1, tells.2, tells.3, tells.4, tells.6));
+    }
+
+pub returns-in-Ended-clause-turns : goal.returns-in-Ended-clause-turns
+returns-in-Ended-clause-turns g c = λ start after s h.
+    let tells = c.in-Ended.ensures.tells start after s h in
+    let k = c.args.keeper.now in
+    record {
+      said = [];
+      answers = [];
+      adds = adds_none g.L.Link.traffic c.args.link.now;
+      handed = keeps_same g.K.Keeper.ledger after s k;
+      newest = last_same g.K.Keeper.ledger after s k;
+      few = omega arith;
+      turns = (refl, inl (tells.0, tells.1, c.in-Ended.end, tells.2, c.dump_end.ensures, refl, refl));
+    }
+
+pub returns-in-Done-clause-turns : goal.returns-in-Done-clause-turns
+returns-in-Done-clause-turns g c = λ start after s h.
+    let said = c.in-Done.ensures.talk in
+    let allows = c.in-Say.ensures.allows start after s h in
+    let words : c.as_slice.result.now ≡ said_at after c.args.pump.now.stage = c.as_slice.ensures.value ∙ allows.0 in
+    let k = c.args.keeper.now in
+    record {
+      said = said.0;
+      answers = [];
+      adds = said.2;
+      handed = keeps_same g.K.Keeper.ledger after s k;
+      newest = last_same g.K.Keeper.ledger after s k;
+      few = omega arith;
+      turns = (
+        subst (λ (y : List TalkItem). Shows start after (pump_from after s y []) c.said.new.self) (sym (said.1 ∙ ap message words)) (c.said.ensures.shows start after s h),
+        inl (refl, inl (c.as_slice.result.now, some_words c.as_slice.result.now (subst (λ (y : List ℕ). 0 < length y) (sym c.as_slice.ensures.value) allows.1), inl said.1)),
+      );
+    }

@@ -1,0 +1,52 @@
+-- When a pump has ended: exactly after an attempt.
+use Rattle.std.specs.Prelude.{◌≡◌, ◌≢◌, ◌⊎◌, ℕ, List, [], ◌∷◌, ◌++◌, Option}
+use Rattle.station_base.specs.CivilMinute.{CivilMinute}
+use Rattle.vantage_frames.specs.StampFrame.{stamp_frame_of}
+use Rattle.serial_link.specs.declared.talk.TalkItem.{TalkItem}
+use Rattle.causes.specs.declared.stored.Stored.{Stored}
+use Rattle.causes.specs.declared.stored.Stored.TheVariants as stored
+use Rattle.dmpaft_driver.specs.declared.pump_end.PumpEnd.{PumpEnd}
+use Rattle.dmpaft_driver.specs.declared.pump_end.PumpEnd.TheVariants as pump_end
+use Rattle.dmpaft_driver.specs.Attempt.{End, Attempt}
+use Rattle.dmpaft_driver.specs.Batch.{EndsGiving}
+use Rattle.dmpaft_driver.specs.Pump.{State, Over, Astray, step, given, pump_after}
+
+-- the end of an attempt that a pump has taken
+abbrev pub end_of : PumpEnd → End
+end_of pump_end.Whole = End.Whole
+end_of (pump_end.Failed trouble) = End.Failed trouble
+end_of pump_end.Full = End.Refused
+end_of pump_end.Stale = End.Refused
+end_of pump_end.DiskFault = End.Refused
+end_of pump_end.Flood = End.Flooded
+
+-- each batch was kept
+abbrev pub AllDone : List Stored → Type 0
+AllDone [] = Unit {0}
+AllDone (answer ∷ answers) = (answer ≡ stored.Done) × AllDone answers
+
+-- an attempt that was refused gave a batch last
+abbrev pub RefusesGiven : Option CivilMinute → ℕ → List (List ℕ) → End → Type 0
+RefusesGiven after place taken end = end ≡ End.Refused → EndsGiving after place taken
+
+-- a pump that has ended has taken an attempt
+abbrev pub Sound : Option CivilMinute → Type 0
+Sound after = (talk : List TalkItem) (answers : List Stored) (place : ℕ) (taken : List (List ℕ)) (end : PumpEnd)
+    → pump_after after talk answers ≡ Over place taken end
+    → Attempt (stamp_frame_of after) talk place taken (end_of end)
+
+-- an attempt ends the pump that takes it, at its place where it took a page
+abbrev pub Complete : Option CivilMinute → Type 0
+Complete after = (talk : List TalkItem) (place : ℕ) (taken : List (List ℕ)) (end : PumpEnd)
+    → Attempt (stamp_frame_of after) talk place taken (end_of end) → RefusesGiven after place taken (end_of end)
+    → (answers : List Stored) × (at : ℕ) × (pump_after after talk answers ≡ Over at taken end)
+    × ((taken ≡ []) ⊎ (place ≡ at)) × (end_of end ≢ End.Refused → AllDone answers)
+
+-- where each batch was kept and the pump stands so, an item that it does not allow begins no rest of an attempt that
+-- no refusal ends
+abbrev pub Stuck : Option CivilMinute → Type 0
+Stuck after = (talk : List TalkItem) (answers : List Stored) (s : State) (i : TalkItem)
+    → pump_after after talk answers ≡ s → AllDone answers → s ≢ Astray
+    → ((more : List Stored) → step after (given after s more) i ≡ Astray)
+    → (rest : List TalkItem) (place : ℕ) (taken : List (List ℕ)) (end : End) → end ≢ End.Refused
+    → Attempt (stamp_frame_of after) (talk ++ i ∷ rest) place taken end → ⊥

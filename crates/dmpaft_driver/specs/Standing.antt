@@ -1,0 +1,66 @@
+-- What an attempt has taken where its pump stands.
+use Rattle.std.specs.Prelude.{◌≡◌, ◌≢◌, ℕ, List, [], ◌∷◌, ◌++◌, Option}
+use Rattle.station_base.specs.CivilMinute.{CivilMinute}
+use Rattle.serial_link.specs.declared.talk.TalkItem.{TalkItem}
+use Rattle.causes.specs.declared.stored.Stored.{Stored}
+use Rattle.dmpaft_driver.specs.declared.pump_end.PumpEnd.{PumpEnd}
+use Rattle.dmpaft_driver.specs.Keeper.{Delivery, delivery}
+use Rattle.dmpaft_driver.specs.Batch.{batches, answered}
+use Rattle.dmpaft_driver.specs.Attempt.{End}
+use Rattle.dmpaft_driver.specs.Exact.{end_of}
+use Rattle.dmpaft_driver.specs.Shown.{all_kept, answer_of}
+use Rattle.dmpaft_driver.specs.Pump.{batch_of}
+use Rattle.dmpaft_driver.specs.Pump.{pump_from, Part, Settling, Waking, Calling, Heading, Asking, Resettling}
+use Rattle.dmpaft_driver.specs.Pump.{Acking, GivingUp, State, Saying, Hearing, Keeping, Over, Astray}
+
+-- the place of the header, 0 before it
+abbrev pub place_in : Part → ℕ
+place_in Settling = 0
+place_in (Waking left) = 0
+place_in Calling = 0
+place_in Heading = 0
+place_in (Asking more place taken left b) = place
+place_in (Resettling more place taken left b) = place
+place_in (Acking place taken) = place
+place_in (GivingUp place taken trouble) = place
+
+-- the pages taken before it
+abbrev pub taken_in : Part → List (List ℕ)
+taken_in Settling = []
+taken_in (Waking left) = []
+taken_in Calling = []
+taken_in Heading = []
+taken_in (Asking more place taken left b) = taken
+taken_in (Resettling more place taken left b) = taken
+taken_in (Acking place taken) = taken
+taken_in (GivingUp place taken trouble) = taken
+
+-- these pages were taken, of the first from a place on
+abbrev pub HasTaken : State → ℕ → List (List ℕ) → Type 0
+HasTaken (Saying part i others) place taken = (place ≡ place_in part) × (taken ≡ taken_in part)
+HasTaken (Hearing part bytes run) place taken = (place ≡ place_in part) × (taken ≡ taken_in part)
+HasTaken (Keeping more at pages page) place taken = (place ≡ at) × (taken ≡ pages ++ page ∷ [])
+HasTaken (Over at pages end) place taken = (place ≡ at) × (taken ≡ pages)
+HasTaken Astray place taken = ⊥
+
+-- the attempt might still end, with no page more and no refusal
+abbrev pub CanEnd : Option CivilMinute → State → ℕ → List (List ℕ) → Type 0
+CanEnd after s place taken = (rest : List TalkItem) × (answers : List Stored) × (end : PumpEnd)
+    × (pump_from after s rest answers ≡ Over place taken end) × (end_of end ≢ End.Refused)
+
+-- what the keeper was given so far
+abbrev pub handed : Option CivilMinute → State → List Delivery
+handed after (Saying part i others) = all_kept after (place_in part) (taken_in part)
+handed after (Hearing part bytes run) = all_kept after (place_in part) (taken_in part)
+handed after (Keeping more place taken page) = all_kept after place taken
+handed after (Over place taken end) = answered (answer_of end) (batches after place taken)
+handed after Astray = []
+
+-- what it is given where it answers so
+abbrev pub gives : Option CivilMinute → State → List Stored → List Delivery
+gives after (Saying part i others) answers = []
+gives after (Hearing part bytes run) answers = []
+gives after (Keeping more place taken page) [] = []
+gives after (Keeping more place taken page) (answer ∷ answers) = delivery (batch_of after place taken page) answer ∷ []
+gives after (Over place taken end) answers = []
+gives after Astray answers = []
