@@ -1,10 +1,13 @@
 -- The rows that a book stands for.
-use Rattle.std.proofs.Common.{List}
+use Rattle.std.proofs.Common.{List, sym, ◌∙◌}
 use Rattle.std.proofs.Math.Logic.{∥∥₁_map}
+use Rattle.disk_model.specs.Disk.{Stays}
+use Rattle.disk_model.specs.Medium.{Medium}
 use Rattle.station_base.specs.declared.row.Row.{Row}
 use Rattle.weather_book.specs.declared.book.Book.{Book}
 use Rattle.weather_book.specs.Book.{StandsFor}
 use Rattle.weather_book.specs.Kept.{KeepsOf}
+use Rattle.weather_book.specs.Stands.{StandsToReadOn}
 
 -- it stands for the rows of which it keeps days, number and end
 pub stands_by : (book : Book) (rows : List Row) → KeepsOf book.kept.days.items book.kept.count book.kept.tail rows → StandsFor book rows
@@ -13,3 +16,20 @@ stands_by book rows keeps = record { keeps = keeps; held_is = keeps.count_is; st
 -- so there are such rows
 pub some_rows : (book : Book) → ∥ ((rows : List Row) × StandsFor book rows) ∥₁
 some_rows book = ∥∥₁_map book.kept.some (λ p. (p.0, stands_by book p.0 p.1))
+
+-- they can be read where nothing was changed since
+pub to_read_stays : {D : Type 0} (medium : Medium D) (book : Book) (d e : D) (rows : List Row) →
+    StandsToReadOn medium book d rows → Stays medium d e → StandsToReadOn medium book e rows
+to_read_stays medium book d e rows stands stays = record {
+  stands_for = stands.stands_for;
+  version = stands.version;
+  version_is = λ c told. stands.version_is c (sym stays.reads ∙ told);
+  slots = stands.slots;
+  rows_are = stands.rows_are;
+  log = record {
+    before = stands.log.before;
+    chain = stands.log.chain;
+    count_is = stands.log.count_is;
+    reads = λ c told. stands.log.reads c (sym stays.reads ∙ told);
+  };
+}

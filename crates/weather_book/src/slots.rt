@@ -1,4 +1,4 @@
-ghost use Rattle.std.specs.Prelude.{ℕ, ℤ, false, ◌≡◌, ◌≤◌, ◌+◌, ◌*◌, ◌/◌, [], ◌∷◌, List, Some, length, take, drop};
+ghost use Rattle.std.specs.Prelude.{ℕ, ℤ, All, false, ◌≡◌, ◌≤◌, ◌+◌, ◌*◌, ◌/◌, [], ◌∷◌, List, Some, length, take, drop};
 ghost use Rattle.causes.specs.Told.{WhereTold};
 ghost use Rattle.disk_model.specs.Disk.{Stays, Faults, Looks};
 ghost use Rattle.gated_log.specs.Calls.{Looked};
@@ -6,7 +6,11 @@ ghost use Rattle.gated_log.specs.GatedLog.{slot_count};
 ghost use Rattle.gated_log.specs.Log.{unmarked};
 ghost use Rattle.gated_log.specs.Stands.{StandsToRead};
 ghost use Rattle.row_slot.specs.Slot.{row_in};
+ghost use Rattle.station_base.specs.FieldSet.{AreMissing};
+ghost use Rattle.station_base.specs.RowLine.{IsPrintable};
 ghost use Rattle.station_base.specs.declared.row.Row.{Row};
+ghost use Rattle.weather_book.specs.Adding.{AreLimited, ArePrintable};
+ghost use Rattle.daily_summary.specs.Bounds.{IsInBounds};
 ghost use Rattle.daily_summary.specs.declared.summary.DaySummary.{DaySummary};
 ghost use Rattle.weather_book.specs.Closed.{IsClosedAt, parts_at};
 ghost use Rattle.weather_book.specs.Packed.{AreRowsAt};
@@ -22,7 +26,9 @@ use station_base::Row;
 
 // The row of a slot, its gate and the number of its batch's slots aside. Of a slot that has none the `Default` row.
 pub(crate) fn row_of(slot: &[u8; SLOT_SIZE]) -> Row
-    ensures { (row : Row) → row_in (unmarked slot.now) ≡ Some row → result ≡ row }
+    ensures row { (row : Row) → row_in (unmarked slot.now) ≡ Some row → result ≡ row }
+    ensures printable { All IsPrintable result.values }
+    ensures limited { AreMissing result.limited result.values }
 {
     match row_slot::read(&without_marks(slot)) {
         Some(row) => row,
@@ -33,7 +39,9 @@ pub(crate) fn row_of(slot: &[u8; SLOT_SIZE]) -> Row
 // The row of slot `k` of these.
 fn row_at(bytes: &[u8], k: usize) -> Row
     requires { 176 * (k + 1) ≤ length bytes.now }
-    ensures { (row : Row) → row_in (unmarked (take 176 (drop (176 * k) bytes.now))) ≡ Some row → result ≡ row }
+    ensures row { (row : Row) → row_in (unmarked (take 176 (drop (176 * k) bytes.now))) ≡ Some row → result ≡ row }
+    ensures printable { All IsPrintable result.values }
+    ensures limited { AreMissing result.limited result.values }
 {
     let mut slot = [0; SLOT_SIZE];
     slot.copy_from_slice(&bytes[SLOT_SIZE * k..SLOT_SIZE * k + SLOT_SIZE]);
@@ -57,6 +65,9 @@ pub(crate) fn read_slots<D: Disk>(
     ensures rows { OnRows result ((rows : List Row) (n : ℕ) (slots : List (List ℕ)) → StandsToRead D.medium (slot_count log.now) disk.old slots
         → AreRowsAt slots place rows n count → WhereTold (D.medium.seen disk.old) (λ _. into.new.items ≡ take count (drop n rows))) }
     ensures none { result ≡ RowsAnswer.DiskFault → into.new.items ≡ [] }
+    ensures count { OnRows result (length into.new.items ≡ count) }
+    ensures printable { ArePrintable into.new.items }
+    ensures limited { AreLimited into.new.items }
     ensures stays { Stays D.medium disk.old disk.new }
     ensures cause { Faults D.medium disk.old disk.new (result ≡ RowsAnswer.DiskFault) }
     ensures looks { Looks D.medium 1 disk.old disk.new }
@@ -98,6 +109,7 @@ pub(crate) fn read_summary<D: Disk>(
     requires within { place + 13 ≤ slot_count log.now }
     ensures summary { OnSummary result (λ s. (slots : List (List ℕ)) (day : ℤ) (t : DaySummary) → StandsToRead D.medium (slot_count log.now) disk.old slots
         → IsClosedAt slots place day t → t.rows ≡ rows → WhereTold (D.medium.seen disk.old) (λ _. s ≡ t)) }
+    ensures bounds { OnSummary result (λ s. IsInBounds s × (s.rows ≤ rows)) }
     ensures some { has_no_rows result ≡ false }
     ensures stays { Stays D.medium disk.old disk.new }
     ensures cause { Faults D.medium disk.old disk.new (result ≡ DayAnswer.DiskFault) }

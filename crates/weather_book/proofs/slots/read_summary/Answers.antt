@@ -1,5 +1,7 @@
-use Rattle.std.proofs.Common.{◌≡◌, Option, Some, None, length, sym, ◌∙◌, arith}
+use Rattle.std.proofs.Common.{◌≡◌, [], Option, Some, None, IfSome, length, ap, subst, sym, ◌∙◌, arith}
 use Rattle.daily_summary.specs.declared.summary.DaySummary.{DaySummary}
+use Rattle.daily_summary.specs.WellFormed.{IsStoredAs}
+use Rattle.weather_book.proofs.DayOf.{summary_rows}
 use Rattle.weather_book.proofs.Looks.{one_look}
 use Rattle.weather_book.proofs.Stored.{parts_read, stored_as}
 use Rattle.weather_book.proofs.slots.read_summary.Goals as goal
@@ -33,3 +35,12 @@ returns-in-Some-clause-went g c len long = one_look g.D.Disk.medium _ _ _ _ _ _ 
 
 pub returns-in-None-clause-went : goal.returns-in-None-clause-went
 returns-in-None-clause-went g c len long = one_look g.D.Disk.medium _ _ _ _ _ _ (omega (arith, c.slots_at.auto.buf)) c.in-Done.ensures.went
+
+pub returns-in-Some-clause-bounds : goal.returns-in-Some-clause-bounds
+returns-in-Some-clause-bounds g c =
+    let f = subst (λ (o : Option DaySummary). IfSome o (IsStoredAs c.args.rows c.parts_at.result)) c.in-Some.is c.from_parts.ensures.found in
+    (f.bounds, omega (arith, f.count))
+
+pub returns-in-None-clause-bounds : goal.returns-in-None-clause-bounds
+returns-in-None-clause-bounds g c =
+    (c.new.ensures.bounds, omega (arith, ap (λ (s : DaySummary). s.rows) c.new.ensures.summary, summary_rows []))

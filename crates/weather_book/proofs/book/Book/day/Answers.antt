@@ -103,3 +103,12 @@ returns-clause-went g c rows stands =
     let at = c.place.ensures.rows rows stands.keeps in let total = o.total in
     c.read_summary.ensures.went (176 * (slot_total rows + 1))
     (omega (arith, at, total, c.from.ensures, c.place.ensures.within, c.if-end-self.false, kept.days.ok.0, total_kept kept.days.items kept.count kept.tail rows stands.keeps))
+
+pub returns-clause-bounds : goal.returns-clause-bounds
+returns-clause-bounds g c =
+    let kept = c.args.self.now.kept in
+    let few : c.rows_to-end.result - c.rows_before-first.result ≤ 1441 = ∥∥₁_elim kept.some (hlevel props) (λ p.
+    let size = rows_between p.0 c.args.day c.rows_before-first.result c.rows_to-end.result (c.rows_before-first.ensures p.0 p.1) (c.rows_to-end.ensures p.0 p.1) in
+    let most = few_of c.args.day p.0 p.1.ends.rising in
+    omega (arith, size, most)) in
+    on_summary c.read_summary.result _ _ (λ s h. record { bounds = h.0; rows = omega (arith, h.1, few) }) c.read_summary.ensures.bounds

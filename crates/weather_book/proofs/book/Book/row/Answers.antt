@@ -16,7 +16,7 @@ returns-in-Done-clause-row g c rows stands x told =
     let same : slot_total rows ≡ slot_count self.log = omega (arith, self.counted, total_kept kept.days.items kept.count kept.tail rows keeps, kept.days.ok.0) in
     let log = subst (λ (n : ℕ). StandsToRead m n c.args.disk.now stands.slots) same stands.log in
     let at = place_is (map (as_read stands.version) stands.slots) rows c.args.n c.place-place.result stands.rows_are (omega (arith, c.requires, keeps.count_is)) (c.place-place.ensures.rows rows keeps) in
-    at.1 ∙ ap Some (sym (c.row_of.ensures at.0 (slot_row (get_or stands.slots c.place-place.result []) c.slot.new.buf at.0 (c.in-Done.ensures.bytes stands.slots log x told)
+    at.1 ∙ ap Some (sym (c.row_of.ensures.row at.0 (slot_row (get_or stands.slots c.place-place.result []) c.slot.new.buf at.0 (c.in-Done.ensures.bytes stands.slots log x told)
     (row_read stands.version (get_or stands.slots c.place-place.result []) at.0 (ap row_in (sym (read_at stands.version stands.slots c.place-place.result)) ∙ at.2)))))
 
 pub returns-in-Done-clause-went : goal.returns-in-Done-clause-went

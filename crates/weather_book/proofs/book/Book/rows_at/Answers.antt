@@ -35,3 +35,8 @@ returns-clause-went g c rows stands =
     let self = c.args.self.now in let kept = self.kept in
     c.read_slots.ensures.went (176 * (slot_total rows + 1))
     (omega (arith, c.rest-count.ensures.within, c.place-place.ensures.within, kept.days.ok.0, total_kept kept.days.items kept.count kept.tail rows stands.keeps))
+
+pub returns-clause-some : goal.returns-clause-some
+returns-clause-some g c =
+    on_rows c.read_slots.result _ _
+    (λ e. (omega (arith, e, c.rest-count.ensures.some), omega (arith, e, c.rest-count.ensures.within))) c.read_slots.ensures.count
