@@ -1,0 +1,9 @@
+pub mod Held
+pub mod Lines
+pub mod Progress
+pub mod Ends
+pub mod Pieces
+pub mod NextDay
+pub mod MonthSpan
+pub mod Ascending
+pub mod BegunMonths

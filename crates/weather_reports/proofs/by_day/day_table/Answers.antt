@@ -1,0 +1,110 @@
+use Rattle.std.proofs.Common.{◌≡◌, ◌+◌, ◌∙◌, ℕ, List, length, drop, refl, sym, ap, arith, ◌*◌, true, false}
+use Rattle.std.proofs.lemmas.List.{drop_all}
+use Rattle.std.specs.Prelude.{filter, flat_map}
+use Rattle.disk_model.specs.Disk.{stays_none, stays_joins}
+use Rattle.daily_summary.specs.declared.summary.DaySummary.{DaySummary}
+use Rattle.daily_summary.specs.Summary.{rows_of_day, summary_of}
+use Rattle.weather_book.specs.Days.{days_of}
+use Rattle.weather_book.specs.Rows.{slot_total}
+use Rattle.weather_book.proofs.Looks.{no_look}
+use Rattle.weather_book.proofs.Pieces.{more_reads}
+use Rattle.weather_book.proofs.Standing.{to_read_stays}
+use Rattle.weather_reports.specs.Line.{lines_of}
+use Rattle.weather_reports.specs.Report.{day_lines, day_table_lines, is_among}
+use Rattle.weather_reports.proofs.Progress.{comes_none, comes_on, comes_fails}
+use Rattle.weather_reports.proofs.Ends.{ends_early, ends_whole, none_failed, one_failed}
+use Rattle.weather_reports.proofs.NextDay.{day_passed, day_taken}
+use Rattle.weather_reports.proofs.by_day.day_table.Goals as goal
+
+pub loop-n-init : goal.loop-n-init
+loop-n-init g c = record {
+  room = omega (arith, ap length c.new-pending.ensures);
+  faults = refl;
+  disk = omega arith;
+  stays = stays_none g.D.Disk.medium c.args.disk.now;
+  went = λ rows stands. no_look g.D.Disk.medium (176 * (slot_total rows + 1)) c.args.disk.now;
+  lines = λ rows stands x told.
+      rw c.new-pending.ensures (comes_none (g.K.Sink.outlet.taken c.args.out.now) (day_table_lines c.args.first c.args.last rows));
+}
+
+pub loop-n-preserved-then-not-is_among : goal.loop-n-preserved-then-not-is_among
+loop-n-preserved-then-not-is_among g c =
+    let i = c.loop-n.invariant in
+    record {
+      room = i.room;
+      faults = i.faults;
+      disk = i.disk;
+      stays = i.stays;
+      went = i.went;
+      lines = λ rows stands x told.
+          rw (day_passed (is_among c.args.first c.args.last) (days_of rows) c.loop-n.n c.day_at-day.result.0
+          (c.day_at-day.ensures.day rows stands.stands_for) (sym c.is_among.ensures ∙ c.if-not-is_among.true)) at (i.lines rows stands x told);
+    }
+
+pub returns-in_default-clause-lines : goal.returns-in_default-clause-lines
+returns-in_default-clause-lines g c rows stands x told =
+    let text : c.deref.result.now ≡ c.loop-n.pending.items = c.deref.ensures.0 in
+    ends_early _ _ _ _ _ c.loop-n.pending.items _ (c.loop-n.invariant.lines rows stands x told)
+    (record { done = λ no. rw text at (c.finish.ensures.done no); failed = λ w. rw text at (c.finish.ensures.failed w (λ e. absurd cc)); kind = c.finish.ensures.kind })
+
+pub returns-in-Failed-clause-lines : goal.returns-in-Failed-clause-lines
+returns-in-Failed-clause-lines g c rows stands x told =
+    let m = g.D.Disk.medium in let i = c.loop-n.invariant in let day = c.day_at-day.result.0 in
+    let p = is_among c.args.first c.args.last in let ahead = flat_map (day_lines rows) (filter p (drop (c.loop-n.n + 1) (days_of rows))) in
+    let among = sym c.is_among.ensures ∙ c.if-not-is_among.false in
+    let before = rw (day_taken p (days_of rows) c.loop-n.n day (c.day_at-day.ensures.day rows stands.stands_for) among) at (i.lines rows stands x told) in
+    let read = c.in-Some.ensures.summary rows (to_read_stays m c.args.book.now _ _ rows stands i.stays) x (i.stays.reads ∙ told) in
+    let lines : lines_of c.day_head.result c.in-Some.summary ≡ day_lines rows day =
+    ap (λ (s : DaySummary). lines_of c.day_head.result s) read
+    ∙ ap (λ (head : List ℕ). lines_of head (summary_of (rows_of_day day rows))) c.day_head.ensures in
+    comes_fails _ _ _ _ (day_lines rows day) ahead c.loop-n.pending.items before (rw lines at (c.print_sums.ensures.failed c.in-Failed.is))
+
+pub loop-n-preserved : goal.loop-n-preserved
+loop-n-preserved g c =
+    let i = c.loop-n.invariant in
+    record {
+      room = c.print_sums.ensures.room;
+      faults = c.print_sums.ensures.still c.in_default-print_sums.not-Failed ∙ i.faults;
+      disk = omega (arith, i.disk, c.summary_of.ensures.cause.never_falls);
+      stays = stays_joins i.stays c.summary_of.ensures.stays;
+      went = λ rows stands. more_reads g.D.Disk.medium (i.went rows stands) (c.in-Some.ensures.went rows stands);
+      lines = λ rows stands x told.
+          let m = g.D.Disk.medium in let day = c.day_at-day.result.0 in
+          let p = is_among c.args.first c.args.last in let ahead = flat_map (day_lines rows) (filter p (drop (c.loop-n.n + 1) (days_of rows))) in
+          let among = sym c.is_among.ensures ∙ c.if-not-is_among.false in
+          let before = rw (day_taken p (days_of rows) c.loop-n.n day (c.day_at-day.ensures.day rows stands.stands_for) among) at (i.lines rows stands x told) in
+          let read = c.in-Some.ensures.summary rows (to_read_stays m c.args.book.now _ _ rows stands i.stays) x (i.stays.reads ∙ told) in
+          let lines : lines_of c.day_head.result c.in-Some.summary ≡ day_lines rows day =
+          ap (λ (s : DaySummary). lines_of c.day_head.result s) read
+          ∙ ap (λ (head : List ℕ). lines_of head (summary_of (rows_of_day day rows))) c.day_head.ensures in
+          comes_on _ _ _ _ (day_lines rows day) ahead c.loop-n.pending.items _ before (rw lines at (c.print_sums.ensures.done c.in_default-print_sums.is));
+    }
+
+pub returns-clause-lines : goal.returns-clause-lines
+returns-clause-lines g c rows stands x told =
+    let text : c.deref-2.result.now ≡ c.loop-n.pending.items = c.deref-2.ensures.0 in
+    let none = drop_all c.loop-n.n (days_of rows) (omega (arith, c.loop-n-test.false, c.loop-n.auto.n-end, c.days-n-end.ensures.rows rows stands.stands_for)) in
+    let before = rw none at (c.loop-n.invariant.lines rows stands x told) in
+    ends_whole _ _ _ _ c.loop-n.pending.items _ before
+    (record { done = λ no. rw text at (c.finish-2.ensures.done no); failed = λ w. rw text at (c.finish-2.ensures.failed w (λ e. absurd cc)); kind = c.finish-2.ensures.kind })
+
+pub returns-in_default-clause-went : goal.returns-in_default-clause-went
+returns-in_default-clause-went g c rows stands = record {
+  failed = true;
+  by_end = one_failed c.finish.result c.finish.ensures.kind;
+  looked = more_reads g.D.Disk.medium (c.loop-n.invariant.went rows stands) (c.in_default.ensures.went rows stands);
+}
+
+pub returns-in-Failed-clause-went : goal.returns-in-Failed-clause-went
+returns-in-Failed-clause-went g c rows stands = record {
+  failed = false;
+  by_end = tt;
+  looked = more_reads g.D.Disk.medium (c.loop-n.invariant.went rows stands) (c.in-Some.ensures.went rows stands);
+}
+
+pub returns-clause-went : goal.returns-clause-went
+returns-clause-went g c rows stands = record {
+  failed = false;
+  by_end = none_failed c.finish-2.result c.finish-2.ensures.kind;
+  looked = c.loop-n.invariant.went rows stands;
+}

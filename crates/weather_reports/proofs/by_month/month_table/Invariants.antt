@@ -1,0 +1,33 @@
+use Rattle.std.proofs.Common.{◌≡◌, ◌<◌, ◌≤◌, ℤ, List, IfSome, drop, ◌+◌, ◌*◌, false}
+use Rattle.std.specs.Prelude.{filter, flat_map}
+use Rattle.arrayvec.specs.ArrayVec.{array_vec_len}
+use Rattle.causes.specs.Told.{WhereTold}
+use Rattle.disk_model.specs.Disk.{Stays}
+use Rattle.station_base.specs.declared.row.Row.{Row}
+use Rattle.weather_book.specs.Book.{StandsFor}
+use Rattle.weather_book.specs.Days.{days_of}
+use Rattle.gated_log.specs.Calls.{Looked}
+use Rattle.weather_book.specs.Rows.{slot_total}
+use Rattle.weather_book.specs.Stands.{StandsToReadOn}
+use Rattle.weather_reports.specs.declared.printing.TheConstants.{PIECE}
+use Rattle.weather_reports.specs.Begun.{IsBegun, IsInOrder, HasFewRows, months_after}
+use Rattle.weather_reports.specs.Report.{is_among, month_lines, month_table_lines}
+use Rattle.weather_reports.proofs.Progress.{Comes}
+use Rattle.weather_reports.proofs.by_month.month_table.Given as goal
+
+-- the lines of the month that has begun, and of the days that are left, are ahead
+abbrev pub invariant-loop-n : goal.invariant-loop-n
+invariant-loop-n g l = record {
+  room : array_vec_len l.pending < PIECE;
+  faults : g.K.Sink.outlet.faults l.out ≡ g.K.Sink.outlet.faults l.initial.out;
+  disk : g.D.Disk.medium.faults l.initial.disk ≤ g.D.Disk.medium.faults l.disk;
+  stays : Stays g.D.Disk.medium l.initial.disk l.disk;
+  went : (rows : List Row) → StandsFor l.book rows → Looked g.D.Disk.medium (176 * (slot_total rows + 1)) false l.initial.disk l.disk;
+  month : IfSome l.month IsInOrder;
+  few : (rows : List Row) → StandsFor l.book rows → IfSome l.month (HasFewRows rows l.n);
+  lines : (rows : List Row) → StandsToReadOn g.D.Disk.medium l.book l.initial.disk rows
+      → WhereTold (g.D.Disk.medium.seen l.initial.disk) (λ _. (begun : List ℤ) × IsBegun rows begun l.month
+      × Comes (g.K.Sink.outlet.taken l.initial.out) (g.K.Sink.outlet.taken l.out) (month_table_lines l.first l.last rows)
+      (flat_map (month_lines rows) (months_after begun (filter (is_among l.first l.last) (drop l.n (days_of rows)))))
+      l.pending.items);
+}

@@ -1,0 +1,17 @@
+use Rattle.std.proofs.Common.{◌≡◌, ◌<◌, ◌++◌, drop, map}
+use Rattle.arrayvec.specs.ArrayVec.{array_vec_len}
+use Rattle.causes.specs.Written.{Leaves}
+use Rattle.station_base.specs.RowLine.{row_line}
+use Rattle.weather_reports.specs.declared.printing.TheConstants.{PIECE}
+use Rattle.weather_reports.specs.Reported.{text_of}
+use Rattle.weather_reports.proofs.printing.print_rows.Given as goal
+
+-- of the text what waits is left, and what the rows ahead give
+abbrev pub invariant-loop-row : goal.invariant-loop-row
+invariant-loop-row g l = record {
+  room : array_vec_len l.pending < PIECE;
+  faults : g.K.Sink.outlet.faults l.out ≡ g.K.Sink.outlet.faults l.initial.out;
+  left : Leaves (g.K.Sink.outlet.taken l.initial.out) (g.K.Sink.outlet.taken l.out)
+      (l.initial.pending.items ++ text_of (map row_line l.rows))
+      (l.pending.items ++ text_of (map row_line (drop l.row-index l.rows)));
+}

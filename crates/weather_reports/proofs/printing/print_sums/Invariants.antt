@@ -1,0 +1,17 @@
+use Rattle.std.proofs.Common.{◌≡◌, ◌<◌, ◌++◌, drop}
+use Rattle.arrayvec.specs.ArrayVec.{array_vec_len}
+use Rattle.causes.specs.Written.{Leaves}
+use Rattle.weather_reports.specs.declared.printing.TheConstants.{PIECE}
+use Rattle.weather_reports.specs.Line.{lines_from}
+use Rattle.weather_reports.specs.Reported.{text_of}
+use Rattle.weather_reports.proofs.printing.print_sums.Given as goal
+
+-- of the text what waits is left, and what the fields ahead give
+abbrev pub invariant-loop-index : goal.invariant-loop-index
+invariant-loop-index g l = record {
+  room : array_vec_len l.pending < PIECE;
+  faults : g.K.Sink.outlet.faults l.out ≡ g.K.Sink.outlet.faults l.initial.out;
+  left : Leaves (g.K.Sink.outlet.taken l.initial.out) (g.K.Sink.outlet.taken l.out)
+      (l.initial.pending.items ++ text_of (lines_from l.head 0 l.sums))
+      (l.pending.items ++ text_of (lines_from l.head l.index (drop l.index l.sums)));
+}

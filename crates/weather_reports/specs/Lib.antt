@@ -1,0 +1,5 @@
+pub mod Line
+pub mod Months
+pub mod Report
+pub mod Begun
+pub mod Reported

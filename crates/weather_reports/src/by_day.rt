@@ -1,0 +1,51 @@
+ghost use Rattle.std.specs.Prelude.{◌≡◌, ◌≢◌, List};
+ghost use Rattle.causes.specs.Cause.{Cause};
+ghost use Rattle.causes.specs.Told.{WhereTold};
+ghost use Rattle.disk_model.specs.Disk.{Faults, Stays};
+ghost use Rattle.station_base.specs.declared.row.Row.{Row};
+ghost use Rattle.weather_book.specs.Book.{StandsFor};
+ghost use Rattle.weather_book.specs.Stands.{StandsToReadOn};
+ghost use Rattle.weather_reports.specs.Report.{day_table_lines};
+ghost use Rattle.weather_reports.specs.Reported.{ReadsOver, Reports};
+
+use crate::ReportEnd;
+use crate::days::{day_head, is_among, summary_of};
+use crate::printing::{Pending, finish, print_sums};
+use disk_model::Disk;
+use station_base::DayNumber;
+use station_io::{Put, Sink};
+use weather_book::Book;
+
+/// Writes the lines of each of these days that has a row: `day YYYY-MM-DD NAME` and what the values of a field come to,
+/// for each field that has one. A day takes one read.
+pub fn day_table<D: Disk, K: Sink>(
+    book: &Book,
+    disk: &mut D,
+    out: &mut K,
+    first: DayNumber,
+    last: DayNumber,
+) -> ReportEnd
+    ensures lines { (rows : List Row) → StandsToReadOn D.medium book.now disk.old rows
+        → WhereTold (D.medium.seen disk.old) (λ _. Reports (K.outlet.taken out.old) (K.outlet.taken out.new)
+        (day_table_lines first last rows) result) }
+    ensures stays { Stays D.medium disk.old disk.new }
+    ensures went { (rows : List Row) → StandsFor book.now rows → ReadsOver D.medium rows result disk.old disk.new }
+    ensures disk_fault { Faults D.medium disk.old disk.new (result ≡ ReportEnd.DiskFault) }
+    ensures write_fault { Cause (K.outlet.faults out.old) (K.outlet.faults out.new) (result ≡ ReportEnd.WriteFault) }
+    ensures sink_still { result ≢ ReportEnd.WriteFault → K.outlet.faults out.new ≡ K.outlet.faults out.old }
+{
+    let mut pending = Pending::new();
+    for n in 0..book.days() {
+        let day = book.day_at(n);
+        if !is_among(first, last, day) {
+            continue;
+        }
+        let Some(summary) = summary_of(book, disk, day) else {
+            return finish(&pending, ReportEnd::DiskFault, out);
+        };
+        if let Put::Failed = print_sums(&mut pending, &day_head(day), &summary.fields, out) {
+            return ReportEnd::WriteFault;
+        }
+    }
+    finish(&pending, ReportEnd::Done, out)
+}

@@ -1,0 +1,19 @@
+//! Reports over an archive: the lines of its rows, and what they come to by days and by months. None takes memory.
+#![tactic(auto)]
+
+mod by_day;
+mod by_month;
+mod by_row;
+mod days;
+mod end;
+mod line;
+mod month;
+mod printing;
+
+pub use by_day::day_table;
+pub use by_month::month_table;
+pub use by_row::listing;
+pub use end::ReportEnd;
+
+#[cfg(test)]
+mod tests;

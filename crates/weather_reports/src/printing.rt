@@ -1,0 +1,116 @@
+ghost use Rattle.std.specs.Prelude.{◌≡◌, ◌≢◌, ◌⊎◌, ◌+◌, ◌≤◌, ◌<◌, ◌++◌, length, map};
+ghost use Rattle.std.specs.Io.KnownBytes.{Appends};
+ghost use Rattle.arrayvec.specs.ArrayVec.{array_vec_len};
+ghost use Rattle.causes.specs.Cause.{Cause};
+ghost use Rattle.causes.specs.Written.{Leaves, WritesPart};
+ghost use Rattle.station_base.specs.RowLine.{row_line};
+ghost use Rattle.weather_book.specs.Adding.{AreLimited, ArePrintable};
+ghost use Rattle.weather_reports.specs.Line.{lines_from};
+ghost use Rattle.weather_reports.specs.Reported.{text_of};
+
+use crate::ReportEnd;
+use crate::line::sum_line;
+use arrayvec::ArrayVec;
+use daily_summary::FieldSum;
+use station_base::{FIELD_COUNT, FieldId, LINE_ROOM, Row, push_bytes};
+use station_io::{Put, Sink};
+
+// From how many bytes on what is held back is written.
+pub const PIECE: usize = 8192;
+
+// Room for that, and for one more line.
+const ROOM: usize = PIECE + LINE_ROOM;
+
+// Lines that wait to be written.
+pub type Pending = ArrayVec<u8, ROOM>;
+
+// Writes what waits at the end, where there is any.
+pub fn finish<K: Sink>(pending: &[u8], end: ReportEnd, out: &mut K) -> ReportEnd
+    ensures done { result ≢ ReportEnd.WriteFault → Appends (K.outlet.taken out.old) (K.outlet.taken out.new) pending.now }
+    ensures failed { result ≡ ReportEnd.WriteFault → end ≢ ReportEnd.WriteFault
+        → WritesPart (K.outlet.taken out.old) (K.outlet.taken out.new) pending.now }
+    ensures kind { (result ≡ end) ⊎ (result ≡ ReportEnd.WriteFault) }
+    ensures cause { Cause (K.outlet.faults out.old) (K.outlet.faults out.new) (result ≢ end) }
+    ensures still { result ≢ ReportEnd.WriteFault → K.outlet.faults out.new ≡ K.outlet.faults out.old }
+{
+    if pending.is_empty() {
+        return end;
+    }
+    match out.put(pending) {
+        Put::Done => end,
+        Put::Failed => ReportEnd::WriteFault,
+    }
+}
+
+// Appends a line to those that wait, and writes them where they are enough.
+pub fn print_line<K: Sink>(pending: &mut Pending, line: &[u8], out: &mut K) -> Put
+    requires room { array_vec_len pending.old < PIECE }
+    requires short { length line.now ≤ LINE_ROOM }
+    ensures room { array_vec_len pending.new < PIECE }
+    ensures done { result ≡ Put.Done
+        → Leaves (K.outlet.taken out.old) (K.outlet.taken out.new) (pending.old.items ++ line.now) pending.new.items }
+    ensures failed { result ≡ Put.Failed
+        → WritesPart (K.outlet.taken out.old) (K.outlet.taken out.new) (pending.old.items ++ line.now) }
+    ensures cause { Cause (K.outlet.faults out.old) (K.outlet.faults out.new) (result ≡ Put.Failed) }
+    ensures still { result ≢ Put.Failed → K.outlet.faults out.new ≡ K.outlet.faults out.old }
+{
+    push_bytes(pending, line);
+    if pending.len() < PIECE {
+        return Put::Done;
+    }
+    let answer = out.put(pending.as_slice());
+    pending.clear();
+    answer
+}
+
+// Prints the line of each row.
+pub fn print_rows<K: Sink>(pending: &mut Pending, rows: &[Row], out: &mut K) -> Put
+    requires room { array_vec_len pending.old < PIECE }
+    requires printable { ArePrintable rows.now }
+    requires limited { AreLimited rows.now }
+    ensures room { array_vec_len pending.new < PIECE }
+    ensures done { result ≡ Put.Done → Leaves (K.outlet.taken out.old) (K.outlet.taken out.new)
+        (pending.old.items ++ text_of (map row_line rows.now)) pending.new.items }
+    ensures failed { result ≡ Put.Failed → WritesPart (K.outlet.taken out.old) (K.outlet.taken out.new)
+        (pending.old.items ++ text_of (map row_line rows.now)) }
+    ensures cause { Cause (K.outlet.faults out.old) (K.outlet.faults out.new) (result ≡ Put.Failed) }
+    ensures still { result ≢ Put.Failed → K.outlet.faults out.new ≡ K.outlet.faults out.old }
+{
+    for row in rows {
+        let line = row.line();
+        if let Put::Failed = print_line(pending, &line, out) {
+            return Put::Failed;
+        }
+    }
+    Put::Done
+}
+
+// Prints the line of each field that has a value.
+pub fn print_sums<K: Sink>(
+    pending: &mut Pending,
+    head: &[u8],
+    sums: &[Option<FieldSum>; FIELD_COUNT],
+    out: &mut K,
+) -> Put
+    requires room { array_vec_len pending.old < PIECE }
+    requires head { length head.now ≤ 16 }
+    ensures room { array_vec_len pending.new < PIECE }
+    ensures done { result ≡ Put.Done → Leaves (K.outlet.taken out.old) (K.outlet.taken out.new)
+        (pending.old.items ++ text_of (lines_from head.now 0 sums.now)) pending.new.items }
+    ensures failed { result ≡ Put.Failed → WritesPart (K.outlet.taken out.old) (K.outlet.taken out.new)
+        (pending.old.items ++ text_of (lines_from head.now 0 sums.now)) }
+    ensures cause { Cause (K.outlet.faults out.old) (K.outlet.faults out.new) (result ≡ Put.Failed) }
+    ensures still { result ≢ Put.Failed → K.outlet.faults out.new ≡ K.outlet.faults out.old }
+{
+    for (index, sum) in sums.iter().enumerate() {
+        let Some(sum) = sum else {
+            continue;
+        };
+        let field = FieldId::from_index(index).unwrap();
+        let line = sum_line(head, field, sum);
+        if let Put::Failed = print_line(pending, &line, out) {
+            return Put::Failed;
+        }
+    }
+    Put::Done
+}
