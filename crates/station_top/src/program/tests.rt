@@ -160,13 +160,33 @@ fn settings_are_judged_before_the_pages_and_correct_their_rows(
     let words = ["pages", "settings", "dump"];
     let row =
         "row 2024-07-01 00:05 5 outTemp=650 rain=0 highRainRate=0 windSamples=0 windGust=0 ET=0\n";
-    let kept = "row 2024-07-01 00:05 10 rain=0 highRainRate=0 windSamples=0 windGust=0 ET=0\n";
+    let kept =
+        "row 2024-07-01 00:05 10 outTemp=limit rain=0 highRainRate=0 windSamples=0 windGust=0 ET=0\n";
+    let limited =
+        "row 2024-07-01 00:05 5 outTemp=limit rain=0 highRainRate=0 windSamples=0 windGust=0 ET=0\n";
+    let later =
+        "row 2024-07-01 00:05 5 outTemp=653 rain=0 highRainRate=0 windSamples=0 windGust=0 ET=0\n";
     let cases = [
         ("period = 5", 0, row),
         (
             "period = 10\n[calibration.outTemp]\nadd = 1\n[limits.outTemp]\ngreatest = 650",
             0,
             kept,
+        ),
+        (
+            "[calibration.outTemp]\nadd = 651\n[limits.outTemp]\ngreatest = 1300",
+            0,
+            limited,
+        ),
+        (
+            "[[change]]\nfrom = '2024-07-01 00:05'\n[change.calibration.outTemp]\nadd = 3",
+            0,
+            later,
+        ),
+        (
+            "[[change]]\nfrom = '2024-07-01 00:10'\n[[change]]\nfrom = '2024-07-01 00:10'",
+            2,
+            "settings change order 1\n",
         ),
         ("perod = 5", 2, "settings unknown key top - 0\n"),
         ("period = 7", 2, "settings bad period\n"),
