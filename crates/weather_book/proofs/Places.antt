@@ -10,8 +10,14 @@ use Rattle.row_slot.specs.Slot.{row_in, is_marked, row_of}
 use Rattle.byteorder.specs.Endian.{little_number}
 use Rattle.gated_log.specs.Log.{unmarked}
 use Rattle.gated_log.specs.Stands.{IsSlot}
+use Rattle.gated_log.specs.declared.version.Version.{Version}
 use Rattle.station_base.specs.CivilMinute.{CivilMinute}
-use Rattle.weather_book.specs.Rows.{rows_with, shown_with, slot_total, rows_from, holds}
+use Rattle.station_base.specs.RowLine.{blank_row}
+use Rattle.std.specs.Option.{unwrap_or}
+use Rattle.weather_book.specs.ReadBack.{row_back, rows_back, slot_in}
+use Rattle.weather_book.specs.Rows.{rows_with, shown_with, slot_total, rows_from, holds, as_read}
+use Rattle.weather_book.proofs.Pieces.{slot_of_piece}
+use Rattle.weather_book.proofs.Versions.{row_read}
 use Rattle.weather_book.proofs.RowLaws.{AreRight, rows_to, shown_to, from_holds, count_right, shown_to_join}
 
 abbrev pub with_found : Option Row → List Row → List Row
@@ -162,10 +168,38 @@ row_unmarked slot row is = by slot (marked (is_marked slot) _ _ _ _ _ is)
         let d0 : d ≡ 0 = omega (arith, n, m) in
         ap (λ (x : ℕ). x ∷ b ∷ 0 ∷ 0 ∷ rest) (sym a0) ∙ ap (λ (x : ℕ). a ∷ b ∷ x ∷ 0 ∷ rest) (sym c0) ∙ ap (λ (x : ℕ). a ∷ b ∷ c ∷ x ∷ rest) (sym d0)
 
--- so the row of a slot can be read of the bytes that a log gives
-pub slot_row : (slot bytes : List ℕ) (row : Row) → IsSlot slot bytes → row_in slot ≡ Some row → row_in (unmarked bytes) ≡ Some row
-slot_row slot bytes row (inl same) is = let e : row_in bytes ≡ Some row = ap row_in (sym same) ∙ is in ap row_in (row_unmarked bytes row e) ∙ e
-slot_row slot bytes row (inr same) is = ap row_in (sym same) ∙ is
+-- so the bytes that a log gives are the slot's, with gate and number aside
+slot_unmarked : (slot bytes : List ℕ) (row : Row) → IsSlot slot bytes → row_in slot ≡ Some row → unmarked bytes ≡ slot
+slot_unmarked slot bytes row (inl same) is = ap unmarked (sym same) ∙ row_unmarked slot row is
+slot_unmarked slot bytes row (inr same) is = sym same
+
+-- and its row is read back of them
+pub slot_row : (v : Version) (slot bytes : List ℕ) (row : Row) → IsSlot slot bytes → row_in (as_read v slot) ≡ Some row → row_back v bytes ≡ row
+slot_row v slot bytes row here is =
+    ap (row_back_of v) (slot_unmarked slot bytes row here (row_read v slot row is)) ∙ ap (λ (o : Option Row). unwrap_or o blank_row) is
+  where
+    row_back_of : Version → List ℕ → Row
+    row_back_of v slot = unwrap_or (row_in (as_read v slot)) blank_row
+
+back_behind : (v : Version) (file : List ℕ) (n count : ℕ) → rows_back v file n (suc count) ≡ rows_back v file n count ++ row_back v (slot_in file (n + count)) ∷ []
+back_behind v file n zero = ap (λ (k : ℕ). row_back v (slot_in file k) ∷ []) (let e : n ≡ n + 0 = omega arith in e)
+back_behind v file n (suc count) =
+    ap (λ (xs : List Row). row_back v (slot_in file n) ∷ xs) (back_behind v file (n + 1) count
+    ∙ ap (λ (k : ℕ). rows_back v file (n + 1) count ++ row_back v (slot_in file k) ∷ []) (let e : n + 1 + count ≡ n + suc count = omega arith in e))
+
+-- one row more of those that are read back from slot n on
+pub back_more : (v : Version) (file : List ℕ) (n count : ℕ) (row : Row) (items more : List Row) → row ≡ row_back v (slot_in file (n + count)) → items ≡ rows_back v file n count
+    → more ≡ items ++ row ∷ [] → more ≡ rows_back v file n (count + 1)
+back_more v file n count row items more is were push =
+    push ∙ ap (λ (xs : List Row). xs ++ row ∷ []) were ∙ ap (λ (r : Row). rows_back v file n count ++ r ∷ []) is ∙ sym (back_behind v file n count)
+    ∙ ap (rows_back v file n) (let s : suc count ≡ count + 1 = omega arith in s)
+
+-- slot k of those that one read from slot n on gives
+pub slot_read : (file bytes : List ℕ) (n k count : ℕ) → bytes ≡ take (length bytes) (drop (176 * (n + 1)) file) → length bytes ≡ 176 * count → k < count
+    → take 176 (drop (176 * k) bytes) ≡ slot_in file (n + k)
+slot_read file bytes n k count is long lt =
+    ap (λ (xs : List ℕ). take 176 (drop (176 * k) xs)) (sym (append-nil bytes)) ∙ slot_of_piece bytes [] file (176 * (n + 1)) k count is long lt
+    ∙ ap (λ (j : ℕ). take 176 (drop j file)) (let e : 176 * (n + 1) + 176 * k ≡ 176 * (n + k + 1) = omega arith in e)
 
 -- one row more of those from number n on
 pub pushed : (rows : List Row) (n k : ℕ) (row one : Row) (items more : List Row) → slice_get rows (n + k) ≡ Some row → one ≡ row → items ≡ take k (drop n rows) → more ≡ items ++ one ∷ [] → more ≡ take (k + 1) (drop n rows)

@@ -1,5 +1,5 @@
 -- Slots as the version of their archive reads them.
-use Rattle.std.proofs.Common.{◌≡◌, ℕ, zero, suc, ℤ, ◌+◌, ◌<◌, ◌==◌, ◌&&◌, Bool, true, false, cond, List, [], ◌∷◌, map, get_or, Option, Some, None, refl, sym, ◌∙◌, ap}
+use Rattle.std.proofs.Common.{◌≡◌, ℕ, zero, suc, ℤ, ◌+◌, ◌&&◌, Bool, true, false, cond, List, [], ◌∷◌, map, get_or, Some, None, refl, sym, ◌∙◌, ap}
 use Rattle.std.specs.Prelude.{nat_lt, length}
 use Rattle.std.specs.Str.{bytes_eq}
 use Rattle.daily_summary.specs.declared.summary.DaySummary.{DaySummary}
@@ -7,14 +7,12 @@ use Rattle.station_base.specs.declared.row.Row.{Row}
 use Rattle.row_slot.specs.Slot.{row_in}
 use Rattle.gated_log.specs.Log.{log_of, unmarked}
 use Rattle.gated_log.specs.Log as log
-use Rattle.gated_log.specs.Stands.{Has}
 use Rattle.gated_log.specs.Version.{version_of}
 use Rattle.gated_log.specs.declared.version.Version.{Version}
 use Rattle.gated_log.specs.declared.version.Version.TheVariants.{First, Second}
 use Rattle.weather_book.specs.Closed.{IsClosedAt}
 use Rattle.weather_book.specs.Closing.{closing_slot, summary_slot}
-use Rattle.weather_book.specs.Rows.{holds, damaged, rows_from, rows_of_log, rows_of, is_known, as_read, is_right, is_closing}
-use Rattle.weather_book.specs.Stands.{HasRows}
+use Rattle.weather_book.specs.Rows.{rows_from, rows_of_log, rows_of, is_known, as_read, is_right}
 
 -- in the second version each slot is read as it stands
 pub read_second : (slots : List (List ℕ)) → map (as_read Second) slots ≡ slots
@@ -39,6 +37,10 @@ read_at v (slot ∷ slots) (suc i) = read_at v slots i
 no_row : row_in [] ≡ None
 unfolding row_in
 no_row = refl
+
+-- a slot that is none of its version has no row
+pub unknown_none : (known : Bool) (slot : List ℕ) → known ≡ false → row_in (cond known slot []) ≡ None
+unknown_none known slot is = ap (λ (b : Bool). row_in (cond b slot [])) is ∙ no_row
 
 row_by : (known : Bool) (slot : List ℕ) (row : Row) → row_in (cond known slot []) ≡ Some row → row_in slot ≡ Some row
 row_by true slot row is = is

@@ -1,9 +1,8 @@
-ghost use Rattle.std.specs.Prelude.{ℕ, ℤ, All, false, ◌≡◌, ◌≤◌, ◌+◌, ◌*◌, ◌/◌, [], ◌∷◌, List, Some, length, take, drop};
+ghost use Rattle.std.specs.Prelude.{ℕ, ℤ, All, IfSome, false, ◌≡◌, ◌≤◌, ◌+◌, ◌*◌, ◌/◌, [], ◌∷◌, List, Some, length, take, drop};
 ghost use Rattle.causes.specs.Told.{WhereTold};
 ghost use Rattle.disk_model.specs.Disk.{Stays, Faults, Looks};
 ghost use Rattle.gated_log.specs.Calls.{Looked};
-ghost use Rattle.gated_log.specs.GatedLog.{slot_count};
-ghost use Rattle.gated_log.specs.Log.{unmarked};
+ghost use Rattle.gated_log.specs.GatedLog.{slot_count, log_version};
 ghost use Rattle.gated_log.specs.Stands.{StandsToRead};
 ghost use Rattle.row_slot.specs.Slot.{row_in};
 ghost use Rattle.station_base.specs.FieldSet.{AreMissing};
@@ -14,38 +13,50 @@ ghost use Rattle.daily_summary.specs.Bounds.{IsInBounds};
 ghost use Rattle.daily_summary.specs.declared.summary.DaySummary.{DaySummary};
 ghost use Rattle.weather_book.specs.Closed.{IsClosedAt, parts_at};
 ghost use Rattle.weather_book.specs.Packed.{AreRowsAt};
+ghost use Rattle.weather_book.specs.ReadBack.{row_back, rows_back};
+ghost use Rattle.weather_book.specs.Rows.{as_read};
 ghost use Rattle.weather_book.specs.Start.{OnRows, OnSummary, day_failed, has_no_rows, rows_failed};
 
-use crate::tail::{PART, without_marks};
+use crate::tail::{PART, is_known, without_marks};
 use crate::{DayAnswer, RowsAnswer};
 use arrayvec::ArrayVec;
 use daily_summary::{DaySummary, PART_COUNT, PART_SIZE, PARTS_SIZE};
 use disk_model::{Disk, Disked};
-use gated_log::{GatedLog, SLOT_SIZE};
+use gated_log::{GatedLog, SLOT_SIZE, Version};
 use station_base::Row;
 
-// The row of a slot, its gate and the number of its batch's slots aside. Of a slot that has none the `Default` row.
-pub(crate) fn row_of(slot: &[u8; SLOT_SIZE]) -> Row
-    ensures row { (row : Row) → row_in (unmarked slot.now) ≡ Some row → result ≡ row }
+// The row of a slot as its version reads it, and none where it is ill-formed.
+fn read_as(version: Version, slot: &[u8; SLOT_SIZE]) -> Option<Row>
+    ensures row { result ≡ row_in (as_read version slot.now) }
+    ensures printable { IfSome result (λ row. All IsPrintable row.values) }
+    ensures limited { IfSome result (λ row. AreMissing row.limited row.values) }
+{
+    let known = is_known(version, slot);
+    if known { row_slot::read(slot) } else { None }
+}
+
+// The same with its gate and the number of its batch's slots aside, and the `Default` row where it is ill-formed.
+pub(crate) fn row_of(version: Version, slot: &[u8; SLOT_SIZE]) -> Row
+    ensures row { result ≡ row_back version slot.now }
     ensures printable { All IsPrintable result.values }
     ensures limited { AreMissing result.limited result.values }
 {
-    match row_slot::read(&without_marks(slot)) {
+    match read_as(version, &without_marks(slot)) {
         Some(row) => row,
         None => Row::default(),
     }
 }
 
 // The row of slot `k` of these.
-fn row_at(bytes: &[u8], k: usize) -> Row
+fn row_at(version: Version, bytes: &[u8], k: usize) -> Row
     requires { 176 * (k + 1) ≤ length bytes.now }
-    ensures row { (row : Row) → row_in (unmarked (take 176 (drop (176 * k) bytes.now))) ≡ Some row → result ≡ row }
+    ensures row { result ≡ row_back version (take 176 (drop (176 * k) bytes.now)) }
     ensures printable { All IsPrintable result.values }
     ensures limited { AreMissing result.limited result.values }
 {
     let mut slot = [0; SLOT_SIZE];
     slot.copy_from_slice(&bytes[SLOT_SIZE * k..SLOT_SIZE * k + SLOT_SIZE]);
-    row_of(&slot)
+    row_of(version, &slot)
 }
 
 // Reads so many slots from number `place` on, and pushes the row of each.
@@ -62,8 +73,11 @@ pub(crate) fn read_slots<D: Disk>(
     requires size { length bytes.old ≡ 176 * count }
     requires within { place + count ≤ slot_count log.now }
     requires empty { into.old.items ≡ [] }
+    ensures file { OnRows result (WhereTold (D.medium.seen disk.old)
+        (λ c. into.new.items ≡ rows_back (log_version log.now) c place count)) }
     ensures rows { OnRows result ((rows : List Row) (n : ℕ) (slots : List (List ℕ)) → StandsToRead D.medium (slot_count log.now) disk.old slots
-        → AreRowsAt slots place rows n count → WhereTold (D.medium.seen disk.old) (λ _. into.new.items ≡ take count (drop n rows))) }
+        → AreRowsAt (log_version log.now) slots place rows n count
+        → WhereTold (D.medium.seen disk.old) (λ _. into.new.items ≡ take count (drop n rows))) }
     ensures none { result ≡ RowsAnswer.DiskFault → into.new.items ≡ [] }
     ensures count { OnRows result (length into.new.items ≡ count) }
     ensures printable { ArePrintable into.new.items }
@@ -77,8 +91,9 @@ pub(crate) fn read_slots<D: Disk>(
         Disked::Done => {}
         Disked::Failed => return RowsAnswer::DiskFault,
     }
+    let version = log.version();
     for k in 0..count {
-        into.push(row_at(bytes, k));
+        into.push(row_at(version, bytes, k));
     }
     RowsAnswer::Done
 }

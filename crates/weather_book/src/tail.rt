@@ -182,7 +182,7 @@ impl Tail {
 }
 
 // Whether a slot may stand in an archive of this version, which is a question to a row alone.
-fn is_known(version: Version, slot: &[u8; SLOT_SIZE]) -> bool
+pub(crate) fn is_known(version: Version, slot: &[u8; SLOT_SIZE]) -> bool
     ensures { result ≡ is_known version slot.now }
 {
     match version {

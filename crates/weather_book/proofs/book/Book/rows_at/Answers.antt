@@ -1,12 +1,14 @@
 use Rattle.std.proofs.Common.{◌≡◌, ◌+◌, ◌*◌, ℕ, take, drop, ◌∙◌, ap, subst, arith, sym, map, []}
-use Rattle.gated_log.specs.GatedLog.{slot_count}
+use Rattle.gated_log.specs.GatedLog.{slot_count, log_version}
 use Rattle.gated_log.specs.Stands.{StandsToRead}
 use Rattle.weather_book.specs.declared.answers.RowsAnswer.{RowsAnswer}
 use Rattle.weather_book.specs.declared.answers.RowsAnswer.TheVariants as rows
 use Rattle.std.specs.Prelude.{get_or}
 use Rattle.row_slot.specs.Slot.{row_in}
 use Rattle.weather_book.specs.Rows.{slot_total, as_read}
-use Rattle.weather_book.proofs.Versions.{row_read, read_at}
+use Rattle.gated_log.specs.declared.version.Version.{Version}
+use Rattle.weather_book.specs.ReadBack.{rows_back, slot_number}
+use Rattle.weather_book.proofs.Versions.{read_at}
 use Rattle.weather_book.specs.Start.{OnRows}
 use Rattle.weather_book.proofs.Places.{place_is}
 use Rattle.weather_book.proofs.KeptLaws.{total_kept}
@@ -26,9 +28,20 @@ returns-clause-rows g c =
     h rows c.args.n stands.slots log
     (λ k lt.
     let at = place_is (map (as_read stands.version) stands.slots) rows (c.args.n + k) (c.place-place.result + k) stands.rows_are (omega (arith, lt, c.rest-count.ensures.within, keeps.count_is))
-    (let p = c.place-place.ensures.rows rows keeps in let q = c.rest-count.ensures.place rows keeps k lt in omega (arith, p, q)) in
-    (at.0, at.1, row_read stands.version (get_or stands.slots (c.place-place.result + k) []) at.0 (ap row_in (sym (read_at stands.version stands.slots (c.place-place.result + k))) ∙ at.2))) x told
+    (let p = c.place-place.ensures.rows rows keeps in let q = c.rest-count.ensures.place rows keeps k lt in omega (arith, p, q)) in (
+      at.0,
+      at.1,
+      ap (λ (v : Version). row_in (as_read v (get_or stands.slots (c.place-place.result + k) []))) (stands.version_is x told)
+          ∙ ap row_in (sym (read_at stands.version stands.slots (c.place-place.result + k))) ∙ at.2,
+    )) x told
     ∙ ap (λ (n : ℕ). take n (drop c.args.n rows)) (c.rest-count.ensures.rows rows keeps)) c.read_slots.ensures.rows
+
+pub returns-clause-file : goal.returns-clause-file
+returns-clause-file g c =
+    let v = log_version c.args.self.now.log in
+    on_rows c.read_slots.result _ _ (λ h rows stands x told.
+    let place : c.place-place.result ≡ slot_number rows c.args.n = omega (arith, c.place-place.ensures.rows rows stands.keeps) in
+    h x told ∙ ap (λ (p : ℕ). rows_back v x p c.rest-count.result) place ∙ ap (rows_back v x (slot_number rows c.args.n)) (c.rest-count.ensures.rows rows stands.keeps)) c.read_slots.ensures.file
 
 pub returns-clause-went : goal.returns-clause-went
 returns-clause-went g c rows stands =

@@ -1,0 +1,7 @@
+use Rattle.std.proofs.Common.{sym, ◌∙◌}
+use Rattle.weather_book.specs.Rows.{is_known}
+use Rattle.weather_book.proofs.Versions.{unknown_none}
+use Rattle.weather_book.proofs.slots.read_as.Goals as goal
+
+pub returns-else-known-clause-row : goal.returns-else-known-clause-row
+returns-else-known-clause-row c = sym (unknown_none (is_known c.args.version c.args.slot.now) c.args.slot.now (sym c.is_known-known.ensures ∙ c.if-known.false))
