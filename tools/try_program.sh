@@ -52,6 +52,17 @@ expect 'missing settings' 8 'read fault'
 run pages .
 expect 'a folder' 8 'read fault'
 
+run report missing.archive days 2024-07-01 2024-07-31
+expect 'an archive that is not there' 7 'disk fault'
+run report first.pages days 2024-07-01 2024-07-31
+expect 'an archive that is none' 11 "not an archive $(head -c 8 first.pages | od -An -tx1 | tr -d ' \n')"
+run report first.pages days 2024-07-31 2024-07-01
+expect 'days that fall' 1 usage
+[ -e missing.archive ]
+status=$?
+output=
+expect 'a report makes no archive' 1 ''
+
 head -c 16777216 /dev/zero | tr '\0' '\1' >longest
 run pages longest
 expect '16 MiB' 14 'bad page 0'

@@ -1,9 +1,8 @@
 -- How a run ends by the end of its task.
 use Rattle.std.proofs.Common.{◌≡◌, ◌≢◌, ℕ, ◌⊎◌, Some, List, [], ◌∷◌, ◌++◌, refl, sym, ap, ◌∙◌, inl, inr, append-nil, arith}
-use Rattle.std.specs.declared.option.Option.{Option}
 use Rattle.std.proofs.lemmas.List.{append_cancel_left}
 use Rattle.causes.specs.Cause.{Cause}
-use Rattle.console_tasks.specs.TaskTalk.{DoesTask, EndsSo, Fails, HasEnd, IsCutTalk, TaskTalk}
+use Rattle.console_tasks.specs.TaskTalk.{DoesTask, EndsSo, Fails, HasEnd, TaskTalk}
 use Rattle.console_tasks.specs.Exchange.{Exchange}
 use Rattle.console_tasks.specs.declared.end.TaskEnd.{TaskEnd}
 use Rattle.console_tasks.specs.declared.end.TaskEnd.TheVariants as task_end

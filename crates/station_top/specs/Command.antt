@@ -2,16 +2,19 @@
 use Rattle.std.specs.Prelude.{ℕ, if◌then◌else◌, List, [], ◌∷◌, map, bytes_eq, codes, Some, None, option_map}
 use Rattle.std.specs.Borrow.{Bor}
 use Rattle.std.specs.declared.option.Option.{Option}
+use Rattle.station_top.specs.ReportWords.{wanted_in}
 use Rattle.station_top.specs.TaskWords.{task_of}
 use Rattle.station_top.specs.declared.command.Command.{Command}
 use Rattle.station_top.specs.declared.command.Command.TheVariants as read
 use Rattle.station_top.specs.declared.task.Task.{Task}
+use Rattle.station_top.specs.declared.wanted.Wanted.{Wanted}
 
 -- a command, with the names that its words give
 pub data CommandLine : Type 0 where
   pages : List ℕ → CommandLine
   corrected_pages : List ℕ → List ℕ → CommandLine
   task : List ℕ → Task → CommandLine
+  report : List ℕ → Wanted → CommandLine
 
 -- the words, each as its bytes
 abbrev pub texts : List (Bor (List ℕ)) → List (List ℕ)
@@ -28,12 +31,18 @@ abbrev pub task_in : List (List ℕ) → Option CommandLine
 task_in [] = None
 task_in (address ∷ words) = option_map (task address) (task_of words)
 
+-- `ARCHIVE KIND FIRST LAST`
+abbrev pub report_in : List (List ℕ) → Option CommandLine
+report_in (archive ∷ kind ∷ first ∷ last ∷ []) = option_map (report archive) (wanted_in kind first last)
+report_in words = None
+
 -- the command that the words spell, and none where they are outside the table
 abbrev pub command_of : List (List ℕ) → Option CommandLine
 command_of [] = None
 command_of (command ∷ words) =
     if bytes_eq command (codes "pages") then pages_in words
     else if bytes_eq command (codes "task") then task_in words
+    else if bytes_eq command (codes "report") then report_in words
     else None
 
 -- a command that was read, with the texts that it lends
@@ -41,6 +50,7 @@ abbrev pub command_read : Command → CommandLine
 command_read (read.Pages file) = pages file.now
 command_read (read.CorrectedPages settings file) = corrected_pages settings.now file.now
 command_read (read.Task address asked) = task address.now asked
+command_read (read.Report archive wanted) = report archive.now wanted
 
 -- the same where one was read
 abbrev pub line_of : Option Command → Option CommandLine

@@ -46,7 +46,8 @@ abbrev pub MayGoOn : Judged → Type 0
 MayGoOn (refused output) = (output.status ≡ ends.OutOfMemory) ⊎ (output.status ≡ ends.ReadFault)
 MayGoOn (accepted settings) = Unit {0}
 
--- no write has failed yet, and no link
+-- no write has failed yet, no link and no disk
 abbrev pub IsEnding : Judged → Type 0
-IsEnding (refused output) = (output.status ≢ ends.WriteFault) × (output.status ≢ ends.LinkFault)
+IsEnding (refused output) =
+    (output.status ≢ ends.WriteFault) × (output.status ≢ ends.LinkFault) × (output.status ≢ ends.DiskFault)
 IsEnding (accepted settings) = Unit {0}

@@ -8,11 +8,13 @@ pub mod Then
 pub mod Numbers
 pub mod ClockWords
 pub mod TaskWords
+pub mod ReportWords
 pub mod Command
 pub mod Possible
 pub mod TaskText
 pub mod TaskRun
 pub mod GoodFile
+pub mod ReportRun
 pub mod Judged
 pub mod JudgedRead
 pub mod Run

@@ -23,6 +23,10 @@ no_memory = record { text = []; status = ends.OutOfMemory }
 abbrev pub link_fault : Output
 link_fault = record { text = codes "link fault\n"; status = ends.LinkFault }
 
+-- the line of a disk that failed
+abbrev pub disk_fault : Output
+disk_fault = record { text = codes "disk fault\n"; status = ends.DiskFault }
+
 -- A run wrote it all and ends so, or a write failed after a front of it.
 abbrev pub Finishes : Option (List ℕ) → Option (List ℕ) → Output → Status → Type 0
 Finishes old new output status =
@@ -36,8 +40,10 @@ code ends.Usage = 1
 code ends.BadSettings = 2
 code ends.Trouble = 4
 code ends.LinkFault = 6
+code ends.DiskFault = 7
 code ends.ReadFault = 8
 code ends.WriteFault = 9
+code ends.BadArchive = 11
 code ends.OutOfMemory = 12
 code ends.Flood = 13
 code ends.BadPage = 14

@@ -2,7 +2,7 @@
 use Rattle.std.specs.Prelude.{◌≡◌, ◌≤◌, true, length}
 use Rattle.console_tasks.specs.Memory.{AreWithin}
 use Rattle.station_base.specs.ClockTime.{can_be_shown}
-use Rattle.station_top.specs.Command.{CommandLine, pages, corrected_pages, task}
+use Rattle.station_top.specs.Command.{CommandLine, pages, corrected_pages, task, report}
 use Rattle.station_top.specs.declared.task.Task.{Task}
 use Rattle.station_top.specs.declared.task.Task.TheVariants.{Packets, ReadMemory, WriteMemory}
 use Rattle.station_top.specs.declared.task.Task.TheVariants.{ReadClock, SetClock, SetPeriod, Kind}
@@ -22,3 +22,4 @@ abbrev pub IsPossible : CommandLine → Type 0
 IsPossible (pages file) = Unit {0}
 IsPossible (corrected_pages settings file) = Unit {0}
 IsPossible (task address asked) = CanBeMade asked
+IsPossible (report archive wanted) = Unit {0}

@@ -3,6 +3,7 @@ use Rattle.std.specs.Prelude.{ℕ, ◌≡◌, ◌≢◌, ◌⊎◌, ◌≤◌, S
 use Rattle.causes.specs.Told.{WhereTold}
 use Rattle.console_tasks.specs.TaskTalk.{HasEnd, TaskTalk}
 use Rattle.console_tasks.specs.declared.end.TaskEnd.TheVariants as task_end
+use Rattle.disk_model.specs.Medium.{Medium}
 use Rattle.serial_link.specs.Traffic.{Traffic}
 use Rattle.serial_link.specs.declared.talk.TalkItem.{TalkItem}
 use Rattle.settings_file.specs.Reading.{settings_of}
@@ -13,11 +14,12 @@ use Rattle.station_io.specs.declared.files.TextRead.TheVariants as reads
 use Rattle.station_top.specs.declared.status.Status.{Status}
 use Rattle.station_top.specs.declared.status.Status.TheVariants as ends
 use Rattle.station_top.specs.declared.task.Task.{Task}
-use Rattle.station_top.specs.Command.{CommandLine, pages, corrected_pages, task}
+use Rattle.station_top.specs.Command.{CommandLine, pages, corrected_pages, task, report}
 use Rattle.station_top.specs.GoodFile.{IsGoodFile}
 use Rattle.station_top.specs.Judged.{Judged, MayComeOf, refused, accepted, read_fault, too_long}
 use Rattle.station_top.specs.Output.{Output, EndsWith, no_memory}
 use Rattle.station_top.specs.Listing.{listing}
+use Rattle.station_top.specs.ReportRun.{ReportsOn, TellsArchive}
 use Rattle.station_top.specs.Style.{RowStyle, short, corrected}
 use Rattle.station_top.specs.TaskRun.{CallsFor, exchanges_of}
 
@@ -28,11 +30,12 @@ output_of style reads.Failed bytes = read_fault
 output_of style reads.TooLong bytes = too_long
 output_of style reads.OutOfMemory bytes = no_memory
 
--- No file was touched, and no link.
-pub record IsUsage {F S L : Type 0} (outlet : Outlet S)
-    (old : F) (out : S) (link : L) (new : F) (out' : S) (link' : L) (result : ℕ) : Type 0 where
+-- No file was touched, no link, and no disk.
+pub record IsUsage {F S L D : Type 0} (outlet : Outlet S) (old : F) (out : S) (link : L) (disk : D)
+    (new : F) (out' : S) (link' : L) (disk' : D) (result : ℕ) : Type 0 where
   pub untouched : new ≡ old
   pub silent : link' ≡ link
+  pub at_rest : disk' ≡ disk
   pub written : EndsWith outlet (record { text = codes "usage\n"; status = ends.Usage }) out out' result
 
 -- The file was read once, and what came of that was written.
@@ -63,15 +66,18 @@ pub record PrintsCorrected {F S : Type 0} (shelf : Shelf F) (outlet : Outlet S) 
   pub comes : MayComeOf answer text judged
   pub goes_on : GoesOn shelf outlet judged name middle out new out' result
 
--- what each command does: one that prints pages touches no link, and a task no file
-abbrev pub Performs : {F S L : Type 0} → Shelf F → Outlet S → Traffic L → CommandLine
-    → F → S → L → F → S → L → ℕ → Type 0
-Performs shelf outlet traffic (pages file) old out link new out' link' result =
-    (link' ≡ link) × PrintsFile shelf outlet short file old out new out' result
-Performs shelf outlet traffic (corrected_pages settings file) old out link new out' link' result =
-    (link' ≡ link) × PrintsCorrected shelf outlet settings file old out new out' result
-Performs shelf outlet traffic (task address asked) old out link new out' link' result =
-    (new ≡ old) × CallsFor traffic outlet address asked link out link' out' result
+-- what each command does: one that prints pages touches no link and no disk, a task no file and no disk, and a report
+-- no file and no link
+abbrev pub Performs : {F S L D : Type 0} → Shelf F → Outlet S → Traffic L → Medium D → CommandLine
+    → F → S → L → D → F → S → L → D → ℕ → Type 0
+Performs shelf outlet traffic medium (pages file) old out link disk new out' link' disk' result =
+    (link' ≡ link) × (disk' ≡ disk) × PrintsFile shelf outlet short file old out new out' result
+Performs shelf outlet traffic medium (corrected_pages settings file) old out link disk new out' link' disk' result =
+    (link' ≡ link) × (disk' ≡ disk) × PrintsCorrected shelf outlet settings file old out new out' result
+Performs shelf outlet traffic medium (task address asked) old out link disk new out' link' disk' result =
+    (new ≡ old) × (disk' ≡ disk) × CallsFor traffic outlet address asked link out link' out' result
+Performs shelf outlet traffic medium (report archive wanted) old out link disk new out' link' disk' result =
+    (new ≡ old) × (link' ≡ link) × ReportsOn medium outlet archive wanted disk out disk' out' result
 
 -- a text of settings that is not too long and is accepted
 abbrev pub IsAccepted : List ℕ → Type 0
@@ -83,6 +89,14 @@ HasGoodInput shelf (pages file) files = IsSomeAnd (shelf.held files file) IsGood
 HasGoodInput shelf (corrected_pages settings file) files =
     IsSomeAnd (shelf.held files settings) IsAccepted × IsSomeAnd (shelf.held files file) IsGoodFile
 HasGoodInput shelf (task address asked) files = ⊥
+HasGoodInput shelf (report archive wanted) files = ⊥
+
+-- the command is a report, over a disk that tells an archive
+abbrev pub HasArchive : {D : Type 0} → Medium D → CommandLine → D → Type 0
+HasArchive medium (pages file) disk = ⊥
+HasArchive medium (corrected_pages settings file) disk = ⊥
+HasArchive medium (task address asked) disk = ⊥
+HasArchive medium (report archive wanted) disk = TellsArchive medium disk
 
 -- What a link gained is told, and is the talk of the task that is done.
 pub record ShowsDone {L : Type 0} (traffic : Traffic L) (asked : Task) (old new : L) : Type 0 where
@@ -97,17 +111,23 @@ abbrev pub IsShownDone : {L : Type 0} → Traffic L → CommandLine → L → L 
 IsShownDone traffic (pages file) old new = ⊥
 IsShownDone traffic (corrected_pages settings file) old new = ⊥
 IsShownDone traffic (task address asked) old new = ShowsDone traffic asked old new
+IsShownDone traffic (report archive wanted) old new = ⊥
 
 -- the command is a task
 abbrev pub IsTask : CommandLine → Type 0
 IsTask (pages file) = ⊥
 IsTask (corrected_pages settings file) = ⊥
 IsTask (task address asked) = Unit {0}
+IsTask (report archive wanted) = ⊥
 
 -- The command was done, unless a read fault, a write fault or want of memory kept it from that.
 abbrev pub IsDoneOrHindered : Status → Type 0
 IsDoneOrHindered status =
     (status ≡ ends.Done) ⊎ (status ≡ ends.ReadFault) ⊎ (status ≡ ends.WriteFault) ⊎ (status ≡ ends.OutOfMemory)
+
+-- it is no status of a link or a disk that failed
+abbrev pub IsNoCall : Status → Type 0
+IsNoCall status = (status ≢ ends.LinkFault) × (status ≢ ends.DiskFault)
 
 -- Only a run that ends with a read fault or a write fault had a fault of the files.
 abbrev pub FilesStill : {F : Type 0} → Shelf F → Status → F → F → Type 0

@@ -21,7 +21,7 @@ pub fn call_for<L: Link, K: Sink>(address: &str, task: &Task, link: &mut L, out:
     ensures link_fault { Cause (L.traffic.faults link.old) (L.traffic.faults link.new) (result ≡ Status.LinkFault) }
     ensures shortage { Cause (L.traffic.shortages link.old) (L.traffic.shortages link.new)
         (result ≡ Status.OutOfMemory) }
-    ensures kind { result ≢ Status.ReadFault }
+    ensures kind { (result ≢ Status.ReadFault) × (result ≢ Status.DiskFault) }
     ensures write_fault { Cause (K.outlet.faults out.old) (K.outlet.faults out.new) (result ≡ Status.WriteFault) }
     ensures sink_still { result ≢ Status.WriteFault → K.outlet.faults out.new ≡ K.outlet.faults out.old }
     ensures done { ShowsDone L.traffic task.now link.old link.new
@@ -40,7 +40,7 @@ fn make<L: Link, K: Sink>(task: &Task, link: &mut L, out: &mut K) -> Status
     ensures link_fault { Cause (L.traffic.faults link.old) (L.traffic.faults link.new) (result ≡ Status.LinkFault) }
     ensures shortage { Cause (L.traffic.shortages link.old) (L.traffic.shortages link.new)
         (result ≡ Status.OutOfMemory) }
-    ensures kind { result ≢ Status.ReadFault }
+    ensures kind { (result ≢ Status.ReadFault) × (result ≢ Status.DiskFault) }
     ensures write_fault { Cause (K.outlet.faults out.old) (K.outlet.faults out.new) (result ≡ Status.WriteFault) }
     ensures sink_still { result ≢ Status.WriteFault → K.outlet.faults out.new ≡ K.outlet.faults out.old }
     ensures done { ShowsDone L.traffic task.now link.old link.new

@@ -1,7 +1,9 @@
 ghost use Rattle.std.specs.Prelude.{◌≡◌, IfSome};
 
+use crate::report_words::read_wanted;
 use crate::task::Task;
 use crate::task_words::read_task;
+use crate::wanted::Wanted;
 
 /// What the words of the command line ask for.
 #[derive(Debug, Drop)]
@@ -22,6 +24,13 @@ pub enum Command<'a> {
         /// What is asked of it.
         task: Task,
     },
+    /// `report ARCHIVE KIND FIRST LAST`: lines of an archive.
+    Report {
+        /// The name of the archive's file.
+        archive: &'a str,
+        /// Which lines, and of which days.
+        wanted: Wanted,
+    },
 }
 
 impl<'a> Command<'a> {
@@ -33,17 +42,53 @@ impl<'a> Command<'a> {
         ensures command { line_of result ≡ command_of (texts words.now) }
         ensures possible { IfSome result (λ command. IsPossible (command_read command)) }
     {
-        match *words {
-            [command, file] if command == "pages" => Some(Command::Pages(file)),
-            [command, settings, file] if command == "pages" => Some(Command::CorrectedPages {
-                settings,
-                file,
-            }),
-            [command, address, ref task @ ..] if command == "task" => Some(Command::Task {
-                address,
-                task: read_task(task)?,
-            }),
+        let (command, more) = words.split_first()?;
+        match *command {
+            "pages" => read_pages(more),
+            "task" => read_call(more),
+            "report" => read_report(more),
             _ => None,
         }
     }
+}
+
+ghost use Rattle.station_top.specs.Command.{command_read, line_of, pages_in, report_in, task_in, texts};
+ghost use Rattle.station_top.specs.Possible.{IsPossible};
+
+// `FILE`, or `SETTINGS FILE`.
+fn read_pages<'a>(words: &[&'a str]) -> Option<Command<'a>>
+    ensures command { line_of result ≡ pages_in (texts words.now) }
+    ensures possible { IfSome result (λ command. IsPossible (command_read command)) }
+{
+    match *words {
+        [file] => Some(Command::Pages(file)),
+        [settings, file] => Some(Command::CorrectedPages { settings, file }),
+        _ => None,
+    }
+}
+
+// `ADDRESS` and a task.
+fn read_call<'a>(words: &[&'a str]) -> Option<Command<'a>>
+    ensures command { line_of result ≡ task_in (texts words.now) }
+    ensures possible { IfSome result (λ command. IsPossible (command_read command)) }
+{
+    let (address, more) = words.split_first()?;
+    Some(Command::Task {
+        address,
+        task: read_task(more)?,
+    })
+}
+
+// `ARCHIVE KIND FIRST LAST`.
+fn read_report<'a>(words: &[&'a str]) -> Option<Command<'a>>
+    ensures command { line_of result ≡ report_in (texts words.now) }
+    ensures possible { IfSome result (λ command. IsPossible (command_read command)) }
+{
+    let [archive, kind, first, last] = *words else {
+        return None;
+    };
+    Some(Command::Report {
+        archive,
+        wanted: read_wanted(kind, first, last)?,
+    })
 }

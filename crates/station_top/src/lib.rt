@@ -1,4 +1,4 @@
-//! The program, over files, a sink and a link that are handed in.
+//! The program, over files, a sink, a link and a disk that are handed in.
 #![tactic(auto)]
 
 mod asking;
@@ -9,12 +9,15 @@ mod judging;
 mod numbers;
 mod pages;
 mod program;
+mod report_words;
+mod reporting;
 mod status;
 mod style;
 mod task;
 mod task_text;
 mod task_words;
 mod text;
+mod wanted;
 
 pub use program::run;
 pub use status::Status;

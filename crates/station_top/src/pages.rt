@@ -5,6 +5,7 @@ ghost use Rattle.causes.specs.Cause.{Cause};
 ghost use Rattle.station_io.specs.Files.{most_bytes};
 ghost use Rattle.station_top.specs.PageText.{page_text};
 ghost use Rattle.station_top.specs.Output.{Finishes};
+ghost use Rattle.station_top.specs.Run.{IsNoCall};
 ghost use Rattle.station_top.specs.Listing.{bad_page_text, listing};
 ghost use Rattle.station_top.specs.StyleRead.{style_of};
 
@@ -20,7 +21,7 @@ use vantage_frames::{PAGE_SIZE, Page, PageRead, SLOTS, read_page};
 pub fn print_pages<K: Sink>(file: &[u8], style: &Style<'_>, out: &mut K) -> Status
     requires { length file.now ≤ most_bytes }
     ensures ends { Finishes (K.outlet.taken out.old) (K.outlet.taken out.new) (listing (style_of style.now) file.now) result }
-    ensures kind { (result ≢ Status.ReadFault) × (result ≢ Status.LinkFault) }
+    ensures kind { (result ≢ Status.ReadFault) × IsNoCall result }
     ensures cause { Cause (K.outlet.faults out.old) (K.outlet.faults out.new) (result ≡ Status.WriteFault) }
     ensures still { result ≢ Status.WriteFault → K.outlet.faults out.new ≡ K.outlet.faults out.old }
 {

@@ -1,46 +1,53 @@
 ghost use Rattle.std.specs.Prelude.{◌≡◌, ◌≢◌, ◌⊎◌, ◌≤◌, List, ℕ, length, IfSome, IfNone, IsSomeAnd};
 ghost use Rattle.causes.specs.Cause.{Cause, Rose};
+ghost use Rattle.disk_model.specs.Disk.{Faults};
 ghost use Rattle.station_io.specs.Files.{most_bytes};
 ghost use Rattle.station_top.specs.Output.{Finishes, code};
 ghost use Rattle.station_top.specs.Command.{command_of, texts};
 ghost use Rattle.station_top.specs.GoodFile.{IsGoodFile};
 ghost use Rattle.station_top.specs.Judged.{IsEnding, IsReadFault, MayGoOn};
 ghost use Rattle.station_top.specs.JudgedRead.{judged_of};
-ghost use Rattle.station_top.specs.Run.{FilesStill, GoesOn, HasGoodInput, IsAccepted, IsDoneOrHindered, IsShownDone, IsTask, IsUsage, Performs, PrintsCorrected, PrintsFile, output_of};
+ghost use Rattle.station_top.specs.ReportRun.{WentWell};
+ghost use Rattle.station_top.specs.Run.{FilesStill, GoesOn, HasArchive, HasGoodInput, IsAccepted, IsDoneOrHindered, IsNoCall, IsShownDone, IsTask, IsUsage, Performs, PrintsCorrected, PrintsFile, output_of};
 ghost use Rattle.station_top.specs.StyleRead.{style_of};
 
 use crate::calling::call_for;
 use crate::command::Command;
 use crate::judging::{Ending, judge};
 use crate::pages::{finish, print_pages};
+use crate::reporting::report;
 use crate::status::Status;
 use crate::style::Style;
+use disk_model::Disk;
 use serial_link::Link;
 use settings_file::Settings;
 use station_io::{Files, Sink, TextRead};
 use std::alloc::Global;
 
 /// Does what the words say, and answers the status with which the program ends.
-pub fn run<F: Files, K: Sink, L: Link>(
+pub fn run<F: Files, K: Sink, L: Link, D: Disk>(
     alloc: Global,
     words: &[&str],
     files: &mut F,
     out: &mut K,
     link: &mut L,
+    disk: &mut D,
 ) -> u8
-    // Words outside the table are answered by a line of their own, no file is read, and nothing is connected.
+    // Words outside the table are answered by a line of their own, no file is read, and nothing is connected or attached.
     ensures usage { IfNone (command_of (texts words.now))
-        (IsUsage K.outlet files.old out.old link.old files.new out.new link.new result) }
+        (IsUsage K.outlet files.old out.old link.old disk.old files.new out.new link.new disk.new result) }
 
     // The files that the words name are each read once, in the order of the words, the address that they name is called
-    // once, and what came of that decides what is written and how the program ends.
-    ensures command { IfSome (command_of (texts words.now)) (λ command. Performs F.shelf K.outlet L.traffic command
-        files.old out.old link.old files.new out.new link.new result) }
+    // once, the archive that they name is attached once, and what came of that decides what is written and how the
+    // program ends.
+    ensures command { IfSome (command_of (texts words.now)) (λ command. Performs F.shelf K.outlet L.traffic D.medium
+        command files.old out.old link.old disk.old files.new out.new link.new disk.new result) }
 
     // The faults of the outside have a cause.
     ensures read_fault { Cause (F.shelf.faults files.old) (F.shelf.faults files.new) (result ≡ 8) }
     ensures write_fault { Cause (K.outlet.faults out.old) (K.outlet.faults out.new) (result ≡ 9) }
     ensures link_fault { Cause (L.traffic.faults link.old) (L.traffic.faults link.new) (result ≡ 6) }
+    ensures disk_fault { Faults D.medium disk.old disk.new (result ≡ 7) }
 
     // A task takes no memory: it ends for want of it only where the link had none.
     ensures shortage { IfSome (command_of (texts words.now)) (λ command. IsTask command
@@ -50,9 +57,14 @@ pub fn run<F: Files, K: Sink, L: Link>(
     ensures files_still { result ≢ 8 → result ≢ 9 → F.shelf.faults files.new ≡ F.shelf.faults files.old }
     ensures sink_still { result ≢ 9 → K.outlet.faults out.new ≡ K.outlet.faults out.old }
 
+    // Nor did a call of the disk fail. A disk fault whose line could not be written ends with 9.
+    ensures disk_well { result ≢ 7 → result ≢ 9 → WentWell D.medium disk.old disk.new }
+
     // Over good input only such a fault and want of memory keep the command from being done.
     ensures complete { IfSome (command_of (texts words.now)) (λ command. HasGoodInput F.shelf command files.old
         → (result ≡ 0) ⊎ (result ≡ 8) ⊎ (result ≡ 9) ⊎ (result ≡ 12)) }
+    ensures reported { IfSome (command_of (texts words.now)) (λ command. HasArchive D.medium command disk.old
+        → (result ≡ 0) ⊎ (result ≡ 7) ⊎ (result ≡ 9) ⊎ (result ≡ 12)) }
 
     // A task that what was said and heard shows as done ends so, unless its line could not be written.
     ensures done { IfSome (command_of (texts words.now)) (λ command.
@@ -64,6 +76,7 @@ pub fn run<F: Files, K: Sink, L: Link>(
             corrected_pages(alloc, settings, file, files, out)
         }
         Some(Command::Task { address, task }) => call_for(address, &task, link, out),
+        Some(Command::Report { archive, wanted }) => report(alloc, archive, &wanted, disk, out),
         None => finish(b"usage\n", Status::Usage, out),
     };
     status as u8
@@ -79,7 +92,7 @@ fn corrected_pages<F: Files, K: Sink>(
 ) -> Status
     ensures pages { PrintsCorrected F.shelf K.outlet settings.now file.now files.old out.old files.new out.new (code result) }
     ensures read_fault { Cause (F.shelf.faults files.old) (F.shelf.faults files.new) (result ≡ Status.ReadFault) }
-    ensures no_call { result ≢ Status.LinkFault }
+    ensures no_call { IsNoCall result }
     ensures write_fault { Cause (K.outlet.faults out.old) (K.outlet.faults out.new) (result ≡ Status.WriteFault) }
     ensures still { FilesStill F.shelf result files.old files.new }
     ensures sink_still { result ≢ Status.WriteFault → K.outlet.faults out.new ≡ K.outlet.faults out.old }
@@ -105,7 +118,7 @@ fn go_on<F: Files, K: Sink>(
         → IsReadFault (judged_of judged) ⊎ Rose (F.shelf.faults files.old) (F.shelf.faults files.new) }
     ensures reported { IsReadFault (judged_of judged) → (result ≡ Status.ReadFault) ⊎ (result ≡ Status.WriteFault) }
     ensures never_falls { F.shelf.faults files.old ≤ F.shelf.faults files.new }
-    ensures no_call { result ≢ Status.LinkFault }
+    ensures no_call { IsNoCall result }
     ensures write_fault { Cause (K.outlet.faults out.old) (K.outlet.faults out.new) (result ≡ Status.WriteFault) }
     ensures still { FilesStill F.shelf result files.old files.new }
     ensures sink_still { result ≢ Status.WriteFault → K.outlet.faults out.new ≡ K.outlet.faults out.old }
@@ -128,7 +141,7 @@ fn pages<F: Files, K: Sink>(
 ) -> Status
     ensures pages { PrintsFile F.shelf K.outlet (style_of style.now) name.now files.old out.old files.new out.new (code result) }
     ensures read_fault { Cause (F.shelf.faults files.old) (F.shelf.faults files.new) (result ≡ Status.ReadFault) }
-    ensures no_call { result ≢ Status.LinkFault }
+    ensures no_call { IsNoCall result }
     ensures write_fault { Cause (K.outlet.faults out.old) (K.outlet.faults out.new) (result ≡ Status.WriteFault) }
     ensures still { FilesStill F.shelf result files.old files.new }
     ensures sink_still { result ≢ Status.WriteFault → K.outlet.faults out.new ≡ K.outlet.faults out.old }
@@ -145,7 +158,7 @@ fn print_reading<K: Sink>(read: TextRead, bytes: &[u8], style: &Style<'_>, out: 
     ensures ends { Finishes (K.outlet.taken out.old) (K.outlet.taken out.new) (output_of (style_of style.now) read bytes.now) result }
     ensures read_fault { result ≡ Status.ReadFault → read ≡ TextRead.Failed }
     ensures reported { read ≡ TextRead.Failed → (result ≡ Status.ReadFault) ⊎ (result ≡ Status.WriteFault) }
-    ensures no_call { result ≢ Status.LinkFault }
+    ensures no_call { IsNoCall result }
     ensures write_fault { Cause (K.outlet.faults out.old) (K.outlet.faults out.new) (result ≡ Status.WriteFault) }
     ensures sink_still { result ≢ Status.WriteFault → K.outlet.faults out.new ≡ K.outlet.faults out.old }
 {
@@ -159,6 +172,8 @@ fn print_reading<K: Sink>(read: TextRead, bytes: &[u8], style: &Style<'_>, out: 
 
 #[cfg(test)]
 mod console_tests;
+#[cfg(test)]
+mod report_tests;
 #[cfg(test)]
 mod task_tests;
 #[cfg(test)]

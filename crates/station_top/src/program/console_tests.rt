@@ -1,6 +1,7 @@
 use super::*;
 use arrayvec::ArrayVec;
 use console_model::Console;
+use disk_model::MemDisk;
 use eeprom_map::Eeprom;
 use loop_packet::LoopPacket;
 use station_base::Period;
@@ -27,7 +28,8 @@ fn expect(
 ) -> Result<(), Fail> {
     let mut files = MemFiles::new(Vec::new(alloc), Vec::new(alloc));
     let mut sink = MemSink::new(alloc, 300)?;
-    let ended = run(alloc, words, &mut files, &mut sink, sim);
+    let mut disk = MemDisk::new(alloc, 0, 0, 0)?;
+    let ended = run(alloc, words, &mut files, &mut sink, sim, &mut disk);
     assert_eq!(rt; (ended, sink.bytes()), (status, line.as_bytes()));
     Ok(())
 }

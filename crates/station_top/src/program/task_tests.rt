@@ -1,4 +1,5 @@
 use super::*;
+use disk_model::MemDisk;
 use loop_packet::{LoopPacket, write};
 use serial_link::{Connected, ScriptItem, ScriptLink, Side};
 use station_io::{MemFiles, MemSink};
@@ -31,7 +32,8 @@ fn printed(
     let mut files = MemFiles::new(Vec::new(alloc), Vec::new(alloc));
     let mut sink = MemSink::new(alloc, capacity)?;
     let mut link = ScriptLink::new(alloc, items)?;
-    let status = run(alloc, words, &mut files, &mut sink, &mut link);
+    let mut disk = MemDisk::new(alloc, 0, 0, 0)?;
+    let status = run(alloc, words, &mut files, &mut sink, &mut link, &mut disk);
     Ok((status, Vec::from_slice(alloc, sink.bytes())?))
 }
 
@@ -146,7 +148,8 @@ fn refuse(rt: &impl Abort, alloc: Global, words: &[&str]) -> Result<(), Fail> {
     let mut sink = MemSink::new(alloc, 200)?;
     let items = Vec::from_array(alloc, [ScriptItem::SendFails])?;
     let mut link = ScriptLink::new(alloc, items)?;
-    let status = run(alloc, words, &mut files, &mut sink, &mut link);
+    let mut disk = MemDisk::new(alloc, 0, 0, 0)?;
+    let status = run(alloc, words, &mut files, &mut sink, &mut link, &mut disk);
     assert_eq!(rt; (status, sink.bytes()), (1, b"usage\n".as_slice()));
     assert_eq!(rt; link.connect(Side::Call, "a"), Connected::Failed);
     Ok(())

@@ -1,5 +1,6 @@
 use super::*;
 use archive_record::RECORD_SIZE;
+use disk_model::MemDisk;
 use serial_link::ScriptLink;
 use station_io::{MemFile, MemFiles, MemSink};
 use std::alloc::AllocError;
@@ -73,7 +74,8 @@ fn printed(
     let mut files = MemFiles::new(listed, Vec::from_slice(alloc, failing)?);
     let mut sink = MemSink::new(alloc, capacity)?;
     let mut link = ScriptLink::new(alloc, Vec::new(alloc))?;
-    let status = run(alloc, words, &mut files, &mut sink, &mut link);
+    let mut disk = MemDisk::new(alloc, 0, 0, 0)?;
+    let status = run(alloc, words, &mut files, &mut sink, &mut link, &mut disk);
     Ok((status, Vec::from_slice(alloc, sink.bytes())?))
 }
 

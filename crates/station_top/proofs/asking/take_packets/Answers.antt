@@ -1,4 +1,4 @@
-use Rattle.std.proofs.Common.{rules, ap, ◌≡◌, ◌∙◌, [], ◌∷◌, List, map, take, arith}
+use Rattle.std.proofs.Common.{rules, ap, ◌≡◌, ◌∙◌, ◌∷◌, List, map, arith}
 use Rattle.std.proofs.lemmas.List.{take_all}
 use Rattle.std.specs.List.{flat_map}
 use Rattle.loop_packet.specs.Reading.{packet_bytes}
