@@ -7,3 +7,4 @@ pub mod NextDay
 pub mod MonthSpan
 pub mod Ascending
 pub mod BegunMonths
+pub mod Recomputing

@@ -3,3 +3,4 @@ pub mod Months
 pub mod Report
 pub mod Begun
 pub mod Reported
+pub mod Recomputed

@@ -1,5 +1,6 @@
--- The lines of the three reports, over the rows of an archive and the days from a first to a last (this project's texts).
-use Rattle.std.specs.Prelude.{ℕ, ℤ, Bool, int_le, ◌&&◌, List, [], ◌∷◌, ◌++◌, codes, map, filter, flat_map}
+-- The lines of the reports over the rows of an archive, some of them for the days from a first to a last.
+-- (These are this project's texts.)
+use Rattle.std.specs.Prelude.{ℕ, ℤ, Bool, int_le, ◌&&◌, List, [], ◌∷◌, ◌++◌, codes, map, drop, filter, flat_map}
 use Rattle.station_base.specs.DayText.{day_text}
 use Rattle.station_base.specs.RowLine.{row_line}
 use Rattle.station_base.specs.declared.day.DayNumber.{DayNumber}
@@ -12,6 +13,10 @@ use Rattle.weather_reports.specs.Months.{month_text, months_of}
 -- the line of each row of these days
 abbrev pub listing_lines : DayNumber → DayNumber → List Row → List (List ℕ)
 listing_lines first last rows = map row_line (filter (is_within first last) rows)
+
+-- the line of each row from a number on
+abbrev pub later_lines : ℕ → List Row → List (List ℕ)
+later_lines from rows = map row_line (drop from rows)
 
 -- the day is one from the first to the last
 abbrev pub is_among : DayNumber → DayNumber → ℤ → Bool
@@ -28,6 +33,10 @@ day_lines rows day = lines_of (codes "day " ++ day_text day) (summary_of (rows_o
 -- the lines of each of these days
 abbrev pub day_table_lines : DayNumber → DayNumber → List Row → List (List ℕ)
 day_table_lines first last rows = flat_map (day_lines rows) (days_among first last rows)
+
+-- the lines of each day that has a row
+abbrev pub all_day_lines : List Row → List (List ℕ)
+all_day_lines rows = flat_map (day_lines rows) (days_of rows)
 
 -- the rows of days, day by day
 abbrev pub rows_of_days : List Row → List ℤ → List Row

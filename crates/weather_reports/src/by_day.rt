@@ -5,7 +5,7 @@ ghost use Rattle.disk_model.specs.Disk.{Faults, Stays};
 ghost use Rattle.station_base.specs.declared.row.Row.{Row};
 ghost use Rattle.weather_book.specs.Book.{StandsFor};
 ghost use Rattle.weather_book.specs.Stands.{StandsToReadOn};
-ghost use Rattle.weather_reports.specs.Report.{day_table_lines};
+ghost use Rattle.weather_reports.specs.Report.{all_day_lines, day_table_lines};
 ghost use Rattle.weather_reports.specs.Reported.{ReadsOver, Reports};
 
 use crate::ReportEnd;
@@ -48,4 +48,22 @@ pub fn day_table<D: Disk, K: Sink>(
         }
     }
     finish(&pending, ReportEnd::Done, out)
+}
+
+/// The same of all days that have a row.
+pub fn all_days<D: Disk, K: Sink>(book: &Book, disk: &mut D, out: &mut K) -> ReportEnd
+    ensures lines { (rows : List Row) → StandsToReadOn D.medium book.now disk.old rows
+        → WhereTold (D.medium.seen disk.old) (λ _. Reports (K.outlet.taken out.old) (K.outlet.taken out.new)
+        (all_day_lines rows) result) }
+    ensures stays { Stays D.medium disk.old disk.new }
+    ensures went { (rows : List Row) → StandsFor book.now rows → ReadsOver D.medium rows result disk.old disk.new }
+    ensures disk_fault { Faults D.medium disk.old disk.new (result ≡ ReportEnd.DiskFault) }
+    ensures write_fault { Cause (K.outlet.faults out.old) (K.outlet.faults out.new) (result ≡ ReportEnd.WriteFault) }
+    ensures sink_still { result ≢ ReportEnd.WriteFault → K.outlet.faults out.new ≡ K.outlet.faults out.old }
+{
+    let days = book.days();
+    if days == 0 {
+        return ReportEnd::Done;
+    }
+    day_table(book, disk, out, book.day_at(0), book.day_at(days - 1))
 }

@@ -1,11 +1,12 @@
-ghost use Rattle.std.specs.Prelude.{◌≡◌, ◌≢◌, List};
+ghost use Rattle.std.specs.Prelude.{ℕ, ◌≡◌, ◌≢◌, ◌≤◌, ◌-◌, List, map, take, drop};
 ghost use Rattle.causes.specs.Cause.{Cause};
 ghost use Rattle.causes.specs.Told.{WhereTold};
 ghost use Rattle.disk_model.specs.Disk.{Faults, Stays};
+ghost use Rattle.station_base.specs.RowLine.{row_line};
 ghost use Rattle.station_base.specs.declared.row.Row.{Row};
-ghost use Rattle.weather_book.specs.Book.{StandsFor};
+ghost use Rattle.weather_book.specs.Book.{StandsFor, len_of};
 ghost use Rattle.weather_book.specs.Stands.{StandsToReadOn};
-ghost use Rattle.weather_reports.specs.Report.{listing_lines};
+ghost use Rattle.weather_reports.specs.Report.{later_lines, listing_lines};
 ghost use Rattle.weather_reports.specs.Reported.{ReadsOver, Reports};
 
 use crate::ReportEnd;
@@ -35,7 +36,42 @@ pub fn listing<D: Disk, K: Sink>(
     ensures sink_still { result ≢ ReportEnd.WriteFault → K.outlet.faults out.new ≡ K.outlet.faults out.old }
 {
     let (from, count) = book.rows_of(first, last);
-    let end = from + count;
+    rows_between(book, disk, out, from, from + count)
+}
+
+/// Writes the line of each row from this number on, counted from 0, up to the last. There is none where the book has no
+/// more rows. A read brings up to 16 rows.
+pub fn rows_from<D: Disk, K: Sink>(book: &Book, disk: &mut D, out: &mut K, from: u64) -> ReportEnd
+    ensures lines { (rows : List Row) → StandsToReadOn D.medium book.now disk.old rows
+        → WhereTold (D.medium.seen disk.old) (λ _. Reports (K.outlet.taken out.old) (K.outlet.taken out.new)
+        (later_lines from rows) result) }
+    ensures stays { Stays D.medium disk.old disk.new }
+    ensures went { (rows : List Row) → StandsFor book.now rows → ReadsOver D.medium rows result disk.old disk.new }
+    ensures disk_fault { Faults D.medium disk.old disk.new (result ≡ ReportEnd.DiskFault) }
+    ensures write_fault { Cause (K.outlet.faults out.old) (K.outlet.faults out.new) (result ≡ ReportEnd.WriteFault) }
+    ensures sink_still { result ≢ ReportEnd.WriteFault → K.outlet.faults out.new ≡ K.outlet.faults out.old }
+{
+    rows_between(book, disk, out, from, book.len())
+}
+
+// Writes the line of each row from a number on, up to the one before the end.
+fn rows_between<D: Disk, K: Sink>(
+    book: &Book,
+    disk: &mut D,
+    out: &mut K,
+    from: u64,
+    end: u64,
+) -> ReportEnd
+    requires { end ≤ len_of book.now }
+    ensures lines { (rows : List Row) → StandsToReadOn D.medium book.now disk.old rows
+        → WhereTold (D.medium.seen disk.old) (λ _. Reports (K.outlet.taken out.old) (K.outlet.taken out.new)
+        (map row_line (take (end - from) (drop from rows))) result) }
+    ensures stays { Stays D.medium disk.old disk.new }
+    ensures went { (rows : List Row) → StandsFor book.now rows → ReadsOver D.medium rows result disk.old disk.new }
+    ensures disk_fault { Faults D.medium disk.old disk.new (result ≡ ReportEnd.DiskFault) }
+    ensures write_fault { Cause (K.outlet.faults out.old) (K.outlet.faults out.new) (result ≡ ReportEnd.WriteFault) }
+    ensures sink_still { result ≢ ReportEnd.WriteFault → K.outlet.faults out.new ≡ K.outlet.faults out.old }
+{
     let mut pending = Pending::new();
     let mut at = from;
     while at < end {

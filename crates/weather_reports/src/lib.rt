@@ -6,14 +6,16 @@ mod by_month;
 mod by_row;
 mod days;
 mod end;
+mod laws;
 mod line;
 mod month;
 mod printing;
 
-pub use by_day::day_table;
+pub use by_day::{all_days, day_table};
 pub use by_month::month_table;
-pub use by_row::listing;
+pub use by_row::{listing, rows_from};
 pub use end::ReportEnd;
+pub use laws::days_are_recomputed;
 
 #[cfg(test)]
 mod tests;

@@ -208,6 +208,28 @@ month 2024-08 outTemp min 4 at 2024-08-01 00:05 max 4 at 2024-08-01 00:05 sum 4 
 }
 
 #[test]
+fn later_rows_and_all_days_are_listed(rt: HostRuntime) -> Result<(), Fail> {
+    let alloc = rt.alloc();
+    let mut disk = MemDisk::new(alloc, LONGEST, 20, LONGEST)?;
+    let book = three_months(&rt, alloc, &mut disk)?;
+    let mut rows = MemSink::new(alloc, 2_000)?;
+    assert!(rt; rows_from(&book, &mut disk, &mut rows, 4) == ReportEnd::Done);
+    assert!(rt; rows.bytes().is_empty());
+    assert!(rt; rows_from(&book, &mut disk, &mut rows, 3) == ReportEnd::Done);
+    let last = "row 2024-08-01 00:05 5 outTemp=4\n";
+    assert_eq!(rt; rows.bytes(), last.as_bytes());
+    let mut days = MemSink::new(alloc, 2_000)?;
+    assert!(rt; all_days(&book, &mut disk, &mut days) == ReportEnd::Done);
+    let text =
+        "day 2024-06-30 outTemp min 1 at 2024-06-30 12:00 max 2 at 2024-07-01 00:00 sum 3 count 2 wsum 900 sumtime 600
+day 2024-07-31 outTemp min 3 at 2024-07-31 23:55 max 3 at 2024-07-31 23:55 sum 3 count 1 wsum 900 sumtime 300
+day 2024-08-01 outTemp min 4 at 2024-08-01 00:05 max 4 at 2024-08-01 00:05 sum 4 count 1 wsum 1200 sumtime 300
+";
+    assert_eq!(rt; days.bytes(), text.as_bytes());
+    Ok(())
+}
+
+#[test]
 fn a_disk_fault_leaves_whole_lines(rt: HostRuntime) -> Result<(), Fail> {
     let alloc = rt.alloc();
     let mut disk = MemDisk::new(alloc, LONGEST, 20, LONGEST)?;

@@ -1,4 +1,4 @@
-use Rattle.std.proofs.Common.{arith, ap, All, sym, subst, rules, ◌≡◌, pos, ℤ}
+use Rattle.std.proofs.Common.{arith, ap, All, sym, subst}
 use Rattle.std.proofs.lemmas.Int.{ints}
 use Rattle.station_base.specs.RowLine.{IsPrintable}
 use Rattle.station_base.specs.declared.row.Row.{Row}

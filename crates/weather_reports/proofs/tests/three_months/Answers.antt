@@ -1,4 +1,4 @@
-use Rattle.std.proofs.Common.{◌≡◌, ℕ, All, List, [], ◌∷◌}
+use Rattle.std.proofs.Common.{◌≡◌, All, List, [], ◌∷◌}
 use Rattle.std.proofs.lemmas.List.Elements.{All-cons, All-nil}
 use Rattle.station_base.proofs.FieldSets.{none_missing_of}
 use Rattle.station_base.specs.FieldSet.{AreMissing}

@@ -1,10 +1,8 @@
-use Rattle.std.proofs.Common.{All, List, [], ◌∷◌}
+use Rattle.std.proofs.Common.{All, [], ◌∷◌}
 use Rattle.std.proofs.lemmas.List.Elements.{All-cons, All-nil}
-use Rattle.station_base.proofs.FieldSets.{none_missing_of}
 use Rattle.station_base.specs.FieldSet.{AreMissing}
 use Rattle.station_base.specs.RowLine.{IsPrintable}
 use Rattle.station_base.specs.declared.row.Row.{Row}
-use Rattle.weather_book.specs.Adding.{AreLimited, ArePrintable}
 use Rattle.weather_reports.proofs.tests.two_records_are_reported_by_row_day_and_month.Goals as goal
 
 pub archive-requires-clause-printable : goal.archive-requires-clause-printable

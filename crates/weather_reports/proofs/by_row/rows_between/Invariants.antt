@@ -4,20 +4,17 @@ use Rattle.causes.specs.Told.{WhereTold}
 use Rattle.disk_model.specs.Disk.{Stays}
 use Rattle.station_base.specs.RowLine.{row_line}
 use Rattle.station_base.specs.declared.row.Row.{Row}
-use Rattle.weather_book.specs.Book.{StandsFor, len_of}
+use Rattle.weather_book.specs.Book.{StandsFor}
 use Rattle.gated_log.specs.Calls.{Looked}
 use Rattle.weather_book.specs.Rows.{slot_total}
 use Rattle.weather_book.specs.Stands.{StandsToReadOn}
 use Rattle.weather_reports.specs.declared.printing.TheConstants.{PIECE}
-use Rattle.weather_reports.specs.Report.{listing_lines}
 use Rattle.weather_reports.proofs.Progress.{Comes}
-use Rattle.weather_reports.proofs.by_row.listing.Given as goal
+use Rattle.weather_reports.proofs.by_row.rows_between.Given as goal
 
 -- the lines of the rows that are left are ahead
 abbrev pub invariant-loop-at : goal.invariant-loop-at
 invariant-loop-at g l = record {
-  at : l.at ≤ l.end;
-  within : l.end ≤ len_of l.book;
   room : array_vec_len l.pending < PIECE;
   faults : g.K.Sink.outlet.faults l.out ≡ g.K.Sink.outlet.faults l.initial.out;
   disk : g.D.Disk.medium.faults l.initial.disk ≤ g.D.Disk.medium.faults l.disk;
@@ -25,7 +22,7 @@ invariant-loop-at g l = record {
   went : (rows : List Row) → StandsFor l.book rows → Looked g.D.Disk.medium (176 * (slot_total rows + 1)) false l.initial.disk l.disk;
   lines : (rows : List Row) → StandsToReadOn g.D.Disk.medium l.book l.initial.disk rows
       → WhereTold (g.D.Disk.medium.seen l.initial.disk) (λ _. Comes (g.K.Sink.outlet.taken l.initial.out) (g.K.Sink.outlet.taken l.out)
-      (listing_lines l.fn.first l.fn.last rows) (map row_line (take (l.end - l.at) (drop l.at rows))) l.pending.items);
+      (map row_line (take (l.end - l.fn.from) (drop l.fn.from rows))) (map row_line (take (l.end - l.at) (drop l.at rows))) l.pending.items);
 }
 
 abbrev pub decreases-loop-at : goal.decreases-loop-at

@@ -1,0 +1,203 @@
+-- What calls keep of a disk that may stop, and that batches which were kept pass over no stop.
+use Rattle.std.proofs.Common.{◌≡◌, ◌≢◌, ℕ, ◌+◌, ◌-◌, ◌*◌, ◌<◌, ◌≤◌, ◌==◌, Bool, true, false, if◌then◌else◌, List, [], ◌∷◌, ◌++◌, Option, Some, None, refl, sym, ◌∙◌, ap, subst, arith, append-nil, append_assoc}
+use Rattle.std.specs.Prelude.{◌&&◌}
+use Rattle.std.proofs.lemmas.Option.{same_Some}
+use Rattle.disk_model.specs.Calls.{DiskCall, attached, measured, was_read, wrote, synced, answered_failed, is_change}
+use Rattle.disk_model.specs.DiskState.{DiskState, counted, done, next, must_fail, after_call, same_truth, says_size}
+use Rattle.disk_model.specs.StoppingState.{StoppingState, after_stop, and_stop, after_stops, within_stop, where_failed, go_on}
+use Rattle.disk_model.specs.declared.disk.Disked.TheVariants.{Done}
+use Rattle.gated_log.specs.Calls.{up_to, four_changes}
+use Rattle.station_base.specs.declared.row.Row.{Row}
+use Rattle.settings_file.specs.StationSettings.{StationSettings}
+use Rattle.dmpaft_driver.specs.Keeper.{Delivery as Given}
+use Rattle.causes.specs.declared.stored.Stored.{Stored}
+use Rattle.causes.specs.declared.stored.Stored.TheVariants as kept
+use Rattle.weather_book.specs.Rows.{slot_total}
+use Rattle.weather_book.specs.Rising.{last_stamp}
+use Rattle.station_session.specs.Batches.{kept_of, kept_count, kept_records, last_answer, batch_changes, changes_for, slots_more}
+use Rattle.station_session.specs.Records.{stored_rows}
+use Rattle.station_session.specs.Attempts.{Tried, Attempts, all_batches}
+use Rattle.station_session.specs.declared.round_end.RoundEnd.{RoundEnd}
+use Rattle.station_session.proofs.Ends.{in_order}
+use Rattle.station_session.proofs.StoredBatches.{InOrder}
+use Rattle.station_replay.specs.Session.{NotPast}
+use Rattle.station_replay.specs.Schedule.{Stop}
+use Rattle.station_replay.specs.Stopped.{armed_by, IsStop}
+use Rattle.station_replay.proofs.Stopping.{not_one, one_of, wrote_done, synced_done, written, after_sync}
+use Rattle.station_replay.proofs.Stops.{stops_part, not_past, total_grows}
+use Rattle.station_session.proofs.Stamps.{stored_append}
+
+-- The room that the disk was made with stays, and where no call is to fail none is.
+pub record KeepsLimits (s u : DiskState) : Type 0 where
+  pub limits : u.limits ≡ s.limits
+  pub sure : s.fails_at ≡ 0 → u.fails_at ≡ 0
+
+keeps_same : (s u : DiskState) → u ≡ s → KeepsLimits s u
+keeps_same s u is = record { limits = ap (λ x. x.limits) is; sure = λ z. ap (λ x. x.fails_at) is ∙ z }
+
+keeps_counted : (s : DiskState) → KeepsLimits s (counted s)
+keeps_counted s = record { limits = refl; sure = λ z. omega (arith, z) }
+
+keeps_done : (s : DiskState) (call : DiskCall) → KeepsLimits s (done (counted s) call)
+keeps_done s (attached name make answer) = keeps_counted s
+keeps_done s (measured answer) = keeps_counted s
+keeps_done s (was_read at n answer) = keeps_counted s
+keeps_done s (wrote at len byte answer) = record { limits = refl; sure = λ z. omega (arith, z) }
+keeps_done s (synced answer) = record { limits = refl; sure = λ z. omega (arith, z) }
+
+keeps_next : (s : DiskState) (call : DiskCall) → KeepsLimits s (next s call)
+keeps_next s call = go (must_fail s call)
+  where
+    go : (t : Bool) → KeepsLimits s (if t then counted s else done (counted s) call)
+    go true = keeps_counted s
+    go false = keeps_done s call
+
+keeps_within : (s : DiskState) (call : DiskCall) → KeepsLimits s (within_stop s call)
+keeps_within s (attached name make answer) = keeps_next s (attached name make answer)
+keeps_within s (measured answer) = keeps_next s (measured answer)
+keeps_within s (was_read at n answer) = keeps_next s (was_read at n answer)
+keeps_within s (wrote at len byte answer) = keeps_next s (wrote at len byte answer)
+keeps_within s (synced answer) = keeps_counted s
+
+keeps_failed : (call : DiskCall) (s : DiskState) (x u : StoppingState) → KeepsLimits s x.inner → where_failed call x ≡ Some u → KeepsLimits s u.inner
+keeps_failed call s x u k h = go (answered_failed call) h
+  where
+    go : (t : Bool) → (if t then Some x else None) ≡ Some u → KeepsLimits s u.inner
+    go true e = subst (λ (y : StoppingState). KeepsLimits s y.inner) (same_Some x u e) k
+    go false e = absurd cc
+
+keeps_on : (s : StoppingState) (call : DiskCall) (armed : ℕ) (u : StoppingState) → go_on armed s.pick (after_call s.inner call) ≡ Some u → KeepsLimits s.inner u.inner
+keeps_on s call armed u h = go (same_truth (must_fail s.inner call) (answered_failed call) && says_size s.inner.size call) h
+  where
+    go : (t : Bool) → go_on armed s.pick (if t then Some (next s.inner call) else None) ≡ Some u → KeepsLimits s.inner u.inner
+    go true e = subst (λ (y : StoppingState). KeepsLimits s.inner y.inner) (same_Some (record { inner = next s.inner call; armed = armed; pick = s.pick; stopped = false }) u e) (keeps_next s.inner call)
+    go false e = absurd cc
+
+keeps_call : (s u : StoppingState) (call : DiskCall) → after_stop s call ≡ Some u → KeepsLimits s.inner u.inner
+keeps_call s u call h = go s.stopped (is_change call && (s.armed == 1)) h
+  where
+    go : (t b : Bool) → (if t then where_failed call (record s { inner = counted s.inner; stopped = true })
+        else if b then where_failed call (record s { inner = within_stop s.inner call; armed = 0; stopped = true })
+        else go_on (if is_change call then s.armed - 1 else s.armed) s.pick (after_call s.inner call)) ≡ Some u → KeepsLimits s.inner u.inner
+    go true b e = keeps_failed call s.inner (record s { inner = counted s.inner; stopped = true }) u (keeps_counted s.inner) e
+    go false true e = keeps_failed call s.inner (record s { inner = within_stop s.inner call; armed = 0; stopped = true }) u (keeps_within s.inner call) e
+    go false false e = keeps_on s call (if is_change call then s.armed - 1 else s.armed) u e
+
+keeps_joins : (s m u : DiskState) → KeepsLimits s m → KeepsLimits m u → KeepsLimits s u
+keeps_joins s m u a b = record { limits = b.limits ∙ a.limits; sure = λ z. b.sure (a.sure z) }
+
+-- so do calls one after another
+pub calls_keep : (calls : List DiskCall) (s u : StoppingState) → after_stops (Some s) calls ≡ Some u → KeepsLimits s.inner u.inner
+calls_keep [] s u h = keeps_same s.inner u.inner (ap (λ (x : StoppingState). x.inner) (sym (same_Some s u h)))
+calls_keep (c ∷ calls) s u h =
+    let p = stops_part (Some s) (c ∷ []) calls u h in
+    keeps_joins s.inner p.0.inner u.inner (keeps_call s p.0 c p.1) (calls_keep calls p.0 u p.2)
+
+-- the changes of a batch that was kept pass over no stop
+pub batch_passes : (s u : StoppingState) (gate len : ℕ) → after_stops (Some s) (up_to (four_changes gate len) Done) ≡ Some u → (1 ≤ s.armed → 4 < s.armed) × (u.armed ≡ s.armed - 4)
+batch_passes s u gate len h =
+    let p4 = one_of (and_stop (and_stop (and_stop (Some s) (wrote (gate + 1) len None Done)) (synced Done)) (wrote gate 1 (Some 1) Done)) (synced Done) u h in
+    let p3 = one_of (and_stop (and_stop (Some s) (wrote (gate + 1) len None Done)) (synced Done)) (wrote gate 1 (Some 1) Done) p4.0 p4.1 in
+    let p2 = one_of (and_stop (Some s) (wrote (gate + 1) len None Done)) (synced Done) p3.0 p3.1 in
+    let q1 = wrote_done s p2.0 (gate + 1) len None p2.1 in
+    let q2 = synced_done p2.0 p3.0 p2.2 in
+    let q3 = wrote_done p3.0 p4.0 gate 1 (Some 1) p3.2 in
+    let q4 = synced_done p4.0 u p4.2 in
+    let e1 : p2.0.armed ≡ s.armed - 1 = ap (λ (x : StoppingState). x.armed) q1.2 in
+    let e2 : p3.0.armed ≡ p2.0.armed - 1 = ap (λ (x : StoppingState). x.armed) q2.2 in
+    let e3 : p4.0.armed ≡ p3.0.armed - 1 = ap (λ (x : StoppingState). x.armed) q3.2 in
+    let e4 : u.armed ≡ p4.0.armed - 1 = ap (λ (x : StoppingState). x.armed) q4.2 in
+    let n1 = not_one s.armed q1.1 in
+    let n2 = not_one p2.0.armed q2.1 in
+    let n3 = not_one p3.0.armed q3.1 in
+    let n4 = not_one p4.0.armed q4.1 in (
+      (λ some. grind (arith, n1, n2, n3, n4, e1, e2, e3, some)),
+      omega (arith, e1, e2, e3, e4),
+    )
+
+kept_one : (x : Given) → x.answer ≡ kept.Done → kept_count (x ∷ []) ≡ 1
+kept_one x is = rw is refl
+
+-- nor do those of all batches of a round
+pub chain_passes : (settings : StationSettings) (rows : List Row) (steps : List Given) (failed : ℕ) (s u : StoppingState) → InOrder steps → after_stops (Some s) (changes_for settings failed rows steps) ≡ Some u → 1 ≤ s.armed → 4 * kept_count steps < s.armed
+chain_passes settings rows [] failed s u order h some = omega (arith, some)
+chain_passes settings rows (x ∷ []) failed s u order h some = by x.answer refl
+  where
+    by : (a : Stored) → x.answer ≡ a → 4 * kept_count (x ∷ []) < s.armed
+    by kept.Done e =
+        let calls : changes_for settings failed rows (x ∷ []) ≡ up_to (four_changes (176 * (slot_total rows + 1)) (176 * slots_more rows (stored_rows settings x.rows))) Done
+        = append-nil (batch_changes x.answer failed (slot_total rows) (slots_more rows (stored_rows settings x.rows))) ∙ ap (λ (y : Stored). batch_changes y failed (slot_total rows) (slots_more rows (stored_rows settings x.rows))) e in
+        let q = batch_passes s u (176 * (slot_total rows + 1)) (176 * slots_more rows (stored_rows settings x.rows)) (ap (λ (y : List DiskCall). after_stops (Some s) y) (sym calls) ∙ h) in
+        omega (arith, q.0 some, kept_one x e)
+    by kept.Full e = let z : kept_count (x ∷ []) ≡ 0 = rw e refl in omega (arith, some, z)
+    by kept.Stale e = let z : kept_count (x ∷ []) ≡ 0 = rw e refl in omega (arith, some, z)
+    by kept.DiskFault e = let z : kept_count (x ∷ []) ≡ 0 = rw e refl in omega (arith, some, z)
+chain_passes settings rows (x ∷ y ∷ ss) failed s u order h some =
+    let calls : changes_for settings failed rows (x ∷ y ∷ ss) ≡ up_to (four_changes (176 * (slot_total rows + 1)) (176 * slots_more rows (stored_rows settings x.rows))) Done ++ changes_for settings failed (rows ++ stored_rows settings x.rows) (y ∷ ss)
+    = ap (λ (z : Stored). batch_changes z failed (slot_total rows) (slots_more rows (stored_rows settings x.rows)) ++ changes_for settings failed (rows ++ stored_rows settings (kept_of z x.rows)) (y ∷ ss)) order.0 in
+    let p = stops_part (Some s) (up_to (four_changes (176 * (slot_total rows + 1)) (176 * slots_more rows (stored_rows settings x.rows))) Done) (changes_for settings failed (rows ++ stored_rows settings x.rows) (y ∷ ss)) u (ap (λ (z : List DiskCall). after_stops (Some s) z) (sym calls) ∙ h) in
+    let q = batch_passes s p.0 (176 * (slot_total rows + 1)) (176 * slots_more rows (stored_rows settings x.rows)) p.1 in
+    let r = chain_passes settings (rows ++ stored_rows settings x.rows) (y ∷ ss) failed p.0 u order.1 p.2 (omega (arith, q.0 some, q.1)) in
+    let one : kept_count (x ∷ y ∷ ss) ≡ 1 + kept_count (y ∷ ss) = rw order.0 refl in
+    omega (arith, r, q.0 some, q.1, one)
+
+-- a round passes over no stop, whatever room its disk has
+pub round_passes : (settings : StationSettings) (rows : List Row) (ts : List Tried) (end : RoundEnd) (stop : Option Stop) (failed : ℕ) (s u : StoppingState) → Attempts 0 (last_stamp rows) ts end → IsStop stop → s.armed ≡ armed_by stop
+    → after_stops (Some s) (changes_for settings failed rows (all_batches (last_stamp rows) ts)) ≡ Some u → NotPast stop (kept_count (all_batches (last_stamp rows) ts))
+round_passes settings rows ts end stop failed s u attempts is armed h =
+    not_past stop (kept_count (all_batches (last_stamp rows) ts)) is
+    (λ some. omega (arith, armed, chain_passes settings rows (all_batches (last_stamp rows) ts) failed s u (in_order 0 (last_stamp rows) ts end attempts) h (omega (arith, armed, some))))
+
+-- what a batch that was kept takes of the record's room
+batch_takes : (s u : StoppingState) (gate len : ℕ) → after_stops (Some s) (up_to (four_changes gate len) Done) ≡ Some u → (s.inner.changes ≤ u.inner.changes + 4) × (s.inner.bytes ≤ u.inner.bytes + (len + 1))
+batch_takes s u gate len h =
+    let p4 = one_of (and_stop (and_stop (and_stop (Some s) (wrote (gate + 1) len None Done)) (synced Done)) (wrote gate 1 (Some 1) Done)) (synced Done) u h in
+    let p3 = one_of (and_stop (and_stop (Some s) (wrote (gate + 1) len None Done)) (synced Done)) (wrote gate 1 (Some 1) Done) p4.0 p4.1 in
+    let p2 = one_of (and_stop (Some s) (wrote (gate + 1) len None Done)) (synced Done) p3.0 p3.1 in
+    let w1 = written s p2.0 (gate + 1) len None 0 (wrote_done s p2.0 (gate + 1) len None p2.1).2 in
+    let w2 = after_sync p2.0 p3.0 (synced_done p2.0 p3.0 p2.2).2 in
+    let w3 = written p3.0 p4.0 gate 1 (Some 1) 0 (wrote_done p3.0 p4.0 gate 1 (Some 1) p3.2).2 in
+    let w4 = after_sync p4.0 u (synced_done p4.0 u p4.2).2 in
+    (omega (arith, w1.changes, w2.changes, w3.changes, w4.changes), omega (arith, w1.bytes, w2.bytes, w3.bytes, w4.bytes))
+
+-- What batches that were kept take of the record's room: four changes each, and the bytes of their slots and of a gate.
+pub record Takes (settings : StationSettings) (rows : List Row) (steps : List Given) (s u : StoppingState) : Type 0 where
+  pub changes : s.inner.changes ≤ u.inner.changes + 4 * kept_count steps
+  pub bytes : s.inner.bytes + 176 * slot_total rows ≤ u.inner.bytes + 176 * slot_total (rows ++ stored_rows settings (kept_records steps)) + kept_count steps
+
+takes_none : (settings : StationSettings) (rows : List Row) (steps : List Given) (s u : StoppingState) → Some s ≡ Some u → kept_records steps ≡ [] → Takes settings rows steps s u
+takes_none settings rows steps s u is none =
+    let e = same_Some s u is in
+    let z : slot_total (rows ++ stored_rows settings (kept_records steps)) ≡ slot_total rows = ap (λ (x : List (List ℕ)). slot_total (rows ++ stored_rows settings x)) none ∙ ap slot_total (append-nil rows) in
+    record { changes = omega (arith, ap (λ (x : StoppingState). x.inner.changes) e); bytes = omega (arith, ap (λ (x : StoppingState). x.inner.bytes) e, z) }
+
+pub chain_takes : (settings : StationSettings) (rows : List Row) (steps : List Given) (failed : ℕ) (s u : StoppingState) → InOrder steps → last_answer steps ≢ kept.DiskFault → after_stops (Some s) (changes_for settings failed rows steps) ≡ Some u → Takes settings rows steps s u
+chain_takes settings rows [] failed s u order sure h = takes_none settings rows [] s u h refl
+chain_takes settings rows (x ∷ []) failed s u order sure h = by x.answer refl
+  where
+    by : (a : Stored) → x.answer ≡ a → Takes settings rows (x ∷ []) s u
+    by kept.Done e =
+        let calls : changes_for settings failed rows (x ∷ []) ≡ up_to (four_changes (176 * (slot_total rows + 1)) (176 * slots_more rows (stored_rows settings x.rows))) Done
+        = append-nil (batch_changes x.answer failed (slot_total rows) (slots_more rows (stored_rows settings x.rows))) ∙ ap (λ (y : Stored). batch_changes y failed (slot_total rows) (slots_more rows (stored_rows settings x.rows))) e in
+        let q = batch_takes s u (176 * (slot_total rows + 1)) (176 * slots_more rows (stored_rows settings x.rows)) (ap (λ (y : List DiskCall). after_stops (Some s) y) (sym calls) ∙ h) in
+        let kept_is : kept_records (x ∷ []) ≡ x.rows = ap (λ (y : Stored). kept_of y x.rows ++ []) e ∙ append-nil x.rows in
+        let z = ap (λ (y : List (List ℕ)). slot_total (rows ++ stored_rows settings y)) kept_is in
+        let one = kept_one x e in
+        record { changes = omega (arith, q.0, one); bytes = omega (arith, q.1, z, one, total_grows rows (stored_rows settings x.rows)) }
+    by kept.Full e = takes_none settings rows (x ∷ []) s u (let z : after_stops (Some s) (changes_for settings failed rows (x ∷ [])) ≡ Some s = rw e refl in sym z ∙ h) (rw e refl)
+    by kept.Stale e = takes_none settings rows (x ∷ []) s u (let z : after_stops (Some s) (changes_for settings failed rows (x ∷ [])) ≡ Some s = rw e refl in sym z ∙ h) (rw e refl)
+    by kept.DiskFault e = absurd (sure e)
+chain_takes settings rows (x ∷ y ∷ ss) failed s u order sure h =
+    let calls : changes_for settings failed rows (x ∷ y ∷ ss) ≡ up_to (four_changes (176 * (slot_total rows + 1)) (176 * slots_more rows (stored_rows settings x.rows))) Done ++ changes_for settings failed (rows ++ stored_rows settings x.rows) (y ∷ ss)
+    = ap (λ (z : Stored). batch_changes z failed (slot_total rows) (slots_more rows (stored_rows settings x.rows)) ++ changes_for settings failed (rows ++ stored_rows settings (kept_of z x.rows)) (y ∷ ss)) order.0 in
+    let p = stops_part (Some s) (up_to (four_changes (176 * (slot_total rows + 1)) (176 * slots_more rows (stored_rows settings x.rows))) Done) (changes_for settings failed (rows ++ stored_rows settings x.rows) (y ∷ ss)) u (ap (λ (z : List DiskCall). after_stops (Some s) z) (sym calls) ∙ h) in
+    let q = batch_takes s p.0 (176 * (slot_total rows + 1)) (176 * slots_more rows (stored_rows settings x.rows)) p.1 in
+    let r = chain_takes settings (rows ++ stored_rows settings x.rows) (y ∷ ss) failed p.0 u order.1 sure p.2 in
+    let one : kept_count (x ∷ y ∷ ss) ≡ 1 + kept_count (y ∷ ss) = rw order.0 refl in
+    let rows_are : rows ++ stored_rows settings (kept_records (x ∷ y ∷ ss)) ≡ (rows ++ stored_rows settings x.rows) ++ stored_rows settings (kept_records (y ∷ ss))
+    = ap (λ (z : Stored). rows ++ stored_rows settings (kept_of z x.rows ++ kept_records (y ∷ ss))) order.0 ∙ ap (λ (z : List Row). rows ++ z) (stored_append settings x.rows (kept_records (y ∷ ss)))
+    ∙ sym (append_assoc rows (stored_rows settings x.rows) (stored_rows settings (kept_records (y ∷ ss)))) in
+    record {
+      changes = omega (arith, q.0, r.changes, one);
+      bytes = omega (arith, q.1, r.bytes, one, ap slot_total rows_are, total_grows rows (stored_rows settings x.rows));
+    }

@@ -1,0 +1,107 @@
+use Rattle.std.proofs.Common.{◌≡◌, ◌+◌, ◌-◌, ◌≤◌, All, drop, take, map, length, min, refl, sym, ap, ◌∙◌, arith, ◌*◌, true, false}
+use Rattle.std.proofs.lemmas.List.{take-take, length-take}
+use Rattle.std.proofs.lemmas.List.Elements.{All-take}
+use Rattle.disk_model.specs.Disk.{stays_none, stays_joins}
+use Rattle.station_base.specs.FieldSet.{AreMissing}
+use Rattle.station_base.specs.RowLine.{IsPrintable, row_line}
+use Rattle.station_base.specs.declared.row.Row.{Row}
+use Rattle.weather_book.specs.Days.{day_rest}
+use Rattle.weather_book.specs.Rows.{slot_total}
+use Rattle.weather_book.proofs.Looks.{no_look}
+use Rattle.weather_book.proofs.Pieces.{more_reads}
+use Rattle.weather_book.proofs.Standing.{to_read_stays}
+use Rattle.weather_reports.proofs.Progress.{comes_none, comes_on, comes_fails}
+use Rattle.weather_reports.proofs.Ends.{ends_early, ends_whole, none_failed, one_failed}
+use Rattle.weather_reports.proofs.Pieces.{piece_lines}
+use Rattle.weather_reports.proofs.by_row.rows_between.Goals as goal
+
+pub loop-at-init : goal.loop-at-init
+loop-at-init g c = record {
+  room = omega (arith, ap length c.new-pending.ensures);
+  faults = refl;
+  disk = omega arith;
+  stays = stays_none g.D.Disk.medium c.args.disk.now;
+  went = λ rows stands. no_look g.D.Disk.medium (176 * (slot_total rows + 1)) c.args.disk.now;
+  lines = λ rows stands x told.
+      rw c.new-pending.ensures (comes_none (g.K.Sink.outlet.taken c.args.out.now) (map row_line (take (c.args.end - c.args.from) (drop c.args.from rows))));
+}
+
+pub returns-in-DiskFault-clause-lines : goal.returns-in-DiskFault-clause-lines
+returns-in-DiskFault-clause-lines g c rows stands x told =
+    let text : c.deref.result.now ≡ c.loop-at.pending.items = c.deref.ensures.0 in
+    ends_early _ _ _ _ _ c.loop-at.pending.items _ (c.loop-at.invariant.lines rows stands x told)
+    (record { done = λ no. rw text at (c.finish.ensures.done no); failed = λ w. rw text at (c.finish.ensures.failed w (λ e. absurd cc)); kind = c.finish.ensures.kind })
+
+pub print_rows-requires-clause-printable : goal.print_rows-requires-clause-printable
+print_rows-requires-clause-printable g c =
+    All-take (λ (r : Row). All IsPrintable r.values) c.min-wanted.result c.deref-in-loop-at.result.now
+    (rw c.deref-in-loop-at.ensures.0 c.rows_at.ensures.printable)
+
+pub print_rows-requires-clause-limited : goal.print_rows-requires-clause-limited
+print_rows-requires-clause-limited g c =
+    All-take (λ (r : Row). AreMissing r.limited r.values) c.min-wanted.result c.deref-in-loop-at.result.now
+    (rw c.deref-in-loop-at.ensures.0 c.rows_at.ensures.limited)
+
+pub returns-in-Failed-clause-lines : goal.returns-in-Failed-clause-lines
+returns-in-Failed-clause-lines g c rows stands x told =
+    let m = g.D.Disk.medium in let at = c.loop-at.at in let k = c.min-wanted.result in
+    let left = c.args.end - at in
+    let read = c.in_default.ensures.rows rows (to_read_stays m c.args.book.now _ _ rows stands c.loop-at.invariant.stays) x (c.loop-at.invariant.stays.reads ∙ told) in
+    let most = min 16 (length (day_rest rows at)) in
+    let few : k ≤ most = omega (arith, c.min-wanted.ensures, c.len.ensures.value, ap length read, length-take most (drop at rows)) in
+    let piece : take k c.deref-in-loop-at.result.now ≡ take k (drop at rows) = ap (take k) (c.deref-in-loop-at.ensures.0 ∙ read) ∙ take-take k most (drop at rows) few in
+    let within : k ≤ left = omega (arith, c.min-wanted.ensures) in
+    let before = rw (piece_lines rows at k left within) at (c.loop-at.invariant.lines rows stands x told) in
+    comes_fails _ _ _ _ (map row_line (take k (drop at rows))) (map row_line (take (left - k) (drop (at + k) rows))) c.loop-at.pending.items before
+    (rw piece at (c.print_rows.ensures.failed c.in-Failed.is))
+
+pub loop-at-preserved : goal.loop-at-preserved
+loop-at-preserved g c =
+    let m = g.D.Disk.medium in let at = c.loop-at.at in let k = c.min-wanted.result in let i = c.loop-at.invariant in
+    let left = c.args.end - at in
+    let within : k ≤ left = omega (arith, c.min-wanted.ensures) in
+    record {
+      room = c.print_rows.ensures.room;
+      faults = c.print_rows.ensures.still c.in_default-print_rows.not-Failed ∙ i.faults;
+      disk = omega (arith, i.disk, c.rows_at.ensures.cause.never_falls);
+      stays = stays_joins i.stays c.rows_at.ensures.stays;
+      went = λ rows stands. more_reads g.D.Disk.medium (i.went rows stands) (c.in_default.ensures.went rows stands);
+      lines = λ rows stands x told.
+          let read = c.in_default.ensures.rows rows (to_read_stays m c.args.book.now _ _ rows stands i.stays) x (i.stays.reads ∙ told) in
+          let most = min 16 (length (day_rest rows at)) in
+          let few : k ≤ most = omega (arith, c.min-wanted.ensures, c.len.ensures.value, ap length read, length-take most (drop at rows)) in
+          let piece : take k c.deref-in-loop-at.result.now ≡ take k (drop at rows) = ap (take k) (c.deref-in-loop-at.ensures.0 ∙ read) ∙ take-take k most (drop at rows) few in
+          let before = rw (piece_lines rows at k left within) at (i.lines rows stands x told) in
+          let rest : left - k ≡ c.args.end - (at + k) = omega arith in
+          rw (sym rest) (comes_on _ _ _ _ (map row_line (take k (drop at rows))) (map row_line (take (left - k) (drop (at + k) rows))) c.loop-at.pending.items _ before
+          (rw piece at (c.print_rows.ensures.done c.in_default-print_rows.is)));
+    }
+
+pub returns-clause-lines : goal.returns-clause-lines
+returns-clause-lines g c rows stands x told =
+    let text : c.deref-2.result.now ≡ c.loop-at.pending.items = c.deref-2.ensures.0 in
+    let none : c.args.end - c.loop-at.at ≡ 0 = omega (arith, c.loop-at-test.false) in
+    let before = rw none at (c.loop-at.invariant.lines rows stands x told) in
+    ends_whole _ _ _ _ c.loop-at.pending.items _ before
+    (record { done = λ no. rw text at (c.finish-2.ensures.done no); failed = λ w. rw text at (c.finish-2.ensures.failed w (λ e. absurd cc)); kind = c.finish-2.ensures.kind })
+
+pub returns-in-DiskFault-clause-went : goal.returns-in-DiskFault-clause-went
+returns-in-DiskFault-clause-went g c rows stands = record {
+  failed = true;
+  by_end = one_failed c.finish.result c.finish.ensures.kind;
+  looked = more_reads g.D.Disk.medium (c.loop-at.invariant.went rows stands) (c.in-DiskFault.ensures.went rows stands);
+}
+
+pub returns-in-Failed-clause-went : goal.returns-in-Failed-clause-went
+returns-in-Failed-clause-went g c rows stands = record {
+  failed = false;
+  by_end = tt;
+  looked = more_reads g.D.Disk.medium (c.loop-at.invariant.went rows stands) (c.in_default.ensures.went rows stands);
+}
+
+pub returns-clause-went : goal.returns-clause-went
+returns-clause-went g c rows stands = record {
+  failed = false;
+  by_end = none_failed c.finish-2.result c.finish-2.ensures.kind;
+  looked = c.loop-at.invariant.went rows stands;
+}
