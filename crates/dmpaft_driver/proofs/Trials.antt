@@ -163,7 +163,7 @@ module _ (a : Option CivilMinute) where
   mild_item Astray x = tt
 
   -- a pump whose batches were all kept is not refused
-  mild_runs : (s : State) (t : List TalkItem) (ks : List Stored) → Mild s → AllDone ks → Mild (pump_from a s t ks)
+  pub mild_runs : (s : State) (t : List TalkItem) (ks : List Stored) → Mild s → AllDone ks → Mild (pump_from a s t ks)
   mild_runs (Saying p i l) [] [] m d = tt
   mild_runs (Saying p i l) [] (k ∷ ks) m d = tt
   mild_runs (Saying p i l) (x ∷ t) ks m d = mild_runs (step a (Saying p i l) x) t ks (mild_item (Saying p i l) x) d
@@ -184,7 +184,7 @@ module _ (a : Option CivilMinute) where
   mild_runs (Over at taken end) (x ∷ t) ks m d = mild_runs Astray t ks tt d
   mild_runs Astray t ks m d = subst Mild (sym (astray_stays a t ks)) tt
 
-  all_done : (ks js : List Stored) → AllDone ks → AllDone js → AllDone (ks ++ js)
+  pub all_done : (ks js : List Stored) → AllDone ks → AllDone js → AllDone (ks ++ js)
   all_done [] js d e = e
   all_done (k ∷ ks) js d e = (d.0, all_done ks js d.1 e)
 

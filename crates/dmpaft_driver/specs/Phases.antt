@@ -95,13 +95,24 @@ Speaks (phase.Resettling more left said) = ⊥
 Speaks phase.Acking = Unit {0}
 Speaks (phase.GivingUp trouble) = Unit {0}
 
--- so many parts may follow it at most
-abbrev pub rank_of : Phase → ℕ
-rank_of phase.Settling = 4110
-rank_of (phase.Waking left) = 4107 + left
-rank_of phase.Calling = 4106
-rank_of phase.Heading = 4105
-rank_of (phase.Asking more left said) = 8 * more + 2 * left + 2
-rank_of (phase.Resettling more left said) = 8 * more + 2 * left + 3
-rank_of phase.Acking = 0
-rank_of (phase.GivingUp trouble) = 0
+-- it takes fewer steps than this: its words are said, and then each byte and each wait is heard
+abbrev pub span_of : Phase → ℕ
+span_of phase.Settling = 500000
+span_of (phase.Waking left) = 500000
+span_of phase.Calling = 2000
+span_of phase.Heading = 2000
+span_of (phase.Asking more left said) = 2000
+span_of (phase.Resettling more left said) = 500000
+span_of phase.Acking = 2000
+span_of (phase.GivingUp trouble) = 2000
+
+-- so many steps may follow it at most; a page with its askings and settlings takes fewer than 1,600,000
+abbrev pub rest_of : Phase → ℕ
+rest_of phase.Settling = 822304000
+rest_of (phase.Waking left) = 820804000 + 500000 * left
+rest_of phase.Calling = 820802000
+rest_of phase.Heading = 820800000
+rest_of (phase.Asking more left said) = 1600000 * more + 502000 * left + 2001
+rest_of (phase.Resettling more left said) = 1600000 * more + 502000 * left + 4001
+rest_of phase.Acking = 0
+rest_of (phase.GivingUp trouble) = 0

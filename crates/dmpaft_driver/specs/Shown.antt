@@ -1,6 +1,6 @@
 -- What a pump holds of where its attempt stands.
 use Rattle.std.specs.Prelude.{◌≡◌, ◌≢◌, ℕ, ◌+◌, ◌-◌, ◌*◌, ◌^◌, ◌<◌, ◌≤◌, Bool, true, false, List, [], ◌∷◌, ◌++◌}
-use Rattle.std.specs.Prelude.{length, take, Option, None}
+use Rattle.std.specs.Prelude.{length, take, Option, Some, None}
 use Rattle.station_base.specs.CivilMinute.{CivilMinute}
 use Rattle.wake_retry.specs.Settling.{tail_of}
 use Rattle.causes.specs.declared.stored.Stored.{Stored}
@@ -16,7 +16,7 @@ use Rattle.dmpaft_driver.specs.declared.action.Action.{Action}
 use Rattle.dmpaft_driver.specs.declared.action.Action.TheVariants as action
 use Rattle.dmpaft_driver.specs.Keeper.{Delivery, last_kept}
 use Rattle.dmpaft_driver.specs.Batch.{slots, newest, skipped, batches, answered, all_skipped, EndsGiving}
-use Rattle.dmpaft_driver.specs.Phases.{part_of, quiets_of, most_of, words_of, rank_of, settles, Fits, Speaks, Hears}
+use Rattle.dmpaft_driver.specs.Phases.{part_of, quiets_of, most_of, words_of, span_of, rest_of, settles, Fits, Speaks, Hears}
 use Rattle.dmpaft_driver.specs.Pump.{words as words_in}
 use Rattle.dmpaft_driver.specs.Pump.{Part, State, Hearing, Keeping, Over, begun, most, newest_of, next_place, batch_of}
 
@@ -167,6 +167,13 @@ keeps_at (stage.Hearing phase) = false
 keeps_at (stage.Keeping more) = true
 keeps_at (stage.Ended end) = false
 
+-- how the attempt ended, if it is over
+abbrev pub end_at : Stage → Option PumpEnd
+end_at (stage.Saying phase) = None
+end_at (stage.Hearing phase) = None
+end_at (stage.Keeping more) = None
+end_at (stage.Ended end) = Some end
+
 -- it says or hears something
 abbrev pub talks_at : Stage → Bool
 talks_at (stage.Saying phase) = true
@@ -191,11 +198,11 @@ Tells after s (action.Keep rows) = (more : ℕ) × (place : ℕ) × (taken : Lis
     × (batch_of after place taken page ≢ [])
 Tells after s (action.Ended end) = (place : ℕ) × (taken : List (List ℕ)) × (s ≡ Over place taken end)
 
--- Each part takes fewer than 524,288 steps: its words are said, and then each byte and each wait is heard.
+-- what is left of the part under way, and then of those that may follow it
 abbrev pub left_at : Stage → ℕ → ℕ → ℕ
-left_at (stage.Saying phase) count run = 524288 * rank_of phase + 524287
-left_at (stage.Hearing phase) count run = 524288 * rank_of phase + 7 * (most_of phase - count) + (quiets_of phase - run)
-left_at (stage.Keeping more) count run = 524288 * (8 * more + 1)
+left_at (stage.Saying phase) count run = rest_of phase + span_of phase
+left_at (stage.Hearing phase) count run = rest_of phase + 7 * (most_of phase - count) + (quiets_of phase - run)
+left_at (stage.Keeping more) count run = 1600000 * more + 2001
 left_at (stage.Ended end) count run = 0
 
 -- so many steps are left at most

@@ -37,7 +37,7 @@ const AWAKE: [u8; 2] = [b'\n', b'\r'];
 /// "Download Protocol"; the waits and the number of askings are this project's profile).
 ///
 /// A pump calls nothing. It tells by `action` what is to be done next, and is told what came of it. It has no heap
-/// memory, and ends after fewer than 2^32 steps.
+/// memory, and ends after fewer than 2^30 steps.
 #[derive(Drop)]
 pub struct Pump {
     after: Option<Stamp>,
@@ -68,15 +68,15 @@ impl Pump {
     ghost use Rattle.vantage_frames.specs.Header.{CanBegin};
     ghost use Rattle.dmpaft_driver.specs.declared.outcome.Tally.{Tally};
     ghost use Rattle.dmpaft_driver.specs.declared.pump_end.PumpEnd.{PumpEnd};
-    ghost use Rattle.dmpaft_driver.specs.Phases.{part_of, most_of, words_of, rank_of, Fits, Speaks, Hears};
+    ghost use Rattle.dmpaft_driver.specs.Phases.{part_of, most_of, words_of, span_of, rest_of, Fits, Speaks, Hears};
     ghost use Rattle.dmpaft_driver.specs.Shown.{Shows, Counts, Ready, Tallied, all_kept, room_of, no_tally};
     ghost use Rattle.dmpaft_driver.specs.Shown.{answer_of, Gathered, IsSized, Allows, Tells, left_of, said_at};
-    ghost use Rattle.dmpaft_driver.specs.Shown.{keeps_at};
+    ghost use Rattle.dmpaft_driver.specs.Shown.{keeps_at, end_at};
 
     /// A pump that takes what comes after a stamp, or all that there is.
     pub fn new(after: Option<Stamp>) -> Pump
         ensures shows { Shows no_tally after (begun after Settling) result }
-        ensures left { left_of result < 2 ^ 32 }
+        ensures left { left_of result < 2 ^ 30 }
     {
         Pump::resume(after, Tally::default())
     }
@@ -86,7 +86,7 @@ impl Pump {
         requires pages { tally.pages < 2 ^ 31 }
         requires skipped { tally.skipped < 2 ^ 31 }
         ensures shows { Shows tally after (begun after Settling) result }
-        ensures left { left_of result < 2 ^ 32 }
+        ensures left { left_of result < 2 ^ 30 }
     {
         let newest = after;
         Pump {
@@ -110,6 +110,16 @@ impl Pump {
         ensures { result ≡ self.now.tally }
     {
         self.tally
+    }
+
+    /// How the attempt ended, once it is over.
+    pub fn ended(&self) -> Option<PumpEnd>
+        ensures { result ≡ end_at self.now.stage }
+    {
+        match self.stage {
+            Stage::Ended(end) => Some(end),
+            Stage::Saying(_) | Stage::Hearing(_) | Stage::Keeping { .. } => None,
+        }
     }
 
     /// What is to be done next.
@@ -249,7 +259,7 @@ impl Pump {
         ensures shows { (start : Tally) (after : Option CivilMinute) (place : ℕ) (taken : List (List ℕ))
             → Counts start after place taken (all_kept after place taken) self.old → Fits phase place taken
             → Shows start after (begun after (part_of place taken phase)) self.new }
-        ensures left { left_of self.new < 524288 * rank_of phase + 524288 }
+        ensures left { left_of self.new ≤ rest_of phase + span_of phase }
     {
         self.count = 0;
         self.run = 0;
@@ -277,7 +287,7 @@ impl Pump {
             (bytes : List ℕ)
             → Ready start after place taken phase full bytes self.old
             → Shows start after (at after (next after (part_of place taken phase) full bytes)) self.new }
-        ensures left { Hears phase → left_of self.new ≤ 524288 * rank_of phase }
+        ensures left { Hears phase → left_of self.new ≤ rest_of phase }
     {
         match phase {
             Phase::Settling if full => self.end(PumpEnd::Flood),
@@ -303,7 +313,7 @@ impl Pump {
         ensures shows { (start : Tally) (after : Option CivilMinute) (bytes : List ℕ)
             → Ready start after 0 [] (phase.Waking left) false bytes self.old
             → Shows start after (at after (next after (part.Waking left) false bytes)) self.new }
-        ensures left { left_of self.new < 524288 * (4107 + left) }
+        ensures left { left_of self.new ≤ rest_of (phase.Waking left) }
     {
         if self.tail == AWAKE {
             self.begin(Phase::Calling);
@@ -319,7 +329,7 @@ impl Pump {
         ensures shows { (start : Tally) (after : Option CivilMinute) (bytes : List ℕ)
             → Ready start after 0 [] phase.Calling full bytes self.old
             → Shows start after (at after (next after part.Calling full bytes)) self.new }
-        ensures left { left_of self.new < 524288 * 4106 }
+        ensures left { left_of self.new ≤ rest_of phase.Calling }
     {
         let byte = self.answer[0];
         if !full {
@@ -336,7 +346,7 @@ impl Pump {
         ensures shows { (start : Tally) (after : Option CivilMinute) (bytes : List ℕ)
             → Ready start after 0 [] phase.Heading full bytes self.old
             → Shows start after (at after (next after part.Heading full bytes)) self.new }
-        ensures left { left_of self.new < 524288 * 4105 }
+        ensures left { left_of self.new ≤ rest_of phase.Heading }
     {
         if !full {
             self.begin(Phase::GivingUp(Trouble::ShortHeader(self.count.min(6) as u8)));
@@ -354,7 +364,7 @@ impl Pump {
         ensures shows { (start : Tally) (after : Option CivilMinute)
             → Counts start after 0 [] (all_kept after 0 []) self.old → CanBegin pages place
             → Shows start after (at after (headed (Header pages place))) self.new }
-        ensures left { CanBegin pages place → left_of self.new < 524288 * 4105 }
+        ensures left { CanBegin pages place → left_of self.new ≤ rest_of phase.Heading }
     {
         if pages == 0 {
             self.end(PumpEnd::Whole);
@@ -374,7 +384,7 @@ impl Pump {
             (bytes : List ℕ) (b : ℕ)
             → Ready start after place taken (phase.Asking more left b) true bytes self.old
             → Shows start after (at after (next after (part.Asking more place taken left b) true bytes)) self.new }
-        ensures left { left_of self.new < 524288 * (8 * more + 2 * left + 2) }
+        ensures left { left_of self.new ≤ 1600000 * more + 502000 * left + 2001 }
     {
         match judge_page(self.number, &self.answer) {
             Judged::This(page) => {
@@ -412,7 +422,7 @@ impl Pump {
             → Counts start after place (taken ++ page ∷ []) (all_kept after place taken) self.old
             → self.old.batch.items ≡ batch_of after place taken page → length taken + more < 513
             → Shows start after (at after (batched more place taken page (batch_of after place taken page))) self.new }
-        ensures left { left_of self.new < 524288 * (8 * more + 2) }
+        ensures left { left_of self.new ≤ 1600000 * more + 2001 }
     {
         if self.batch.is_empty() {
             self.go_on(more);
@@ -426,7 +436,7 @@ impl Pump {
         ensures shows { (start : Tally) (after : Option CivilMinute) (place : ℕ) (taken : List (List ℕ))
             → Counts start after place taken (all_kept after place taken) self.old → length taken + more ≤ 513
             → Shows start after (begun after (onward more place taken)) self.new }
-        ensures left { left_of self.new < 524288 * (8 * more + 1) }
+        ensures left { left_of self.new < 1600000 * more + 2001 }
     {
         if more == 0 {
             self.begin(Phase::Acking);
@@ -444,7 +454,7 @@ impl Pump {
         ensures shows { (start : Tally) (after : Option CivilMinute) (place : ℕ) (taken : List (List ℕ))
             → Counts start after place taken (all_kept after place taken) self.old → length taken + more < 513
             → Shows start after (at after (asked_again more place taken left said)) self.new }
-        ensures left { left_of self.new < 524288 * (8 * more + 2 * left + 2) }
+        ensures left { left_of self.new ≤ 1600000 * more + 502000 * left + 2001 }
     {
         if left == 0 {
             self.begin(Phase::GivingUp(Trouble::PageLost { page: self.number }));
