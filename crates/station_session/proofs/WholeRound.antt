@@ -56,7 +56,7 @@ none_by round.DiskFault h = absurd h
 none_by round.Flood h = absurd h
 none_by round.ArchiveFull h = absurd h
 
-stale_by : (end : RoundEnd) (b : Bool) → stale_after (answer_at end) b ≡ stale_with end b
+pub stale_by : (end : RoundEnd) (b : Bool) → stale_after (answer_at end) b ≡ stale_with end b
 stale_by round.Done b = refl
 stale_by round.GaveUp b = refl
 stale_by round.LinkFault b = refl

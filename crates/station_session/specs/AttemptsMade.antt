@@ -1,32 +1,16 @@
 -- What the attempts of a round make of a book, its disk and its marks.
-use Rattle.std.specs.Prelude.{◌≡◌, ℕ, ◌+◌, List, length}
+use Rattle.std.specs.Prelude.{◌≡◌, ℕ, List, length}
 use Rattle.serial_link.specs.Traffic.{Traffic}
 use Rattle.disk_model.specs.Medium.{Medium}
 use Rattle.serial_link.specs.Talk.{Adds}
 use Rattle.settings_file.specs.StationSettings.{StationSettings}
 use Rattle.weather_book.specs.Book.{last_of}
-use Rattle.dmpaft_driver.specs.Batch.{all_skipped}
-use Rattle.dmpaft_driver.specs.Keeper.{last_kept}
-use Rattle.dmpaft_driver.specs.declared.outcome.DumpEnd.{DumpEnd}
 use Rattle.dmpaft_driver.specs.declared.outcome.Tally.{Tally}
 use Rattle.station_session.specs.declared.round_end.RoundEnd.{RoundEnd}
-use Rattle.station_session.specs.Attempts.{Tried, IsTried, Attempts, batches_in, all_said, all_batches}
+use Rattle.station_session.specs.Attempts.{Tried, Attempts, all_said, all_batches}
 use Rattle.station_session.specs.Holding.{Holding}
 use Rattle.station_session.specs.Round.{IsTally}
 use Rattle.station_session.specs.OneBatch.{AddsBatch, Chain}
-
--- An attempt was made after the book's last stamp, its batches were given to the book, and its pages were tallied.
-pub record MakesAttempt {L D : Type 0} (traffic : Traffic L) (medium : Medium D)
-    (settings : StationSettings) (end : DumpEnd) (old : Holding D) (link : L) (tally : Tally)
-    (new : Holding D) (link' : L) (tally' : Tally) : Type 0 where
-  pub tried : Tried
-  pub ended : tried.end ≡ end
-  pub attempt : IsTried (last_of old.book) tried
-  pub adds : Adds traffic link tried.said link'
-  pub chain : Chain (AddsBatch medium settings) old (batches_in (last_of old.book) tried) new
-  pub pages : tally'.pages ≡ tally.pages + length tried.taken
-  pub skipped : tally'.skipped ≡ tally.skipped + all_skipped tried.place tried.taken
-  pub newest : tally'.last ≡ last_kept (batches_in (last_of old.book) tried) tally.last
 
 -- A round's attempts were made, and their batches were given to the book.
 pub record MakesAttempts {L D : Type 0} (traffic : Traffic L) (medium : Medium D)

@@ -1,8 +1,9 @@
 -- What batches make of a book that keeps the records of a dump.
-use Rattle.std.specs.Prelude.{◌≡◌, List, ◌++◌, refl}
-use Rattle.std.proofs.Common.{◌∙◌, subst}
+use Rattle.std.specs.Prelude.{◌≡◌, ◌+◌, ◌*◌, ◌≤◌, List, [], ◌++◌, length, vec_capacity, refl}
+use Rattle.std.proofs.Common.{◌∙◌, subst, arith, length-append}
 use Rattle.station_session.specs.Room.{batch_room}
-use Rattle.weather_book.specs.Book.{last_of}
+use Rattle.weather_book.specs.Book.{last_of, spare}
+use Rattle.dmpaft_driver.specs.declared.batch.TheConstants.{MOST_RECORDS}
 use Rattle.dmpaft_driver.specs.Ledger.{Ledger}
 use Rattle.disk_model.specs.Medium.{Medium}
 use Rattle.dmpaft_driver.specs.Keeper.{Delivery}
@@ -32,11 +33,16 @@ same_joins k l m one two = record {
 abbrev pub held_by : {D : Type 0} → BookKeeper D → Holding D
 held_by k = holding k.book.now k.disk.now k.marks.now.items
 
--- batches were given one after another
+-- Batches were given one after another: each took five of the rows that there was room for at most.
 pub record GivenInTurn {D : Type 0} (medium : Medium D) (k : BookKeeper D) (steps : List Delivery) (l : BookKeeper D)
     : Type 0 where
   pub chain : Chain (AddsBatch medium k.settings.now) (held_by k) steps (held_by l)
   pub same : IsSameKeeper k l
+  pub spare : spare k.book.now ≤ spare l.book.now + MOST_RECORDS * length steps
+  pub capacity : vec_capacity k.marks.now ≤ vec_capacity l.marks.now
+
+pub keeps_none : {D : Type 0} (medium : Medium D) (k : BookKeeper D) → GivenInTurn medium k [] k
+keeps_none medium k = record { chain = refl; same = same_none k; spare = omega arith; capacity = omega arith }
 
 pub keeps_joins : {D : Type 0} (medium : Medium D) (k l m : BookKeeper D) (first later : List Delivery)
     → GivenInTurn medium k first l → GivenInTurn medium l later m → GivenInTurn medium k (first ++ later) m
@@ -44,6 +50,8 @@ keeps_joins medium k l m first later one two = record {
   chain = chain_joins (AddsBatch medium k.settings.now) (held_by k) (held_by l) (held_by m) first later one.chain
       (subst (λ (s : _). Chain (AddsBatch medium s) (held_by l) later (held_by m)) one.same.settings two.chain);
   same = same_joins k l m one.same two.same;
+  spare = omega (arith, one.spare, two.spare, length-append first later);
+  capacity = omega (arith, one.capacity, two.capacity);
 }
 
 -- what a book that keeps the records of a dump tells, on a disk that tells this
@@ -52,6 +60,6 @@ book_ledger medium = record {
   last = λ k. last_of k.book.now;
   room = λ k. batch_room k.book.now (medium.moment k.disk.now) k.marks.now;
   keeps = λ k steps l. GivenInTurn medium k steps l;
-  keeps_none = λ k. record { chain = refl; same = same_none k };
+  keeps_none = λ k. keeps_none medium k;
   keeps_joins = λ k l m first later one two. keeps_joins medium k l m first later one two;
 }

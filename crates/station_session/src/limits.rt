@@ -14,7 +14,7 @@ pub const MOST_SLOTS: usize = MOST_RECORDS * MOST_PAGES as usize;
 pub const MOST_ROWS: usize = MOST_RECORDS * MOST_BATCHES;
 
 // How many changes of the disk a batch takes.
-const CHANGES: usize = 4;
+pub const CHANGES: usize = 4;
 
 // The most changes of the disk that a round begins.
 pub const MOST_CHANGES: usize = CHANGES * MOST_BATCHES;

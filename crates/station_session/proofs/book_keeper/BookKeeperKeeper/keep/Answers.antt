@@ -35,7 +35,12 @@ returns-in-Done g c =
     record {
       room = grind (arith, common_steps);
       last = taken.newest;
-      keeps = record { chain = (_, taken, refl); same = record { settings = refl; book = refl; disk = refl; marks = refl } };
+      keeps = record {
+        chain = (_, taken, refl);
+        same = record { settings = refl; book = refl; disk = refl; marks = refl };
+        spare = omega (arith, a.spare, count, ap (λ (x : List Row). length x) same, c.requires.few);
+        capacity = c.note.ensures.capacity;
+      };
     }
 
 pub returns-in_default : goal.returns-in_default
@@ -50,5 +55,10 @@ returns-in_default g c =
     record {
       room = grind (arith, common_steps);
       last = taken.newest;
-      keeps = record { chain = (_, taken, refl); same = record { settings = refl; book = refl; disk = refl; marks = refl } };
+      keeps = record {
+        chain = (_, taken, refl);
+        same = record { settings = refl; book = refl; disk = refl; marks = refl };
+        spare = omega (arith, a.spare, same_count k.settings.now c.args.records.now c.stored_rows-rows.ensures.read, ap (λ (x : List Row). length x) same, c.requires.few);
+        capacity = omega arith;
+      };
     }

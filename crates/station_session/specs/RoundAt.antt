@@ -1,0 +1,57 @@
+-- Where a round stands: which of its attempts failed, and how far the one under way has come. (That there are three at
+-- most is this project's profile.)
+use Rattle.std.specs.Prelude.{◌≡◌, ℕ, ◌+◌, ◌*◌, ◌^◌, ◌≤◌, List, [], ◌∷◌, ◌++◌, length, Option, None}
+use Rattle.station_base.specs.CivilMinute.{CivilMinute}
+use Rattle.serial_link.specs.declared.talk.TalkItem.{TalkItem}
+use Rattle.causes.specs.declared.stored.Stored.{Stored}
+use Rattle.dmpaft_driver.specs.declared.outcome.Tally.{Tally}
+use Rattle.dmpaft_driver.specs.declared.outcome.Trouble.{Trouble}
+use Rattle.dmpaft_driver.specs.declared.pump_end.PumpEnd.TheVariants as pump_end
+use Rattle.dmpaft_driver.specs.Exact.{AllDone}
+use Rattle.dmpaft_driver.specs.Keeper.{Delivery, last_kept}
+use Rattle.dmpaft_driver.specs.Pump.{State, Over, pump_after}
+use Rattle.dmpaft_driver.specs.Shown.{Shows, left_of}
+use Rattle.dmpaft_driver.specs.Standing.{handed}
+use Rattle.station_session.specs.declared.round.Round.{Round}
+use Rattle.station_session.specs.Attempts.{Tried, IsTried, end_after, stamp_after, stamp_behind, all_batches, all_said}
+use Rattle.station_session.specs.Attempts.{page_count, skip_count}
+
+-- each of these attempts failed, the first asking after this stamp and each later one after the last record kept
+abbrev pub AllFailed : Option CivilMinute → List Tried → Type 0
+AllFailed last [] = Unit {0}
+AllFailed last (t ∷ ts) = IsTried last t × (end_after t.end ≡ None) × AllFailed (stamp_after last t) ts
+
+-- what these attempts brought
+abbrev pub tally_of : Option CivilMinute → List Tried → Tally
+tally_of last tries = record {
+  pages = page_count tries;
+  skipped = skip_count tries;
+  last = last_kept (all_batches last tries) None;
+}
+
+-- the attempt is over, and failed
+abbrev pub HasFailed : State → Type 0
+HasFailed s =
+    (place : ℕ) × (taken : List (List ℕ)) × (trouble : Trouble) × (s ≡ Over place taken (pump_end.Failed trouble))
+
+-- A round that began after this stamp has said and heard this, and kept these batches: at most two attempts failed, and
+-- behind them the pump is where its attempt stands. Where that one failed too, it is the last.
+pub record RoundAt (last : Option CivilMinute) (talk : List TalkItem) (kept : List Delivery) (round : Round)
+    : Type 0 where
+  pub tries : List Tried
+  pub failed : AllFailed last tries
+  pub few : round.more + length tries ≡ 2
+  pub pages : page_count tries ≤ 513 * length tries
+  pub said : List TalkItem
+  pub answers : List Stored
+  pub state : State
+  pub stands : pump_after (stamp_behind last tries) said answers ≡ state
+  pub done : AllDone answers
+  pub shows : Shows (tally_of last tries) (stamp_behind last tries) state round.pump
+  pub goes_on : HasFailed state → round.more ≡ 0
+  pub talk_is : talk ≡ all_said tries ++ said
+  pub kept_are : kept ≡ all_batches last tries ++ handed (stamp_behind last tries) state
+
+-- so many turns are left at most: those of the pump, and fewer than 2^30 for each attempt that may follow
+abbrev pub left : Round → ℕ
+left round = left_of round.pump + 2 ^ 30 * round.more

@@ -1,0 +1,95 @@
+ghost use Rattle.std.specs.Prelude.{◌≡◌, ◌<◌, ◌≤◌, ◌+◌, ◌^◌, Option};
+ghost use Rattle.station_base.specs.CivilMinute.{CivilMinute};
+
+use crate::limits::ATTEMPTS;
+use crate::round_end::{RoundEnd, refused, round_end};
+use dmpaft_driver::{DumpEnd, Pump, PumpEnd, Tally};
+use station_base::Stamp;
+
+/// A round that was begun, and is taken turn by turn by the session that began it.
+#[derive(Drop)]
+pub struct Round {
+    // The attempt under way.
+    pub(crate) pump: Pump,
+    // So many attempts more may be made.
+    more: u8,
+}
+
+/// What comes of the begin of a round.
+#[derive(Drop)]
+pub enum Begun {
+    /// The round may take its turns.
+    Ready(Round),
+    /// The book met a disk fault before. The session is as it was.
+    Stale,
+    /// There was no memory for the rows.
+    OutOfMemory,
+}
+
+/// What comes of one turn of a round.
+#[derive(Clone, Copy, Debug, PartialEq, Eq)]
+pub enum Turn {
+    /// The link or the book was called once, and the round goes on.
+    More,
+    /// The round is over. No turn may follow.
+    Ended(RoundEnd),
+}
+
+impl Round {
+    ghost use Rattle.dmpaft_driver.specs.Pump.{Settling, begun};
+    ghost use Rattle.dmpaft_driver.specs.Shown.{Shows, left_of, no_tally};
+    ghost use Rattle.station_session.specs.RoundAt.{left};
+    ghost use Rattle.station_session.specs.Stepping.{GoesOn};
+
+    // A round whose first attempt asks after this stamp.
+    pub(crate) fn new(last: Option<Stamp>) -> Round
+        ensures shows { Shows no_tally last (begun last Settling) result.pump }
+        ensures left { left_of result.pump < 2 ^ 30 }
+        ensures more { result.more ≡ 2 }
+    {
+        Round {
+            pump: Pump::new(last),
+            more: ATTEMPTS - 1,
+        }
+    }
+
+    // How many attempts were begun.
+    pub(crate) fn attempts(&self) -> u8
+        requires { self.now.more ≤ 3 }
+        ensures { result + self.now.more ≡ 3 }
+    {
+        ATTEMPTS - self.more
+    }
+
+    // What the attempts brought.
+    pub(crate) fn tally(&self) -> Tally
+        ensures { result ≡ self.now.pump.tally }
+    {
+        self.pump.tally()
+    }
+
+    // Goes on after a step of the attempt, or ends with it. Where the attempt failed the next one begins, after this stamp,
+    // and where its batch was refused the round is over.
+    pub(crate) fn go_on(&mut self, end: Option<DumpEnd>, last: Option<Stamp>) -> Turn
+        requires pages { self.old.pump.tally.pages < 2 ^ 31 }
+        requires skipped { self.old.pump.tally.skipped < 2 ^ 31 }
+        ensures goes { GoesOn end result last self.old self.new }
+        ensures left { left self.new ≤ left self.old }
+    {
+        if let Some(end) = end {
+            return Turn::Ended(round_end(end));
+        }
+        match self.pump.ended() {
+            Some(PumpEnd::Failed(_)) if self.more > 0 => {
+                self.more -= 1;
+                self.pump = Pump::resume(last, self.pump.tally());
+                Turn::More
+            }
+            Some(end) => match refused(end) {
+                Some(end) => Turn::Ended(end),
+                None => Turn::More,
+            },
+            None => Turn::More,
+        }
+    }
+}
