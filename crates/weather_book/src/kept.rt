@@ -76,7 +76,7 @@ impl Kept {
                 Err(_) => return Err(OutOfMemory),
             }
         }
-        self.tail = self.tail.with(row);
+        self.tail.push(row);
         self.count += 1;
         Ok(())
     }

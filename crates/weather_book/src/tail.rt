@@ -76,33 +76,28 @@ impl Tail {
         if self.begins_day(stamp) { CLOSING } else { 0 }
     }
 
-    // The summary of the day of this stamp, before a row of it: that of the last row's day, unless it begins a later one.
-    fn running_before(&self, stamp: Stamp) -> DaySummary
-        ensures same { begins_day self.now.last stamp ≡ false → result ≡ self.now.running }
-        ensures later { begins_day self.now.last stamp ≡ true → result ≡ summary_of [] }
-        ensures bounds { IsInBounds result }
+    // Makes the summary ready for a row of this stamp: none of the rows so far, where it begins a later day.
+    fn turn_to(&mut self, stamp: Stamp)
+        ensures last { self.new.last ≡ self.old.last }
+        ensures same { begins_day self.old.last stamp ≡ false → self.new.running ≡ self.old.running }
+        ensures later { begins_day self.old.last stamp ≡ true → self.new.running ≡ summary_of [] }
         ensures some { 1 ≤ minutes_into (Some stamp) }
     {
         if self.begins_day(stamp) {
-            DaySummary::new()
-        } else {
-            self.running
+            self.running = DaySummary::new();
         }
     }
 
-    // The end when this row stands behind them.
-    pub fn with(&self, row: &Row) -> Tail
-        requires rises { exceeds self.now.last row.now.stamp ≡ true }
+    // One row more.
+    pub fn push(&mut self, row: &Row)
+        requires rises { exceeds self.old.last row.now.stamp ≡ true }
         requires printable { All IsPrintable row.now.values }
-        ensures ends { (rows : List Row) → EndsRows self.now rows → EndsRows result (rows ++ row.now ∷ []) }
-        ensures last { result.last ≡ Some row.now.stamp }
+        ensures ends { (rows : List Row) → EndsRows self.old rows → EndsRows self.new (rows ++ row.now ∷ []) }
+        ensures last { self.new.last ≡ Some row.now.stamp }
     {
-        let mut running = self.running_before(row.stamp);
-        running.add(row);
-        Tail {
-            last: Some(row.stamp),
-            running,
-        }
+        self.turn_to(row.stamp);
+        self.running.add(row);
+        self.last = Some(row.stamp);
     }
 
     // Slot `k` of those that close the day.

@@ -11,7 +11,7 @@ use Rattle.weather_book.proofs.kept.Kept.push.Goals.{then-begins+in-Ok, else-beg
 pub returns-clause-keeps : goal.returns-clause-keeps
 returns-clause-keeps c rows keeps =
     let self = c.args.self.now in let row = c.args.row.now in
-    keeps_more self.days.items self.count self.tail c.with-self.result rows row c.if-begins.self.1.0.items c.begins_entry-begins.result keeps c.requires.back (c.with-self.ensures.ends rows keeps.ends) c.begins_entry-begins.ensures.begins
+    keeps_more self.days.items self.count self.tail c.push-2.new.self rows row c.if-begins.self.1.0.items c.begins_entry-begins.result keeps c.requires.back (c.push-2.ensures.ends rows keeps.ends) c.begins_entry-begins.ensures.begins
     (elim c.if-begins.branch [
       | then-begins+in-Ok w ↦ λ test. rw w.self-is
           (w.in-Ok.ensures.items ∙ ap (λ (d : ℤ). self.days.items ++ record { day = record { 0 = d }; first = self.count } ∷ []) w.archive_day.ensures.day)
@@ -20,7 +20,7 @@ returns-clause-keeps c rows keeps =
     (elim c.if-begins.branch [
       | then-begins+in-Ok w ↦ λ test. absurd (let e : true ≡ false = sym w.if-begins.true ∙ test in cc e)
       | else-begins w ↦ λ test. rw w.self-is refl
-    ]) c.requires.rises (omega (arith, ints, c.begins_entry-begins.ensures.range)) (omega (arith, ints, c.begins_entry-begins.ensures.range)) c.with-self.ensures.last c.begins_entry-begins.ensures.range
+    ]) c.requires.rises (omega (arith, ints, c.begins_entry-begins.ensures.range)) (omega (arith, ints, c.begins_entry-begins.ensures.range)) c.push-2.ensures.last c.begins_entry-begins.ensures.range
 
 pub invariant_of-self-2 : goal.invariant_of-self-2
 invariant_of-self-2 c =
@@ -28,8 +28,8 @@ invariant_of-self-2 c =
     record {
       some = ∥∥₁_map self.some (λ p. (
         p.0 ++ row ∷ [],
-        keeps_more self.days.items self.count self.tail c.with-self.result p.0 row c.if-begins.self.1.0.items c.begins_entry-begins.result p.1 c.requires.back
-            (c.with-self.ensures.ends p.0 p.1.ends) c.begins_entry-begins.ensures.begins
+        keeps_more self.days.items self.count self.tail c.push-2.new.self p.0 row c.if-begins.self.1.0.items c.begins_entry-begins.result p.1 c.requires.back
+            (c.push-2.ensures.ends p.0 p.1.ends) c.begins_entry-begins.ensures.begins
             (elim c.if-begins.branch [
               | then-begins+in-Ok w ↦ λ test. rw w.self-is
                   (w.in-Ok.ensures.items ∙ ap (λ (d : ℤ). self.days.items ++ record { day = record { 0 = d }; first = self.count } ∷ []) w.archive_day.ensures.day)
@@ -38,7 +38,7 @@ invariant_of-self-2 c =
             (elim c.if-begins.branch [
               | then-begins+in-Ok w ↦ λ test. absurd (let e : true ≡ false = sym w.if-begins.true ∙ test in cc e)
               | else-begins w ↦ λ test. rw w.self-is refl
-            ]) c.requires.rises (omega (arith, ints, c.begins_entry-begins.ensures.range)) (omega (arith, ints, c.begins_entry-begins.ensures.range)) c.with-self.ensures.last c.begins_entry-begins.ensures.range,
+            ]) c.requires.rises (omega (arith, ints, c.begins_entry-begins.ensures.range)) (omega (arith, ints, c.begins_entry-begins.ensures.range)) c.push-2.ensures.last c.begins_entry-begins.ensures.range,
       ));
     }
 
