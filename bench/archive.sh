@@ -1,19 +1,12 @@
 #!/usr/bin/env bash
 # Measures an archive in a real file by a proved program over the adapter that the station uses. It makes one of
-# 1,048,576 rows over ten years, without waiting for the disk, and prints how long opening it takes and how much memory
+# 1,048,575 rows over ten years, without waiting for the disk, and prints how long opening it takes and how much memory
 # that holds. Then it adds batches of five rows of 37 values, in turns with SQLite's transactions of five such rows
 # (synchronous=FULL, by its rollback journal and by its write-ahead log), in one folder. It is no test.
 set -eu
 cd "$(dirname "$0")/.."
-copy=out/bench/archive
-mkdir -p "$copy/crates/measure/src"
-cp HANDLES "$copy"
-below='causes station_base serial_link station_io disk_model gated_log weather_book station_outside'
-sed "s/^station_replay:.*/measure: $below/" crates.txt >"$copy/crates.txt"
-for name in $(sed -n 's/^\([a-z_]*\):.*/\1/p' "$copy/crates.txt"); do
-    [ "$name" = measure ] || tar -C crates --exclude=out -c "$name" | tar -C "$copy/crates" -x
-done
-grep -q '^station_outside:' "$copy/crates.txt"
+. bench/measure.sh
+copy_crates archive 'causes station_base serial_link station_io disk_model gated_log weather_book station_outside'
 cat >"$copy/crates/measure/src/main.rt" <<'PROGRAM'
 //! `add FILE N` opens the archive of a file for writing, makes it where there is none, and adds N batches of five rows;
 //! `read FILE` opens it for reading. Each prints how many rows the archive has then, over how many days.
@@ -141,10 +134,6 @@ fn main(rt: HostRuntime) -> io::Result<()> {
     }
 }
 PROGRAM
-prove() {
-    mkdir -p "$copy/crates/measure/proofs/$1"
-    cat >"$copy/crates/measure/proofs/$1/$2.antt"
-}
 prove row_at Answers <<'PROOF'
 use Rattle.std.proofs.Common.{arith, pos, refl, Some}
 use Rattle.std.proofs.lemmas.Int.{ints}
@@ -214,17 +203,17 @@ gcc -shared -fPIC -O2 -x c -o "$copy/unsynced.so" - <<'UNSYNCED'
 int fdatasync(int file) { return 0; }
 int fsync(int file) { return 0; }
 UNSYNCED
-python3 - "$copy/crates/measure/out/measure" "$copy/unsynced.so" "$copy/files" <<'MEASURE'
-import os
+PYTHONPATH=bench python3 - "$copy/crates/measure/out/measure" "$copy/unsynced.so" "$copy/files" <<'MEASURE'
 import pathlib
 import sqlite3
 import statistics
-import subprocess
 import sys
 import time
 
+import runs
+
 program, unsynced, folder = sys.argv[1:]
-ROWS = 1_048_576
+ROWS = 1_048_575
 BATCHES = 200
 TURNS = 5
 files = pathlib.Path(folder)
@@ -234,17 +223,13 @@ for old in files.iterdir():
 
 
 def run(*words, **environment):
-    """What the program prints, the seconds it takes, and its greatest resident memory in MiB."""
-    begun = time.monotonic()
-    process = subprocess.Popen([program, *words], stdout=subprocess.PIPE, text=True, env={**os.environ, **environment})
-    said = process.stdout.read()
-    _, status, usage = os.wait4(process.pid, 0)
-    assert status == 0 and 'rows' in said, said
-    return said.strip(), time.monotonic() - begun, usage.ru_maxrss / 1024
+    of = runs.run([program, *words], **environment)
+    assert 'rows' in of.said, of.said
+    return of
 
 
 def add_by_program(name, batches):
-    return run('add', str(files / name), str(batches))[1]
+    return run('add', str(files / name), str(batches)).seconds
 
 
 def add_by_sqlite(name, batches, journal):
@@ -267,13 +252,14 @@ def add_by_sqlite(name, batches, journal):
 
 
 large = str(files / 'large')
-whole, rest = divmod(ROWS, 5)
-print('made', run('add', large, str(whole), LD_PRELOAD=unsynced)[0])
+print('made', run('add', large, str(ROWS // 5), LD_PRELOAD=unsynced).said.strip())
 opened = [run('read', large) for turn in range(TURNS)]
-print(f'opened to read in {statistics.median(s for _, s, _ in opened):.2f} s,',
-      f'resident at most {max(m for _, _, m in opened):.1f} MiB')
+print(f'opened to read in {statistics.median(of.seconds for of in opened):.2f} s,',
+      f'{statistics.median(of.user for of in opened):.2f} s of the processor in the program',
+      f'and {statistics.median(of.system for of in opened):.2f} s in the system,',
+      f'resident at most {max(of.mebibytes for of in opened):.1f} MiB')
 add_by_program('small', 1)
-print(f"without an archive to speak of, resident {run('read', str(files / 'small'))[2]:.1f} MiB")
+print(f"without an archive to speak of, resident {run('read', str(files / 'small')).mebibytes:.1f} MiB")
 ways = {
     'add': lambda: add_by_program('small', BATCHES),
     'SQLite, rollback journal': lambda: add_by_sqlite('rollback', BATCHES, 'DELETE'),

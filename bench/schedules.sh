@@ -5,14 +5,8 @@
 # the time of one, the greatest resident memory, and the size of a talk item. It is no test.
 set -eu
 cd "$(dirname "$0")/.."
-copy=out/bench/schedules
-mkdir -p "$copy/crates/measure/src" "$copy/crates/measure/proofs/last_of"
-cp HANDLES "$copy"
-below='causes station_base archive_record loop_packet eeprom_map console_model serial_link dmpaft_driver station_sim'
-sed "s/^station_replay:.*/measure: $below/" crates.txt >"$copy/crates.txt"
-for name in $(sed -n 's/^\([a-z_]*\):.*/\1/p' "$copy/crates.txt"); do
-    [ "$name" = measure ] || tar -C crates --exclude=out -c "$name" | tar -C "$copy/crates" -x
-done
+. bench/measure.sh
+copy_crates schedules 'causes station_base archive_record loop_packet eeprom_map console_model serial_link dmpaft_driver station_sim'
 cat >"$copy/crates/measure/src/main.rt" <<'PROGRAM'
 //! `read FILE ..` reads the schedule of a file as often as there are further words, and prints how many records it has;
 //! `go FILE ..` goes through it as often, and prints how many records were kept.
@@ -138,7 +132,7 @@ fn main(rt: HostRuntime) -> io::Result<()> {
     Ok(())
 }
 PROGRAM
-cat >"$copy/crates/measure/proofs/last_of/Invariants.antt" <<'PROOF'
+prove last_of Invariants <<'PROOF'
 use Rattle.std.proofs.Common.{◌≡◌, drop}
 use Rattle.station_base.specs.LastStamp.{last_stamp}
 use Rattle.archive_record.specs.Reading.{stamp_in}
@@ -148,9 +142,11 @@ abbrev pub invariant-loop-row : goal.invariant-loop-row
 invariant-loop-row l = last_stamp stamp_in (drop l.row-index l.rows) l.last ≡ last_stamp stamp_in l.rows l.initial.last
 PROOF
 (cd "$copy/crates/measure" && rt run -- >/dev/null)
-python3 - "$copy" <<'MEASURE'
-import os, statistics, subprocess, sys
+PYTHONPATH=bench python3 - "$copy" <<'MEASURE'
+import statistics, sys
 from datetime import datetime, timedelta
+
+import runs
 
 copy = sys.argv[1]
 program = f'{copy}/crates/measure/out/measure'
@@ -170,18 +166,17 @@ schedules = {
 }
 
 def run(what, times):
-    process = subprocess.Popen([program, what, path] + ['again'] * times, stdout=subprocess.PIPE, text=True)
-    said = process.stdout.read()
-    _, status, usage = os.wait4(process.pid, 0)
-    assert status == 0 and said.splitlines()[1:] == ['20000'] * times, said
-    return usage.ru_utime + usage.ru_stime, usage.ru_maxrss, said.splitlines()[0]
+    of = runs.run([program, what, path] + ['again'] * times)
+    size, *said = of.said.splitlines()
+    assert said == ['20000'] * times, of.said
+    return of.user + of.system, of.mebibytes, size
 
 for name, (what, more, lines) in schedules.items():
     with open(path, 'w') as file:
         file.write('\n'.join(lines) + '\n')
-    runs = {times: [run(what, times) for turn in range(3)] for times in (1, 1 + more)}
-    medians = {times: statistics.median(seconds for seconds, _, _ in of) for times, of in runs.items()}
+    taken = {times: [run(what, times) for turn in range(3)] for times in (1, 1 + more)}
+    medians = {times: statistics.median(seconds for seconds, _, _ in of) for times, of in taken.items()}
     once = (medians[1 + more] - medians[1]) / more
-    print(f'{name}: {once * 1000:.1f} ms, resident at most {max(memory for _, memory, _ in runs[1]) / 1024:.1f} MiB')
-print(runs[1][0][2])
+    print(f'{name}: {once * 1000:.1f} ms, resident at most {max(memory for _, memory, _ in taken[1]):.1f} MiB')
+print(taken[1][0][2])
 MEASURE
