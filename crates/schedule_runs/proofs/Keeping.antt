@@ -1,0 +1,138 @@
+-- What a keeper answers to the batches of an attempt.
+use Rattle.std.proofs.Common.{◌≡◌, ◌≢◌, ℕ, ◌+◌, ◌-◌, ◌/◌, ◌≤◌, ◌==◌, Bool, true, false, List, [], ◌∷◌, ◌++◌}
+use Rattle.std.proofs.Common.{length, Option, Some, None, refl, sym, subst, arith, length-append}
+use Rattle.std.specs.Prelude.{nat_lt}
+use Rattle.station_base.specs.CivilMinute.{CivilMinute}
+use Rattle.causes.specs.declared.stored.Stored.{Stored}
+use Rattle.causes.specs.declared.stored.Stored.TheVariants as stored
+use Rattle.dmpaft_driver.specs.Batch.{batches, answered, EndsGiving}
+use Rattle.dmpaft_driver.specs.Keeper.{Delivery, delivery}
+use Rattle.dmpaft_driver.specs.Pump.{batch_of}
+use Rattle.dmpaft_driver.specs.Shown.{all_kept}
+use Rattle.dmpaft_driver.proofs.Pumping.{kept_none}
+use Rattle.dmpaft_driver.proofs.Steps.{one_more}
+use Rattle.dmpaft_driver.proofs.Unrolling.{gives_so}
+use Rattle.station_session.specs.Batches.{kept_of, kept_records, kept_count, one_kept, Fits, Fit}
+use Rattle.station_session.proofs.Parts.{count_parts}
+use Rattle.station_replay.specs.Schedule.{Stop}
+use Rattle.station_replay.specs.Session.{NotPast, ComesAt}
+
+-- where both parts fit, the second behind what was kept of the first, both do
+pub fit_joins : (most held : ℕ) (xs ys : List Delivery) → Fit most held xs
+    → Fit most (held + length (kept_records xs)) ys → Fit most held (xs ++ ys)
+fit_joins most held [] ys front back =
+    let same : held + 0 ≡ held = omega arith in subst (λ (n : ℕ). Fit most n ys) same back
+fit_joins most held (x ∷ xs) ys front back =
+    let here = kept_of x.answer x.rows in
+    let same : held + length (here ++ kept_records xs) ≡ held + length here + length (kept_records xs)
+    = omega (arith, length-append (kept_of x.answer x.rows) (kept_records xs)) in
+    (front.0, fit_joins most (held + length here) xs ys front.1 (subst (λ (n : ℕ). Fit most n ys) same back))
+
+-- What a keeper answers to a batch, where with it there would be so many rows, and so many batches were stored before.
+pub record Answers (most count before : ℕ) (stop : Option Stop) : Type 0 where
+  pub answer : Stored
+  pub fresh : answer ≢ stored.Stale
+  pub fits : Fits answer most count
+  pub not_past : NotPast stop (before + one_kept answer)
+  pub at : answer ≡ stored.DiskFault → ComesAt stop (before + one_kept answer)
+
+-- there is such an answer to each batch before which no stop came
+pub answers : (most count before : ℕ) (stop : Option Stop) → NotPast stop before → Answers most count before stop
+answers most count before stop not_past = by_room (nat_lt most count) refl
+  where
+    none_more : before ≡ before + 0
+    none_more = omega arith
+
+    stores : (stop : Option Stop) → count ≤ most → NotPast stop (before + 1) → Answers most count before stop
+    stores stop room next = record { answer = stored.Done; fresh = λ e. cc; fits = room; not_past = next; at = λ e. cc }
+
+    by_place : (s : Stop) (here : Bool) → ((s.change - 1) / 4 == before) ≡ here → count ≤ most
+        → before ≤ (s.change - 1) / 4 → Answers most count before (Some s)
+    by_place s true is room not_past = record {
+      answer = stored.DiskFault;
+      fresh = λ e. cc;
+      fits = room;
+      not_past = omega (arith, not_past);
+      at = λ e. grind (arith, is);
+    }
+    by_place s false is room not_past =
+        let other : (s.change - 1) / 4 ≢ before = grind (arith, is) in
+        stores (Some s) room (omega (arith, not_past, other))
+
+    by_stop : (stop : Option Stop) → count ≤ most → NotPast stop before → Answers most count before stop
+    by_stop None room not_past = stores None room tt
+    by_stop (Some s) room not_past = by_place s ((s.change - 1) / 4 == before) refl room not_past
+
+    by_room : (full : Bool) → nat_lt most count ≡ full → Answers most count before stop
+    by_room true is = record {
+      answer = stored.Full;
+      fresh = λ e. cc;
+      fits = grind (arith, is);
+      not_past = subst (NotPast stop) none_more not_past;
+      at = λ e. cc;
+    }
+    by_room false is = let room : count ≤ most = grind (arith, is) in by_stop stop room not_past
+
+module _ (after : Option CivilMinute) (most held before : ℕ) (stop : Option Stop) where
+  -- the batches of these pages with their answers, where the last was answered so
+  abbrev given : Stored → ℕ → List (List ℕ) → List Delivery
+  given answer place taken = answered answer (batches after place taken)
+
+  -- The batches of these pages were given to the keeper, and the last of them was answered so.
+  pub record Kept (answer : Stored) (place : ℕ) (taken : List (List ℕ)) : Type 0 where
+    pub fresh : answer ≢ stored.Stale
+    pub fits : Fit most held (given answer place taken)
+    pub not_past : NotPast stop (before + kept_count (given answer place taken))
+    pub at : answer ≡ stored.DiskFault → ComesAt stop (before + kept_count (given answer place taken))
+    pub gives : answer ≢ stored.Done → EndsGiving after place taken
+
+  -- before the first page
+  pub none_kept : NotPast stop before → (place : ℕ) → Kept stored.Done place []
+  none_kept not_past place =
+      let same : before ≡ before + 0 = omega arith in
+      record {
+        fresh = λ e. cc;
+        fits = tt;
+        not_past = subst (NotPast stop) same not_past;
+        at = λ e. cc;
+        gives = λ ne. absurd (ne refl);
+      }
+
+  -- after a page with no batch
+  pub same_kept : (place : ℕ) (taken : List (List ℕ)) (page : List ℕ) → batch_of after place taken page ≡ []
+      → Kept stored.Done place taken → Kept stored.Done place (taken ++ page ∷ [])
+  same_kept place taken page none k =
+      let same = sym (kept_none after place taken page none) in
+      record {
+        fresh = λ e. cc;
+        fits = subst (λ (ss : List Delivery). Fit most held ss) same k.fits;
+        not_past = subst (λ (ss : List Delivery). NotPast stop (before + kept_count ss)) same k.not_past;
+        at = λ e. cc;
+        gives = λ ne. absurd (ne refl);
+      }
+
+  -- after a page with one, there is an answer to it
+  pub more_kept : (place : ℕ) (taken : List (List ℕ)) (page : List ℕ) → batch_of after place taken page ≢ []
+      → Kept stored.Done place taken → (answer : Stored) × Kept answer place (taken ++ page ∷ [])
+  more_kept place taken page some k =
+      let old = all_kept after place taken in
+      let batch = batch_of after place taken page in
+      let count = held + length (kept_records old) + length batch in
+      let y = answers most count (before + kept_count old) stop k.not_past in
+      let new = delivery batch y.answer ∷ [] in
+      let same = sym (one_more after place taken page some y.answer) in
+      let sum : kept_count (old ++ new) ≡ kept_count old + kept_count new = count_parts old new in
+      let stored_is : before + kept_count old + one_kept y.answer ≡ before + kept_count (old ++ new)
+      = omega (arith, sum) in (
+        y.answer,
+        record {
+          fresh = y.fresh;
+          fits = subst (λ (ss : List Delivery). Fit most held ss) same
+              (fit_joins most held old new k.fits (y.fits, tt));
+          not_past = subst (λ (ss : List Delivery). NotPast stop (before + kept_count ss)) same
+              (subst (NotPast stop) stored_is y.not_past);
+          at = λ e. subst (λ (ss : List Delivery). ComesAt stop (before + kept_count ss)) same
+              (subst (ComesAt stop) stored_is (y.at e));
+          gives = λ ne. gives_so after place taken page some;
+        },
+      )

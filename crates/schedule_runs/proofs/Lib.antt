@@ -1,0 +1,5 @@
+pub mod Hearing
+pub mod Keeping
+pub mod Attempting
+pub mod Rounding
+pub mod Running
