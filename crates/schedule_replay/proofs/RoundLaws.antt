@@ -1,0 +1,203 @@
+-- What a round of a run comes to at a stage.
+use Rattle.std.proofs.Common.{◌≡◌, ℕ, ◌+◌, ◌≤◌, Bool, true, false, not, if◌then◌else◌, List, [], ◌∷◌, ◌++◌, length, Option, Some, None, refl, sym, ◌∙◌, ap, subst, arith, append-nil, inl, inr}
+use Rattle.std.specs.Io.KnownBytes.{Appends}
+use Rattle.causes.specs.Written.{WritesPart}
+use Rattle.settings_file.specs.StationSettings.{StationSettings}
+use Rattle.disk_model.specs.Disk.{MayBegin}
+use Rattle.disk_model.specs.Stopping.{stopping_medium}
+use Rattle.disk_model.specs.declared.mem_disk.MemDisk.{MemDisk}
+use Rattle.disk_model.specs.declared.stopping.Stopping.{Stopping}
+use Rattle.station_session.specs.declared.limits.TheConstants.{MOST_CHANGES}
+use Rattle.station_session.specs.declared.session.Session.{Session}
+use Rattle.station_session.specs.Round.{round_host}
+use Rattle.station_sim.specs.declared.fates.Fates as code
+use Rattle.station_sim.specs.declared.schedule.step.Stop as code_stop
+use Rattle.station_sim.specs.declared.sim.Sim.{Sim}
+use Rattle.station_sim.specs.declared.unseen.Unseen.{Unseen}
+use Rattle.station_sim.specs.Fates.{Fates}
+use Rattle.station_sim.specs.Lists.{fates_of, left_in}
+use Rattle.station_sim.specs.Standing.{StandsFor}
+use Rattle.station_replay.specs.Keeping.{Archive}
+use Rattle.station_replay.specs.Replay.{IsBroken, Item, Stage, after_round, first, is_stop, opened}
+use Rattle.station_replay.specs.Schedule.{Step, Stop, no_fates}
+use Rattle.station_replay.specs.Texts.{text, text_of, tried_of}
+use Rattle.station_session.specs.Attempts.{all_said}
+use Rattle.station_replay.proofs.Leaving.{total_few}
+use Rattle.station_replay.proofs.Stops.{slots_is}
+use Rattle.schedule_replay.specs.declared.playing.Played.{Played}
+use Rattle.schedule_replay.specs.declared.run.Run.{Run}
+use Rattle.schedule_replay.specs.Opening.{CanOpen, limits_of}
+use Rattle.schedule_replay.specs.Played.{Host, IsCounted, IsPlayedOut, IsToldOf, MayPlay, PlaysBy}
+use Rattle.schedule_replay.specs.Resting.{GoesOn, IsRoomFor}
+use Rattle.schedule_replay.specs.Running.{After, IsCut}
+use Rattle.schedule_replay.specs.Standing.{HasRunRoom, HasSaid, HasSession, HoldsAt, IsTold, LineAt, MayOpen, MayRun, Readies, StandsThere, round_step, said_in}
+use Rattle.schedule_replay.specs.Stops.{stop_set}
+use Rattle.schedule_replay.proofs.RunLaws.{behind_part, behind_text}
+
+opened_line : (t : Bool) (s : Stage) → (opened t s).line ≡ s.line
+opened_line true s = refl
+opened_line false s = refl
+
+pub opened_rows : (t : Bool) (s : Stage) → (opened t s).archive.rows ≡ s.archive.rows
+opened_rows true s = refl
+opened_rows false s = refl
+
+pub opened_rounds : (t : Bool) (s : Stage) → (opened t s).rounds ≡ s.rounds
+opened_rounds true s = refl
+opened_rounds false s = refl
+
+one_or_three : (t : Bool) → (if t then 1 else 3) ≤ 3
+one_or_three true = omega arith
+one_or_three false = omega arith
+
+opened_changes : (t : Bool) (s : Stage) → (opened t s).archive.changes ≤ s.archive.changes + 3
+opened_changes true s = omega arith
+opened_changes false s = let n = one_or_three (Rattle.std.specs.Prelude.nat_lt 177 s.archive.size) in omega (arith, n)
+
+opened_counted : (t : Bool) (records : ℕ) (settings : StationSettings) (f : Fates) (s : Stage) → IsCounted records settings f s → IsCounted records settings f (opened t s)
+opened_counted true records settings f s c = c
+opened_counted false records settings f s c = c
+
+-- a run that has room can open its archive
+pub can_open : (records openings : ℕ) (settings : StationSettings) (s : Stage) (run : Run) (disk : Stopping MemDisk) → HoldsAt openings settings s run disk → HasRunRoom records openings s disk → CanOpen disk
+can_open records openings settings s run disk h r =
+    let slots_few = total_few s.archive.rows in
+    let slots_are = slots_is s.archive.rows in
+    record {
+      capacity = omega (arith, r.room.capacity);
+      changes = omega (arith, h.rests.room.changes, r.changes, r.rows, r.room.changes);
+      bytes = omega (arith, h.rests.room.bytes, slots_few, slots_are, r.rows, r.few, r.room.bytes);
+      moments = omega (arith, h.rests.rests.changes_are, r.changes, r.rows, r.records_are);
+    }
+
+pub may_open : (settings : StationSettings) (x : Step) (run : Run) (line : Sim) (disk : Stopping MemDisk) → MayRun settings x run line disk → MayOpen settings run disk
+may_open settings x run line disk (records, openings, s, h, l, (room, may), few) = (openings, s, h, can_open records openings settings s run disk h room)
+
+-- behind its opening it may play the round
+pub may_play : (records openings : ℕ) (settings : StationSettings) (fates : code.Fates) (stop : Option code_stop.Stop) (s : Stage) (run : Run) (session : Session) (line : Sim) (disk now : Stopping MemDisk) → LineAt s line
+    → StandsThere records openings settings (round_step fates stop) s disk → Readies openings settings s run session now → limits_of now ≡ limits_of disk → MayPlay records settings (fates_of fates) (openings + 1) (opened s.is_open s) (round_host session line now)
+may_play records openings settings fates stop s run session line disk now l (room, (is_stop_, counted, few)) r limits =
+    let rows = opened_rows s.is_open s in
+    record {
+      line = subst (StandsFor line) (sym (opened_line s.is_open s)) l.stands;
+      disk = r.rests;
+      session = subst (λ z. GoesOn settings z session now) (sym rows) r.goes_on;
+      room = subst (IsRoomFor records) (sym limits) room.room;
+      counted = opened_counted s.is_open records settings (fates_of fates) s counted;
+      changes = omega (arith, opened_changes s.is_open s, few, ap length rows);
+      few = omega (arith, room.few);
+    }
+
+pub moments_left : (records openings : ℕ) (settings : StationSettings) (s : Stage) (run : Run) (session : Session) (disk now : Stopping MemDisk) → HasRunRoom records openings s disk → Readies openings settings s run session now → MayBegin stopping_medium MOST_CHANGES now
+moments_left records openings settings s run session disk now room r = omega (arith, r.rests.rests.changes_are, opened_changes s.is_open s, room.changes, room.rows, room.records_are)
+
+archive_of : (t : Bool) (s : Stage) (a : Archive) (w : _) → (after_round t s a w).archive ≡ a
+archive_of true s a w = refl
+archive_of false s a w = refl
+
+-- what was played is told
+pub told_of : (settings : StationSettings) (f : Fates) (left : ℕ → List (List ℕ)) (stop : Option Stop) (openings : ℕ) (s : Stage) (old : Host) (played : Played) (session : Session) (line : Sim) (disk : Stopping MemDisk)
+    → (o : IsPlayedOut settings f left stop openings s old played (round_host session line disk)) → IsToldOf settings openings stop session played disk o.round o.next.archive
+told_of settings f left stop openings s old played session line disk o =
+    let arc : o.next.archive ≡ o.is_round.archive = ap (λ u. u.archive) o.is_round.next ∙ archive_of (is_stop o.round.end) s o.is_round.archive _ in
+    let rows : o.round.rows ≡ o.is_round.archive.rows = ap (λ r. r.rows) o.is_round.is in
+    let same : o.next.archive.rows ≡ o.round.rows = ap (λ a. a.rows) arc ∙ sym rows in
+    record { tells = o.tells; rests = o.disk; rows = same; goes_on = λ still. subst (λ z. GoesOn settings z session disk) same (o.session still) }
+
+pub number_of : (settings : StationSettings) (f : Fates) (left : ℕ → List (List ℕ)) (stop : Option Stop) (openings : ℕ) (s : Stage) (old : Host) (played : Played) (new : Host)
+    → (o : IsPlayedOut settings f left stop openings s old played new) → o.round.number ≡ s.rounds + 1
+number_of settings f left stop openings s old played new o = ap (λ r. r.number) o.is_round.is
+
+after_open : (t : Bool) (s : Stage) (a : Archive) (w : _) → (after_round t s a w).is_open ≡ not t
+after_open true s a w = refl
+after_open false s a w = refl
+
+pub after_rounds : (t : Bool) (s : Stage) (a : Archive) (w : _) → (after_round t s a w).rounds ≡ s.rounds + 1
+after_rounds true s a w = refl
+after_rounds false s a w = refl
+
+after_written : (t : Bool) (s : Stage) (a : Archive) (w : _) → (after_round t s a w).written ≡ (if t then s.written else length a.rows)
+after_written true s a w = refl
+after_written false s a w = refl
+
+-- an opening before a round says nothing
+pub said_first : (t : Bool) (s : Stage) (xs : List Item) → said_in (first t s ++ xs) ≡ said_in xs
+said_first true s xs = refl
+said_first false s xs = refl
+
+-- a round that was told leads where it leaves the run
+pub told_after : (openings : ℕ) (settings : StationSettings) (fates : code.Fates) (stop : Option code_stop.Stop) (s : Stage) (old : Host) (played : Played) (session : Session) (line : Sim) (disk now : Stopping MemDisk) (run : Run) (before : ℕ) (a b c : Option (List ℕ))
+    → (o : IsPlayedOut settings (fates_of fates) (left_in fates.mids.items) (stop_set stop) openings (opened s.is_open s) old played (round_host session line disk)) → fates_of line.fates ≡ no_fates
+    → IsTold settings openings o.round o.next.archive before run now → run.rounds ≡ s.rounds + 1 → before ≡ (opened s.is_open s).written
+    → Appends a b (text (first s.is_open s)) → Appends b c (text_of (Item.Ran o.round))
+    → After false settings (round_step fates stop) s (λ is u. HoldsAt openings settings u run now × LineAt u line × HasSaid is old.link line) a c
+told_after openings settings fates stop s old played session line disk now run before a b c o none told rounds written one two =
+    let t = is_stop o.round.end in
+    let n = o.is_round.next in
+    let arc : o.next.archive ≡ o.is_round.archive = ap (λ u. u.archive) n ∙ archive_of t (opened s.is_open s) o.is_round.archive _ in
+    let open_is : o.next.is_open ≡ not t = ap (λ u. u.is_open) n ∙ after_open t (opened s.is_open s) o.is_round.archive _ in
+    let rounds_are : o.next.rounds ≡ (opened s.is_open s).rounds + 1 = ap (λ u. u.rounds) n ∙ after_rounds t (opened s.is_open s) o.is_round.archive _ in
+    let written_is : o.next.written ≡ (if t then (opened s.is_open s).written else length o.is_round.archive.rows) = ap (λ u. u.written) n ∙ after_written t (opened s.is_open s) o.is_round.archive _ in (
+      first s.is_open s ++ Item.Ran o.round ∷ [],
+      o.next,
+      (o.round, o.is_round, refl),
+      (
+        record {
+          rests = told.rests;
+          session = subst (λ (z : Bool). HasSession z settings o.next.archive.rows run.session now) (sym open_is) told.session;
+          rounds = rounds ∙ ap (λ (k : ℕ). k + 1) (sym (opened_rounds s.is_open s)) ∙ sym rounds_are;
+          written = told.written ∙ ap (λ (k : ℕ). if t then k else length o.next.archive.rows) written ∙ ap (λ (z : Archive). if t then (opened s.is_open s).written else length z.rows) arc ∙ sym written_is;
+        },
+        record { stands = o.line; fates = none },
+        o.said ∙ ap (λ l. old.link.talk.items ++ l) (sym (append-nil (all_said (tried_of o.round.tried)))) ∙ ap (λ l. old.link.talk.items ++ l) (sym (said_first s.is_open s (Item.Ran o.round ∷ []))),
+      ),
+      behind_text s (Item.Ran o.round) a b c one two,
+    )
+
+pub told_cut : (settings : StationSettings) (openings : ℕ) (fates : code.Fates) (stop : Option code_stop.Stop) (s : Stage) (old : Host) (played : Played) (new : Host) (a b c : Option (List ℕ))
+    → (o : IsPlayedOut settings (fates_of fates) (left_in fates.mids.items) (stop_set stop) openings (opened s.is_open s) old played new)
+    → Appends a b (text (first s.is_open s)) → WritesPart b c (text_of (Item.Ran o.round)) → IsCut settings (round_step fates stop) s a c
+told_cut settings openings fates stop s old played new a b c o one two =
+    inl (first s.is_open s ++ Item.Ran o.round ∷ [], o.next, (o.round, o.is_round, refl), behind_part s (Item.Ran o.round) a b c one two)
+
+pub unseen_after : (settings : StationSettings) (fates : code.Fates) (stop : Option code_stop.Stop) (s : Stage) (P : List Item → Stage → Type 0) (number : ℕ) (which : Unseen) (a b c : Option (List ℕ))
+    → IsBroken settings (fates_of fates) (stop_set stop) (opened s.is_open s) (Item.Unsaid ((opened s.is_open s).rounds + 1) which) → number ≡ s.rounds + 1
+    → Appends a b (text (first s.is_open s)) → Appends b c (text_of (Item.Unsaid number which)) → After true settings (round_step fates stop) s P a c
+unseen_after settings fates stop s P number which a b c broken is one two =
+    let same : number ≡ (opened s.is_open s).rounds + 1 = is ∙ ap (λ (k : ℕ). k + 1) (sym (opened_rounds s.is_open s)) in
+    let i = Item.Unsaid ((opened s.is_open s).rounds + 1) which in (
+      first s.is_open s ++ i ∷ [],
+      (fates_of fates, left_in fates.mids.items, stop_set stop, i, refl, broken, refl),
+      behind_text s i a b c one (subst (λ (k : ℕ). Appends b c (text_of (Item.Unsaid k which))) same two),
+    )
+
+pub unseen_cut : (settings : StationSettings) (fates : code.Fates) (stop : Option code_stop.Stop) (s : Stage) (number : ℕ) (which : Unseen) (a b c : Option (List ℕ))
+    → IsBroken settings (fates_of fates) (stop_set stop) (opened s.is_open s) (Item.Unsaid ((opened s.is_open s).rounds + 1) which) → number ≡ s.rounds + 1
+    → Appends a b (text (first s.is_open s)) → WritesPart b c (text_of (Item.Unsaid number which)) → IsCut settings (round_step fates stop) s a c
+unseen_cut settings fates stop s number which a b c broken is one two =
+    let same : number ≡ (opened s.is_open s).rounds + 1 = is ∙ ap (λ (k : ℕ). k + 1) (sym (opened_rounds s.is_open s)) in
+    let i = Item.Unsaid ((opened s.is_open s).rounds + 1) which in
+    inr (inl (
+      first s.is_open s ++ i ∷ [],
+      (fates_of fates, left_in fates.mids.items, stop_set stop, i, refl, broken, refl),
+      behind_part s i a b c one (subst (λ (k : ℕ). WritesPart b c (text_of (Item.Unsaid k which))) same two),
+    ))
+
+pub opening_cut : (settings : StationSettings) (fates : code.Fates) (stop : Option code_stop.Stop) (s : Stage) (a c : Option (List ℕ)) → WritesPart a c (text (first s.is_open s)) → IsCut settings (round_step fates stop) s a c
+opening_cut settings fates stop s a c w = inr (inr (inl (fates_of fates, left_in fates.mids.items, stop_set stop, refl, w)))
+
+pub part_whole : (a b : Option (List ℕ)) (t : List ℕ) → Appends a b t → WritesPart a b t
+part_whole a b t w = record { left = []; leaves = record { written = t; appended = w; whole = append-nil t } }
+
+pub written_of : (settings : StationSettings) (f : Fates) (left : ℕ → List (List ℕ)) (stop : Option Stop) (openings : ℕ) (s : Stage) (old : Host) (played : Played) (new : Host)
+    → (o : IsPlayedOut settings f left stop openings s old played new) → o.round.written ≡ s.written
+written_of settings f left stop openings s old played new o = ap (λ r. r.written) o.is_round.is
+
+-- what was played, by whether a delivery was unseen
+pub played_seen : (u : Option Unseen) (settings : StationSettings) (f : Fates) (left : ℕ → List (List ℕ)) (stop : Option Stop) (openings : ℕ) (s : Stage) (old : Host) (played : Played) (new : Host)
+    → u ≡ None → PlaysBy u settings f left stop openings s old played new → IsPlayedOut settings f left stop openings s old played new
+played_seen u settings f left stop openings s old played new is p = subst (λ (o : Option Unseen). PlaysBy o settings f left stop openings s old played new) is p
+
+pub played_unseen : (u : Option Unseen) (which : Unseen) (settings : StationSettings) (f : Fates) (left : ℕ → List (List ℕ)) (stop : Option Stop) (openings : ℕ) (s : Stage) (old : Host) (played : Played) (new : Host)
+    → u ≡ Some which → PlaysBy u settings f left stop openings s old played new → IsBroken settings f stop s (Item.Unsaid (s.rounds + 1) which)
+played_unseen u which settings f left stop openings s old played new is p = subst (λ (o : Option Unseen). PlaysBy o settings f left stop openings s old played new) is p

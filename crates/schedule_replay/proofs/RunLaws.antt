@@ -1,0 +1,244 @@
+-- What the works of a run come to at a stage.
+use Rattle.std.proofs.Common.{◌≡◌, ℕ, ◌+◌, Bool, true, false, not, if◌then◌else◌, List, [], ◌∷◌, ◌++◌, length, Option, Some, None, Result, Ok, Err, OnOk, OnErr, refl, sym, ◌∙◌, ap, subst, arith, append-nil, append_assoc, inl}
+use Rattle.std.specs.Io.KnownBytes.{Appends}
+use Rattle.causes.specs.Written.{WritesPart}
+use Rattle.station_base.specs.declared.row.Row.{Row}
+use Rattle.settings_file.specs.StationSettings.{StationSettings}
+use Rattle.disk_model.specs.declared.mem_disk.MemDisk.{MemDisk}
+use Rattle.disk_model.specs.declared.stopping.Stopping.{Stopping}
+use Rattle.station_session.specs.declared.session.Session.{Session}
+use Rattle.station_session.specs.Report.{acked}
+use Rattle.station_replay.specs.Keeping.{Archive}
+use Rattle.station_replay.specs.Round.{Ending}
+use Rattle.station_sim.specs.declared.schedule.step.Stop as code_stop
+use Rattle.station_replay.specs.Schedule.{Stop}
+use Rattle.station_replay.specs.Replay.{Does, Item, Opens, Stage, cut_archive, cut_short, first, made_ready, opened, opening, recovered, stops_opening, is_stop, Rounded}
+use Rattle.station_replay.specs.Texts.{text, text_of}
+use Rattle.schedule_replay.specs.declared.cut.Cut.{Cut}
+use Rattle.schedule_replay.specs.declared.cut.Cut.TheVariants.{WriteFault, OutOfMemory}
+use Rattle.schedule_replay.specs.declared.playing.Played.{Played}
+use Rattle.schedule_replay.specs.declared.round_line.RoundLine.{RoundLine}
+use Rattle.schedule_replay.specs.declared.run.Run.{Run}
+use Rattle.schedule_replay.specs.Played.{IsToldOf, Tells}
+use Rattle.schedule_replay.specs.RoundLine.{ending_of, Tells as TellsLine}
+use Rattle.schedule_replay.specs.Opening.{IsOpened, OpensBy}
+use Rattle.schedule_replay.specs.Running.{IsCut}
+use Rattle.schedule_replay.specs.Stops.{stop_of}
+use Rattle.schedule_replay.specs.Resting.{AtRest, GoesOn}
+use Rattle.schedule_replay.specs.Standing.{HasSession, HoldsAt, IsTold, LeadsTo, MayOpen, Readies, open_step}
+use Rattle.schedule_replay.specs.Writing.{IsOnlyRead, IsReadable, Writes}
+
+pub appends_none : (o : Option (List ℕ)) → Appends o o []
+appends_none None = tt
+appends_none (Some xs) = sym (append-nil xs)
+
+-- nothing is a front of everything
+pub part_none : (o : Option (List ℕ)) (t : List ℕ) → WritesPart o o t
+part_none o t = record { left = t; leaves = record { written = []; appended = appends_none o; whole = refl } }
+
+pub appends_join : (a b c : Option (List ℕ)) (s t : List ℕ) → Appends a b s → Appends b c t → Appends a c (s ++ t)
+appends_join None b c s t one two = tt
+appends_join (Some x) None c s t one two = absurd one
+appends_join (Some x) (Some y) None s t one two = absurd two
+appends_join (Some x) (Some y) (Some z) s t one two = two ∙ ap (λ l. l ++ t) one ∙ append_assoc x s t
+
+pub part_first : (a b : Option (List ℕ)) (s t : List ℕ) → WritesPart a b s → WritesPart a b (s ++ t)
+part_first a b s t p = record {
+  left = p.left ++ t;
+  leaves = record {
+    written = p.leaves.written;
+    appended = p.leaves.appended;
+    whole = sym (append_assoc p.leaves.written p.left t) ∙ ap (λ l. l ++ t) p.leaves.whole;
+  };
+}
+
+pub part_second : (a b c : Option (List ℕ)) (s t : List ℕ) → Appends a b s → WritesPart b c t → WritesPart a c (s ++ t)
+part_second a b c s t one two = record {
+  left = two.left;
+  leaves = record {
+    written = s ++ two.leaves.written;
+    appended = appends_join a b c s two.leaves.written one two.leaves.appended;
+    whole = append_assoc s two.leaves.written two.left ∙ ap (λ l. s ++ l) two.leaves.whole;
+  };
+}
+
+pub part_cut : (old new : Option (List ℕ)) (t : List ℕ) (cut : Cut) → Writes old new t (Err cut) → WritesPart old new t
+part_cut old new t WriteFault w = w
+part_cut old new t OutOfMemory w = absurd w
+
+pub text_one : (i : Item) → text (i ∷ []) ≡ text_of i
+text_one i = append-nil (text_of i)
+
+pub text_join : (xs ys : List Item) → text (xs ++ ys) ≡ text xs ++ text ys
+text_join [] ys = refl
+text_join (x ∷ xs) ys = ap (λ z. text_of x ++ z) (text_join xs ys) ∙ sym (append_assoc (text_of x) (text xs) (text ys))
+
+-- a run without a session is closed, and one with a session goes on with it
+pub closed_by : (t : Bool) (settings : StationSettings) (rows : List Row) (o : Option Session) (disk : Stopping MemDisk) → HasSession t settings rows o disk → o ≡ None → t ≡ false
+closed_by true settings rows None disk h is = absurd h
+closed_by true settings rows (Some x) disk h is = absurd cc
+closed_by false settings rows o disk h is = refl
+
+pub open_by : (t : Bool) (settings : StationSettings) (rows : List Row) (o : Option Session) (session : Session) (disk : Stopping MemDisk) → HasSession t settings rows o disk → o ≡ Some session → (t ≡ true) × GoesOn settings rows session disk
+open_by true settings rows None session disk h is = absurd h
+open_by true settings rows (Some x) session disk h is = (refl, subst (λ (z : Session). GoesOn settings rows z disk) (let e : x ≡ session = cc in e) h)
+open_by false settings rows None session disk h is = absurd cc
+open_by false settings rows (Some x) session disk h is = absurd h
+
+-- so many openings more have room in what is left
+pub rest_on : (openings k : ℕ) (a : Archive) (disk : Stopping MemDisk) → AtRest openings a disk → AtRest (openings + k) a disk
+rest_on openings k a disk r = record {
+  rests = r.rests;
+  unarmed = r.unarmed;
+  image = r.image;
+  seen = r.seen;
+  synced = r.synced;
+  length_is = r.length_is;
+  rows = r.rows;
+  second = r.second;
+  durable = r.durable;
+  left = r.left;
+  room = record { changes = r.room.changes; bytes = omega (arith, r.room.bytes) };
+}
+
+pub rest_more : (openings : ℕ) (a : Archive) (disk : Stopping MemDisk) → AtRest openings a disk → AtRest (openings + 1) a disk
+rest_more openings a disk r = rest_on openings 1 a disk r
+
+pub may_tell : (settings : StationSettings) (run : Run) (disk now : Stopping MemDisk) (session : Session) → MayOpen settings run disk
+    → ((openings : ℕ) (a : Archive) → AtRest openings a disk → IsOpened settings openings a session now) → IsReadable session now
+may_tell settings run disk now session (n, s, holds, can) opens =
+    let x = opens n s.archive holds.rests in
+    record { openings = n + 1; archive = made_ready s.archive; settings = settings; rows = s.archive.rows; rests = x.0; goes_on = x.1 }
+
+-- what an opening of a closed run writes
+pub opens_text : (s : Stage) (old new : Option (List ℕ)) → s.is_open ≡ false → Appends old new (text_of (opening s)) → Appends old new (text (first s.is_open s))
+opens_text s old new closed h = subst (λ (t : Bool). Appends old new (text (first t s))) (sym closed) (subst (Appends old new) (sym (text_one (opening s))) h)
+
+pub opens_part : (s : Stage) (old new : Option (List ℕ)) → s.is_open ≡ false → WritesPart old new (text_of (opening s)) → WritesPart old new (text (first s.is_open s))
+opens_part s old new closed h = subst (λ (t : Bool). WritesPart old new (text (first t s))) (sym closed) (subst (WritesPart old new) (sym (text_one (opening s))) h)
+
+stage_closed : (s : Stage) → s.is_open ≡ false → opened s.is_open s ≡ recovered s
+stage_closed s closed = ap (λ (t : Bool). opened t s) closed
+
+-- a closed run is ready behind its opening
+pub readies_closed : (openings : ℕ) (settings : StationSettings) (s : Stage) (run : Run) (session : Session) (disk : Stopping MemDisk) → s.is_open ≡ false → AtRest (openings + 1) (made_ready s.archive) disk → GoesOn settings s.archive.rows session disk
+    → run.rounds ≡ s.rounds → run.written ≡ length s.archive.rows → run.session ≡ None → Readies openings settings s run session disk
+readies_closed openings settings s run session disk closed rests goes rounds written none =
+    let e = stage_closed s closed in
+    record {
+      rests = subst (λ (u : Stage). AtRest (openings + 1) u.archive disk) (sym e) rests;
+      goes_on = goes;
+      rounds = rounds;
+      written = written ∙ ap (λ (u : Stage). u.written) (sym e);
+      none = none;
+    }
+
+-- and an open one at once
+pub readies_open : (openings : ℕ) (settings : StationSettings) (s : Stage) (run : Run) (session : Session) (disk : Stopping MemDisk) → s.is_open ≡ true → AtRest openings s.archive disk → GoesOn settings s.archive.rows session disk
+    → run.rounds ≡ s.rounds → run.written ≡ s.written → run.session ≡ None → Readies openings settings s run session disk
+readies_open openings settings s run session disk is rests goes rounds written none =
+    let e : opened s.is_open s ≡ s = ap (λ (t : Bool). opened t s) is in
+    record {
+      rests = subst (λ (u : Stage). AtRest (openings + 1) u.archive disk) (sym e) (rest_more openings s.archive disk rests);
+      goes_on = goes;
+      rounds = rounds;
+      written = written ∙ ap (λ (u : Stage). u.written) (sym e);
+      none = none;
+    }
+
+pub on_ok : {P : Type 0} (r : Result (Unit {0}) Cut) → (r ≡ Ok tt → P) → OnOk r P
+on_ok {P} (Ok x) f = f refl
+on_ok {P} (Err e) f = tt
+
+pub on_err : {P : Type 0} (r : Result (Unit {0}) Cut) → ((cut : Cut) → r ≡ Err cut → P) → OnErr r P
+on_err {P} (Ok x) f = tt
+on_err {P} (Err e) f = f e refl
+
+pub writes_ok : (old new : Option (List ℕ)) (t : List ℕ) (r : Result (Unit {0}) Cut) → r ≡ Ok tt → Writes old new t r → Appends old new t
+writes_ok old new t r is w = subst (Writes old new t) is w
+
+pub writes_err : (old new : Option (List ℕ)) (t : List ℕ) (r : Result (Unit {0}) Cut) (cut : Cut) → r ≡ Err cut → Writes old new t r → WritesPart old new t
+writes_err old new t r cut is w = part_cut old new t cut (subst (Writes old new t) is w)
+
+-- the texts of an opening where there is one, and of an item behind it
+pub behind_text : (s : Stage) (i : Item) (a b c : Option (List ℕ)) → Appends a b (text (first s.is_open s)) → Appends b c (text_of i) → Appends a c (text (first s.is_open s ++ i ∷ []))
+behind_text s i a b c one two =
+    subst (Appends a c) (sym (text_join (first s.is_open s) (i ∷ []))) (appends_join a b c (text (first s.is_open s)) (text (i ∷ [])) one (subst (Appends b c) (sym (text_one i)) two))
+
+pub behind_part : (s : Stage) (i : Item) (a b c : Option (List ℕ)) → Appends a b (text (first s.is_open s)) → WritesPart b c (text_of i) → WritesPart a c (text (first s.is_open s ++ i ∷ []))
+behind_part s i a b c one two =
+    subst (WritesPart a c) (sym (text_join (first s.is_open s) (i ∷ []))) (part_second a b c (text (first s.is_open s)) (text (i ∷ [])) one (subst (WritesPart b c) (sym (text_one i)) two))
+
+pub front_part : (s : Stage) (i : Item) (a b : Option (List ℕ)) → WritesPart a b (text (first s.is_open s)) → WritesPart a b (text (first s.is_open s ++ i ∷ []))
+front_part s i a b one = subst (WritesPart a b) (sym (text_join (first s.is_open s) (i ∷ []))) (part_first a b (text (first s.is_open s)) (text (i ∷ [])) one)
+
+pub ready_readable : (openings : ℕ) (settings : StationSettings) (s : Stage) (run : Run) (session : Session) (disk : Stopping MemDisk) → Readies openings settings s run session disk → IsReadable session disk
+ready_readable openings settings s run session disk r =
+    record { openings = openings + 1; archive = (opened s.is_open s).archive; settings = settings; rows = s.archive.rows; rests = r.rests; goes_on = r.goes_on }
+
+-- a stage with its session closed
+abbrev pub closed_stage : Stage → Stage
+closed_stage s = record s { is_open = false }
+
+pub holds_closed : (openings : ℕ) (settings : StationSettings) (s : Stage) (run : Run) (disk : Stopping MemDisk) → HoldsAt openings settings s run disk
+    → HoldsAt openings settings (closed_stage s) (record { session = None; rounds = run.rounds; written = run.written }) disk
+holds_closed openings settings s run disk h = record { rests = h.rests; session = tt; rounds = h.rounds; written = h.written }
+
+pub opens_some : (t : Bool) (settings : StationSettings) (stop : Stop) (n : ℕ) (a : Archive) (o : Option Session) (session : Session) (disk : Stopping MemDisk) → OpensBy t settings stop n a o disk → o ≡ Some session → (t ≡ false) × IsOpened settings n a session disk
+opens_some true settings stop n a o session disk h is = absurd (let e : None ≡ Some session = sym h.0 ∙ is in cc)
+opens_some false settings stop n a None session disk h is = absurd h
+opens_some false settings stop n a (Some x) session disk h is = (refl, subst (λ (z : Session). IsOpened settings n a z disk) (let e : x ≡ session = cc in e) h)
+
+pub opens_none : (t : Bool) (settings : StationSettings) (stop : Stop) (n : ℕ) (a : Archive) (o : Option Session) (disk : Stopping MemDisk) → OpensBy t settings stop n a o disk → o ≡ None → (t ≡ true) × AtRest (n + 1) (cut_archive stop a) disk
+opens_none true settings stop n a o disk h is = (refl, h.1)
+opens_none false settings stop n a None disk h is = absurd h
+opens_none false settings stop n a (Some x) disk h is = absurd cc
+
+pub does_plainly : (settings : StationSettings) (s : Stage) (stop : Option code_stop.Stop) → stop ≡ None → Does settings (open_step stop) s (opening s ∷ []) (recovered s)
+does_plainly settings s None is = (refl, refl)
+does_plainly settings s (Some k) is = absurd cc
+
+pub does_open : (settings : StationSettings) (s : Stage) (stop : Option code_stop.Stop) (k : code_stop.Stop) → stop ≡ Some k → stops_opening k.change s.archive.size ≡ false → Does settings (open_step stop) s (opening s ∷ []) (recovered s)
+does_open settings s None k is t = absurd cc
+does_open settings s (Some x) k is t =
+    let e : x ≡ k = cc in
+    subst (λ (z : Bool). Opens z (stop_of x) s (opening s ∷ []) (recovered s)) (sym (ap (λ (y : code_stop.Stop). stops_opening y.change s.archive.size) e ∙ t)) (refl, refl)
+
+pub does_stop : (settings : StationSettings) (s : Stage) (stop : Option code_stop.Stop) (k : code_stop.Stop) → stop ≡ Some k → stops_opening k.change s.archive.size ≡ true → Does settings (open_step stop) s (Item.OpenStopped k.change s.archive.rows ∷ []) (cut_short (stop_of k) s)
+does_stop settings s None k is t = absurd cc
+does_stop settings s (Some x) k is t =
+    let e : x ≡ k = cc in
+    subst (λ (y : code_stop.Stop). Opens (stops_opening y.change s.archive.size) (stop_of y) s (Item.OpenStopped k.change s.archive.rows ∷ []) (cut_short (stop_of k) s)) (sym e)
+    (subst (λ (z : Bool). Opens z (stop_of k) s (Item.OpenStopped k.change s.archive.rows ∷ []) (cut_short (stop_of k) s)) (sym t) (refl, refl))
+
+-- an opening whose writing failed
+pub open_cut : (settings : StationSettings) (s u : Stage) (stop : Option code_stop.Stop) (i : Item) (old new : Option (List ℕ)) → Does settings (open_step stop) s (i ∷ []) u → WritesPart old new (text_of i) → IsCut settings (open_step stop) s old new
+open_cut settings s u stop i old new does w = inl (i ∷ [], u, does, subst (WritesPart old new) (sym (text_one i)) w)
+
+pub open_leads : (openings : ℕ) (settings : StationSettings) (s u : Stage) (stop : Option code_stop.Stop) (i : Item) (run : Run) (disk : Stopping MemDisk) (old new : Option (List ℕ)) → Does settings (open_step stop) s (i ∷ []) u → HoldsAt openings settings u run disk → Appends old new (text_of i)
+    → LeadsTo openings settings (open_step stop) s run disk old new
+open_leads openings settings s u stop i run disk old new does holds w = (i ∷ [], u, does, holds, subst (Appends old new) (sym (text_one i)) w)
+
+-- what is told of a round in its line
+pub line_tells : (stop : Option Stop) (played : Played) (line : RoundLine) (r : Rounded) (known : Ending) → ending_of line.end ≡ known → Tells stop played r → r.end ≡ known → r.number ≡ line.number → played.report.attempts ≡ line.attempts → played.report.tally.pages ≡ line.pages → played.report.tally.skipped ≡ line.skipped
+    → played.harmed ≡ line.harmed → acked played.report ≡ line.acked → (is_stop r.end ≡ false → length r.rows ≡ line.rows) → (written : ℕ) → r.written ≡ written → TellsLine line written r
+line_tells stop played line r known ending tells end number attempts pages skipped harmed acked_is rows written written_is = record {
+  number = number;
+  end = end ∙ sym ending;
+  attempts = sym tells.attempts ∙ attempts;
+  pages = sym tells.pages ∙ pages;
+  skipped = sym tells.skipped ∙ skipped;
+  harmed = sym tells.harmed ∙ harmed;
+  acked = sym tells.acked_are ∙ acked_is;
+  rows = rows;
+  written_is = written_is;
+}
+
+-- an unstopped round that was told
+pub told_on : (settings : StationSettings) (openings : ℕ) (stop : Option Stop) (session : Session) (played : Played) (disk now : Stopping MemDisk) (r : Rounded) (a : Archive) (before rounds written : ℕ) → IsToldOf settings openings stop session played disk r a → IsOnlyRead disk now → is_stop r.end ≡ false
+    → written ≡ length a.rows → IsTold settings openings r a before (record { session = Some session; rounds = rounds; written = written }) now
+told_on settings openings stop session played disk now r a before rounds written told read still is = record {
+  rests = read.rests openings a told.rests;
+  session = subst (λ (t : Bool). HasSession (not t) settings a.rows (Some session) now) (sym still) (read.goes_on settings a.rows session (subst (λ (z : List Row). GoesOn settings z session disk) (sym told.rows) (told.goes_on still)));
+  written = is ∙ ap (λ (t : Bool). if t then before else length a.rows) (sym still);
+}

@@ -1,0 +1,66 @@
+-- The records of a run, one after another.
+use Rattle.std.proofs.Common.{◌≡◌, ℕ, zero, suc, ◌+◌, ◌-◌, ◌*◌, ◌≤◌, List, [], Option, Some, None, IsSome, IfSome, refl, sym, ap, ◌∙◌, subst, arith}
+use Rattle.std.specs.Option.{IsSomeAnd}
+use Rattle.station_base.specs.CivilMinute.{CivilMinute, minute_of, last_minute}
+use Rattle.archive_record.specs.Reading.{stamp_in}
+use Rattle.schedule_replay.specs.Runs.{moved_on, run_records, IsRun}
+use Rattle.schedule_replay.proofs.Stamping.{moved_to}
+
+-- a stamp behind which so many records of the period have stamps
+IsFirst : ℕ → ℕ → Option CivilMinute → Type 0
+IsFirst period count stamp = IsSomeAnd stamp (λ s. minute_of s + (count - 1) * period ≤ minute_of last_minute)
+
+pub two_more : (period count : ℕ) → (suc (suc count) - 1) * period ≡ period + count * period
+two_more period count = ap (λ n. n * period) (let e : suc (suc count) - 1 ≡ suc count = omega arith in e) ∙ (let e : suc count * period ≡ period + count * period = omega arith in e)
+
+pub one_more : (period count : ℕ) → (suc count - 1) * period ≡ count * period
+one_more period count = ap (λ n. n * period) (let e : suc count - 1 ≡ count = omega arith in e)
+
+on_by : (period count : ℕ) (rec : List ℕ) (stamp : Option CivilMinute) → stamp_in rec ≡ stamp → IsFirst period (suc (suc count)) stamp → IsFirst period (suc count) (stamp_in (moved_on period rec))
+unfolding IsFirst
+on_by period count rec None is run = absurd run
+on_by period count rec (Some stamp) is run =
+    let moved = moved_to period rec stamp is (omega (arith, run, two_more period count)) in
+    subst (IsFirst period (suc count)) (sym moved.stamp_is) (omega (arith, run, two_more period count, one_more period count, moved.later))
+
+-- behind the first record of a run comes a run
+pub run_on : (period count : ℕ) (rec : List ℕ) → IsRun period rec (suc (suc count)) → IsRun period (moved_on period rec) (suc count)
+unfolding IsFirst
+run_on period count rec run = on_by period count rec (stamp_in rec) refl run
+
+pair_by : (period count : ℕ) (stamp : Option CivilMinute) → IsFirst period (suc (suc count)) stamp → IsFirst period 2 stamp
+unfolding IsFirst
+pair_by period count None run = absurd run
+pair_by period count (Some stamp) run = omega (arith, run, two_more period count)
+
+-- its first two records are a run
+pub run_of_two : (period count : ℕ) (rec : List ℕ) → IsRun period rec (suc (suc count)) → IsRun period rec 2
+unfolding IsFirst
+run_of_two period count rec run = pair_by period count (stamp_in rec) run
+
+-- the records of a run that are left, the next of which is this
+abbrev pub left_of : ℕ → Option (List ℕ) → ℕ → List (List ℕ)
+left_of period None count = []
+left_of period (Some rec) count = run_records period rec count
+
+-- so many are left
+abbrev pub IsLeft : ℕ → Option (List ℕ) → ℕ → Type 0
+IsLeft period next zero = Unit {0}
+IsLeft period None (suc count) = ⊥
+IsLeft period (Some rec) (suc count) = IsRun period rec (suc count)
+
+pub all_left : (period : ℕ) (first : List ℕ) (count : ℕ) → IsRun period first count → IsLeft period (Some first) count
+all_left period first zero run = tt
+all_left period first (suc count) run = run
+
+pub none_left : (period : ℕ) (next : Option (List ℕ)) → left_of period next 0 ≡ []
+none_left period None = refl
+none_left period (Some rec) = refl
+
+-- those left behind the first of a run, where the next one is it moved on by a period, or there is none
+pub next_left : (period count : ℕ) (rec : List ℕ) (next : Option (List ℕ)) → IsRun period rec (suc count) → (IsRun period rec 2 → IsSome next)
+    → IfSome next (λ later. later ≡ moved_on period rec) → IsLeft period next count × (left_of period next count ≡ run_records period (moved_on period rec) count)
+next_left period zero rec next run some is = (tt, none_left period next)
+next_left period (suc count) rec None run some is = absurd (let none = some (run_of_two period count rec run) in let wrong : ⊥ = cc in wrong)
+next_left period (suc count) rec (Some later) run some is =
+    (subst (λ (r : List ℕ). IsRun period r (suc count)) (sym is) (run_on period count rec run), ap (λ (r : List ℕ). run_records period r (suc count)) is)

@@ -1,0 +1,27 @@
+use Rattle.std.proofs.Common.{◌≡◌, false, length, refl, sym, ap, subst, ◌∙◌, rules}
+use Rattle.weather_book.specs.declared.book.Book.{Book}
+use Rattle.weather_book.specs.Book.{StandsFor}
+use Rattle.disk_model.specs.StoppingState.{StoppingState}
+use Rattle.station_replay.specs.Replay.{is_stop}
+use Rattle.schedule_replay.specs.Stops.{stop_set}
+use Rattle.schedule_replay.proofs.RunLaws.{line_tells, told_on}
+use Rattle.schedule_replay.proofs.Told.{not_stopped}
+use Rattle.schedule_replay.proofs.run.Run.tell_round.Goals as goal
+
+pub returns : goal.returns
+returns g c = record {
+  ok = λ settings openings r a told number written.
+      let ends = c.ending.ensures r.end told.tells.ends in
+      let still : is_stop r.end ≡ false = ap is_stop (sym ends) ∙ not_stopped c.ending.result c.in_default.not-Stopped in
+      let stands : StandsFor c.book.result.now r.rows = subst (λ (b : Book). StandsFor b r.rows) (sym c.book.ensures) (told.goes_on still).stands.stands_for in
+      let long = c.len.ensures.rows r.rows stands in
+      let tells = line_tells (stop_set c.args.stop) c.args.played.now _ r r.end ends told.tells refl number refl refl refl refl (sym c.acked.ensures) (λ z. sym long) c.args.self.now.written written in (
+        told_on settings openings (stop_set c.args.stop) c.args.session c.args.played.now c.args.disk.now c.write_round.new.disk r a c.args.self.now.written c.args.self.now.rounds c.len.result told c.write_round.ensures.disk still (long ∙ ap length (sym told.rows)),
+        c.in_ok-write_round.ensures.text r tells (λ z. (settings, told.goes_on z)),
+      );
+  err = tt;
+  limits = ap (λ (s : StoppingState). s.inner.limits) c.write_round.ensures.disk.state;
+  rounds = refl;
+  cause = search rules;
+  still = search rules;
+}

@@ -1,0 +1,22 @@
+use Rattle.schedule_replay.proofs.Reading.{report_reads, rows_readable}
+use Rattle.schedule_replay.proofs.writing.write_rows.Goals as goal
+
+pub returns-in-Done-clause-disk : goal.returns-in-Done-clause-disk
+returns-in-Done-clause-disk g c =
+    (report_reads c.args.disk.now c.rows_from.new.disk c.args.session.now c.book.result.now c.rows_from.result c.requires c.book.ensures c.rows_from.ensures.stays c.rows_from.ensures.went).0
+
+pub returns-in-WriteFault-clause-disk : goal.returns-in-WriteFault-clause-disk
+returns-in-WriteFault-clause-disk g c =
+    (report_reads c.args.disk.now c.rows_from.new.disk c.args.session.now c.book.result.now c.rows_from.result c.requires c.book.ensures c.rows_from.ensures.stays c.rows_from.ensures.went).0
+
+pub unreachable-requires : goal.unreachable-requires
+unreachable-requires g c =
+    (report_reads c.args.disk.now c.rows_from.new.disk c.args.session.now c.book.result.now c.rows_from.result c.requires c.book.ensures c.rows_from.ensures.stays c.rows_from.ensures.went).1 c.in-DiskFault.is
+
+pub returns-in-Done-clause-text : goal.returns-in-Done-clause-text
+returns-in-Done-clause-text g c settings rows goes =
+    c.in-Done.ensures.lines rows (rows_readable c.args.disk.now c.args.session.now c.book.result.now settings rows c.book.ensures goes) c.requires.rests.image c.requires.rests.seen
+
+pub returns-in-WriteFault-clause-text : goal.returns-in-WriteFault-clause-text
+returns-in-WriteFault-clause-text g c settings rows goes =
+    c.in-WriteFault.ensures.lines rows (rows_readable c.args.disk.now c.args.session.now c.book.result.now settings rows c.book.ensures goes) c.requires.rests.image c.requires.rests.seen

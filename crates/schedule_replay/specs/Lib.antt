@@ -1,0 +1,14 @@
+pub mod Accepted
+pub mod Opening
+pub mod Played
+pub mod Replayed
+pub mod Restarting
+pub mod Resting
+pub mod RoundLine
+pub mod Running
+pub mod Runs
+pub mod SoFar
+pub mod Standing
+pub mod Steps
+pub mod Stops
+pub mod Writing

@@ -1,0 +1,53 @@
+-- A disk between the works of a run, and a session over it.
+use Rattle.std.specs.Prelude.{◌≡◌, ℕ, ◌+◌, ◌*◌, ◌≤◌, false, List, length, Some}
+use Rattle.station_base.specs.declared.row.Row.{Row}
+use Rattle.settings_file.specs.StationSettings.{StationSettings}
+use Rattle.disk_model.specs.Disk.{IsDurable}
+use Rattle.disk_model.specs.DiskState.{Limits}
+use Rattle.disk_model.specs.StoppingState.{StoppingState}
+use Rattle.disk_model.specs.Stopping.{stopping_medium, stopping_state_of}
+use Rattle.disk_model.specs.declared.mem_disk.MemDisk.{MemDisk}
+use Rattle.disk_model.specs.declared.stopping.Stopping.{Stopping}
+use Rattle.gated_log.specs.Version.{version_of}
+use Rattle.gated_log.specs.declared.version.Version.TheVariants.{Second}
+use Rattle.weather_book.specs.Stands.{HasRows, NowHasRows, StandsOn}
+use Rattle.station_session.specs.declared.session.Session.{Session}
+use Rattle.station_session.specs.Session.{book_of, settings_of, most_of, is_stale}
+use Rattle.station_replay.specs.Keeping.{Archive, slots}
+use Rattle.station_replay.specs.Stopped.{Rests}
+
+-- The room that a run of so many records asks for.
+pub record IsRoomFor (records : ℕ) (limits : Limits) : Type 0 where
+  pub capacity : 177 + 2464 * records ≤ limits.capacity
+  pub changes : 1403 + 4 * records ≤ limits.changes
+  pub bytes : 2500000 + 2465 * records ≤ limits.bytes
+
+-- The record has room left: all but what the archive's changes took since the disk was made, and what was written of
+-- its rows and at each opening.
+pub record HasLeft (openings : ℕ) (a : Archive) (s : StoppingState) : Type 0 where
+  pub changes : s.inner.limits.changes ≤ s.inner.changes + a.changes
+  pub bytes : s.inner.limits.bytes ≤ s.inner.bytes + (176 * slots a.rows + length a.rows + 200 * openings)
+
+-- The disk is at rest, of the archive's length, with its rows in what it reads and in each image that a crash may
+-- leave, which is what it reads, in the second version. No stop is armed, and no call is to fail. So many openings
+-- were made.
+pub record AtRest (openings : ℕ) (a : Archive) (disk : Stopping MemDisk) : Type 0 where
+  pub rests : Rests a (stopping_state_of disk) (stopping_medium.moment disk)
+  pub unarmed : (stopping_state_of disk).armed ≡ 0
+  pub image : List ℕ
+  pub seen : stopping_medium.seen disk ≡ Some image
+  pub synced : stopping_medium.synced disk ≡ Some image
+  pub length_is : length image ≡ a.size
+  pub rows : HasRows a.rows image
+  pub second : version_of image ≡ Second
+  pub durable : IsDurable stopping_medium disk
+  pub left : NowHasRows stopping_medium disk a.rows
+  pub room : HasLeft openings a (stopping_state_of disk)
+
+-- A session of these settings that goes on over the disk, its book standing for these rows.
+pub record GoesOn (settings : StationSettings) (rows : List Row) (session : Session) (disk : Stopping MemDisk)
+    : Type 0 where
+  pub stands : StandsOn stopping_medium (book_of session) disk rows
+  pub settings_are : settings_of session ≡ settings
+  pub most : most_of session ≡ settings.most
+  pub fresh : is_stale session ≡ false

@@ -1,0 +1,36 @@
+-- What a line tells of a round.
+use Rattle.std.specs.Prelude.{ℕ, ◌≡◌, false, List, ◌++◌, length, codes}
+use Rattle.station_session.specs.Attempts.{page_count, skip_count}
+use Rattle.station_replay.specs.Round.{Ending}
+use Rattle.station_replay.specs.Replay.{Rounded, is_stop}
+use Rattle.station_replay.specs.Texts.{counted, ending_text, rows_counted, tried_of}
+use Rattle.schedule_replay.specs.declared.round_line.RoundEnding.{RoundEnding}
+use Rattle.schedule_replay.specs.declared.round_line.RoundEnding.TheVariants.{Done, GaveUp, Full, Stopped}
+use Rattle.schedule_replay.specs.declared.round_line.RoundLine.{RoundLine}
+
+-- an end in the words of a run
+abbrev pub ending_of : RoundEnding → Ending
+ending_of Done = Ending.Ok
+ending_of GaveUp = Ending.GaveUp
+ending_of Full = Ending.Full
+ending_of (Stopped change) = Ending.Stopped change
+
+-- the line as it is written
+abbrev pub line_of : RoundLine → List ℕ
+line_of line =
+    counted (codes "round ") line.number ++ codes " " ++ ending_text (ending_of line.end)
+    ++ counted (codes " attempts ") line.attempts ++ counted (codes " pages ") line.pages
+    ++ counted (codes " skipped ") line.skipped ++ counted (codes " harmed ") line.harmed
+    ++ counted (codes " acked ") line.acked ++ rows_counted (ending_of line.end) line.rows ++ codes "\n"
+
+-- It tells of this round, of which so many rows had been written before. How many rows a stop left need not be known.
+pub record Tells (line : RoundLine) (written : ℕ) (x : Rounded) : Type 0 where
+  pub number : x.number ≡ line.number
+  pub end : x.end ≡ ending_of line.end
+  pub attempts : length x.tried ≡ line.attempts
+  pub pages : page_count (tried_of x.tried) ≡ line.pages
+  pub skipped : skip_count (tried_of x.tried) ≡ line.skipped
+  pub harmed : x.harmed ≡ line.harmed
+  pub acked : length x.kept ≡ line.acked
+  pub rows : is_stop x.end ≡ false → length x.rows ≡ line.rows
+  pub written_is : x.written ≡ written

@@ -1,0 +1,121 @@
+-- Where a run stands between its steps.
+use Rattle.std.specs.Prelude.{◌≡◌, ℕ, ◌+◌, ◌*◌, ◌≤◌, ◌<◌, Bool, true, false, not, if◌then◌else◌, List, [], ◌∷◌, ◌++◌, length, Some, None}
+use Rattle.std.specs.declared.option.Option.{Option}
+use Rattle.station_base.specs.declared.row.Row.{Row}
+use Rattle.settings_file.specs.StationSettings.{StationSettings}
+use Rattle.serial_link.specs.declared.talk.TalkItem.{TalkItem}
+use Rattle.disk_model.specs.declared.mem_disk.MemDisk.{MemDisk}
+use Rattle.disk_model.specs.declared.stopping.Stopping.{Stopping}
+use Rattle.station_session.specs.declared.session.Session.{Session}
+use Rattle.station_session.specs.Attempts.{all_said}
+use Rattle.station_sim.specs.declared.sim.Sim.{Sim}
+use Rattle.station_sim.specs.Lists.{fates_of, left_in}
+use Rattle.station_sim.specs.declared.fates.Fates as code_fates
+use Rattle.station_sim.specs.declared.schedule.step.Stop as code_stop
+use Rattle.std.specs.Io.KnownBytes.{Appends}
+use Rattle.station_sim.specs.Standing.{StandsFor}
+use Rattle.station_replay.specs.Schedule.{Step, no_fates}
+use Rattle.station_replay.specs.Replay.{Does, Item, Rounded, Stage, is_stop, opened}
+use Rattle.station_replay.specs.Keeping.{Archive}
+use Rattle.station_replay.specs.Stopped.{IsStop}
+use Rattle.station_replay.specs.Texts.{text, tried_of}
+use Rattle.schedule_replay.specs.declared.run.Run.{Run}
+use Rattle.schedule_replay.specs.Opening.{CanOpen, limits_of}
+use Rattle.schedule_replay.specs.Played.{IsCounted}
+use Rattle.schedule_replay.specs.Resting.{AtRest, GoesOn, IsRoomFor}
+use Rattle.schedule_replay.specs.Stops.{stop_set}
+
+-- by whether the run is open: its session goes on, or it has none
+abbrev pub HasSession : Bool → StationSettings → List Row → Option Session → Stopping MemDisk → Type 0
+HasSession true settings rows (Some session) disk = GoesOn settings rows session disk
+HasSession true settings rows None disk = ⊥
+HasSession false settings rows (Some session) disk = ⊥
+HasSession false settings rows None disk = Unit {0}
+
+-- The disk and the session of a run stand where it stands, so many openings made, and what it counts is counted.
+pub record HoldsAt (openings : ℕ) (settings : StationSettings) (s : Stage) (run : Run) (disk : Stopping MemDisk)
+    : Type 0 where
+  pub rests : AtRest openings s.archive disk
+  pub session : HasSession s.is_open settings s.archive.rows run.session disk
+  pub rounds : run.rounds ≡ s.rounds
+  pub written : run.written ≡ s.written
+
+-- Its line does too, and no fates are set on it.
+pub record LineAt (s : Stage) (line : Sim) : Type 0 where
+  pub stands : StandsFor line s.line
+  pub fates : fates_of line.fates ≡ no_fates
+
+-- what was said and heard in the rounds of a run
+abbrev pub said_in : List Item → List TalkItem
+said_in [] = []
+said_in (Item.Opened rows n ∷ o) = said_in o
+said_in (Item.OpenStopped k rows ∷ o) = said_in o
+said_in (Item.Ran x ∷ o) = all_said (tried_of x.tried) ++ said_in o
+said_in (Item.Unsaid n u ∷ o) = said_in o
+said_in (Item.Ended rows ∷ o) = said_in o
+
+-- its talk grew by those of the rounds among the items
+abbrev pub HasSaid : List Item → Sim → Sim → Type 0
+HasSaid o before after = after.talk.items ≡ before.talk.items ++ said_in o
+
+-- A run of so many records has room at this stage, so many openings made.
+pub record HasRunRoom (records openings : ℕ) (s : Stage) (disk : Stopping MemDisk) : Type 0 where
+  pub room : IsRoomFor records (limits_of disk)
+  pub changes : s.archive.changes ≤ 4 * length s.archive.rows + 1400
+  pub rows : length s.archive.rows ≤ records
+  pub records_are : records ≤ 20000
+  pub few : openings ≤ 200
+
+-- what is so of a step that comes next in a run of so many records
+abbrev pub MayTake : ℕ → StationSettings → Step → Stage → Type 0
+MayTake records settings (Step.Due rs) s = Unit {0}
+MayTake records settings (Step.Idle n) s = Unit {0}
+MayTake records settings (Step.Open stop) s = IsStop stop
+MayTake records settings (Step.Round f left stop) s =
+    IsStop stop × IsCounted records settings f s × (s.archive.changes ≤ 4 * length s.archive.rows + 1393)
+
+-- a step opens the archive, or makes a round
+abbrev pub open_step : Option code_stop.Stop → Step
+open_step stop = Step.Open (stop_set stop)
+
+abbrev pub round_step : code_fates.Fates → Option code_stop.Stop → Step
+round_step fates stop = Step.Round (fates_of fates) (left_in fates.mids.items) (stop_set stop)
+
+-- a run of so many records may take the step at this stage
+abbrev pub StandsThere : ℕ → ℕ → StationSettings → Step → Stage → Stopping MemDisk → Type 0
+StandsThere records openings settings x s disk = HasRunRoom records openings s disk × MayTake records settings x s
+
+-- the run stands at some stage, and the archive can be opened
+abbrev pub MayOpen : StationSettings → Run → Stopping MemDisk → Type 0
+MayOpen settings run disk =
+    (openings : ℕ) × (s : Stage) × HoldsAt openings settings s run disk × CanOpen disk
+
+-- the run stands at some stage at which it may take the step
+abbrev pub MayRun : StationSettings → Step → Run → Sim → Stopping MemDisk → Type 0
+MayRun settings x run line disk =
+    (records : ℕ) × (openings : ℕ) × (s : Stage) × HoldsAt openings settings s run disk × LineAt s line
+    × StandsThere records openings settings x s disk × (run.rounds < 1000)
+
+-- The session of a run at this stage, opened first where it was closed, and the run without it.
+pub record Readies (openings : ℕ) (settings : StationSettings) (s : Stage) (run : Run) (session : Session)
+    (disk : Stopping MemDisk) : Type 0 where
+  pub rests : AtRest (openings + 1) (opened s.is_open s).archive disk
+  pub goes_on : GoesOn settings s.archive.rows session disk
+  pub rounds : run.rounds ≡ s.rounds
+  pub written : run.written ≡ (opened s.is_open s).written
+  pub none : run.session ≡ None
+
+-- the step is taken, its items are written, and the run stands where it leads
+abbrev pub LeadsTo : ℕ → StationSettings → Step → Stage → Run → Stopping MemDisk → Option (List ℕ) → Option (List ℕ)
+    → Type 0
+LeadsTo openings settings x s run disk old new =
+    (is : List Item) × (u : Stage) × Does settings x s is u × HoldsAt openings settings u run disk
+    × Appends old new (text is)
+
+-- A round was told: the disk is at rest with the archive that it left, its session goes on unless it was stopped, and
+-- all its rows are written, or so many as before.
+pub record IsTold (settings : StationSettings) (openings : ℕ) (r : Rounded) (a : Archive) (before : ℕ) (run : Run)
+    (disk : Stopping MemDisk) : Type 0 where
+  pub rests : AtRest openings a disk
+  pub session : HasSession (not (is_stop r.end)) settings a.rows run.session disk
+  pub written : run.written ≡ (if is_stop r.end then before else length a.rows)

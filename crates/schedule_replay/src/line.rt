@@ -1,0 +1,72 @@
+ghost use Rattle.std.specs.Prelude.{◌≡◌, ◌+◌, ◌≤◌, ◌++◌, length};
+ghost use Rattle.arrayvec.specs.ArrayVec.{array_vec_len};
+ghost use Rattle.station_replay.specs.Texts.{counted, end_line, open_line, open_stop_line, unseen_line};
+
+use arrayvec::ArrayVec;
+use itoa::Buffer;
+use station_base::{LINE_ROOM, push_bytes};
+use station_sim::Unseen;
+
+// A line of a run.
+pub type Line = ArrayVec<u8, LINE_ROOM>;
+
+// The most digits of a number of 64 bits.
+pub const DIGITS: usize = 20;
+
+// `open rows N`.
+pub fn open_line(rows: u64) -> Line
+    ensures { result.items ≡ open_line rows }
+{
+    let mut line = Line::new();
+    push_count(&mut line, b"open rows ", rows);
+    push_bytes(&mut line, b"\n");
+    line
+}
+
+// `open stop K`.
+pub fn open_stop_line(change: u64) -> Line
+    ensures { result.items ≡ open_stop_line change }
+{
+    let mut line = Line::new();
+    push_count(&mut line, b"open stop ", change);
+    push_bytes(&mut line, b"\n");
+    line
+}
+
+// `unseen round R host D`, or `reply D`.
+pub fn unseen_line(number: u32, which: Unseen) -> Line
+    ensures { result.items ≡ unseen_line number which }
+{
+    let mut line = Line::new();
+    push_count(&mut line, b"unseen round ", u64::from(number));
+    if which.from_host {
+        push_count(&mut line, b" host ", u64::from(which.number));
+    } else {
+        push_count(&mut line, b" reply ", u64::from(which.number));
+    }
+    push_bytes(&mut line, b"\n");
+    line
+}
+
+// `end rows N days D`.
+pub fn end_line(rows: u64, days: u32) -> Line
+    ensures { result.items ≡ end_line rows days }
+{
+    let mut line = Line::new();
+    push_count(&mut line, b"end rows ", rows);
+    push_count(&mut line, b" days ", u64::from(days));
+    push_bytes(&mut line, b"\n");
+    line
+}
+
+// Appends a number behind its name.
+#[tactic(auto, unfolding(station_base::specs::NumberText::number_text))]
+pub fn push_count(line: &mut Line, name: &[u8], number: u64)
+    requires { array_vec_len line.old + length name.now + DIGITS ≤ LINE_ROOM }
+    ensures text { line.new.items ≡ line.old.items ++ counted name.now number }
+    ensures length { array_vec_len line.new ≤ array_vec_len line.old + length name.now + DIGITS }
+{
+    let mut digits = Buffer::new();
+    push_bytes(line, name);
+    push_bytes(line, digits.format(number).as_bytes());
+}

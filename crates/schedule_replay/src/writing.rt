@@ -1,0 +1,158 @@
+ghost use Rattle.std.specs.Prelude.{◌≡◌, ◌≢◌, ◌<◌, List, Err, false, true, length};
+ghost use Rattle.causes.specs.Cause.{Cause};
+ghost use Rattle.station_base.specs.declared.row.Row.{Row};
+ghost use Rattle.settings_file.specs.StationSettings.{StationSettings};
+ghost use Rattle.station_replay.specs.Replay.{Item, Rounded, is_stop};
+ghost use Rattle.station_replay.specs.Texts.{days_text, rows_text, text_of};
+ghost use Rattle.schedule_replay.specs.Resting.{GoesOn};
+ghost use Rattle.schedule_replay.specs.RoundLine.{Tells, ending_of};
+ghost use Rattle.schedule_replay.specs.Writing.{IsOnlyRead, IsReadable, Writes};
+
+use crate::cut::Cut;
+use crate::line::{end_line, open_line, open_stop_line, unseen_line};
+use crate::round_line::{RoundEnding, RoundLine};
+use disk_model::{MemDisk, Stopping};
+use station_io::{Put, Sink};
+use station_session::Session;
+use station_sim::Unseen;
+use weather_reports::{ReportEnd, all_days, rows_from};
+
+/// Writes `open rows N`, and the lines of the rows that were not written before.
+#[tactic(auto, unfolding(station_replay::specs::Texts::text_of))]
+pub fn write_opening<K: Sink>(
+    session: &Session,
+    disk: &mut Stopping<MemDisk>,
+    out: &mut K,
+    written: u64,
+) -> Result<(), Cut>
+    requires { IsReadable session.now disk.old }
+    ensures text { (settings : StationSettings) (rows : List Row) → GoesOn settings rows session.now disk.old
+        → Writes (K.outlet.taken out.old) (K.outlet.taken out.new) (text_of (Item.Opened rows written)) result }
+    ensures disk { IsOnlyRead disk.old disk.new }
+    ensures cause { Cause (K.outlet.faults out.old) (K.outlet.faults out.new) (result ≡ Err Cut.WriteFault) }
+    ensures still { result ≢ Err Cut.WriteFault → K.outlet.faults out.new ≡ K.outlet.faults out.old }
+{
+    write(out, &open_line(session.book().len()))?;
+    write_rows(session, disk, out, written)
+}
+
+/// Writes `open stop K`, of an opening within whose change K the disk stopped.
+#[tactic(auto, unfolding(station_replay::specs::Texts::text_of))]
+pub fn write_stopped_opening<K: Sink>(out: &mut K, change: u64) -> Result<(), Cut>
+    ensures text { (rows : List Row) → Writes (K.outlet.taken out.old) (K.outlet.taken out.new)
+        (text_of (Item.OpenStopped change rows)) result }
+    ensures cause { Cause (K.outlet.faults out.old) (K.outlet.faults out.new) (result ≡ Err Cut.WriteFault) }
+    ensures still { result ≢ Err Cut.WriteFault → K.outlet.faults out.new ≡ K.outlet.faults out.old }
+{
+    write(out, &open_stop_line(change))
+}
+
+/// Writes the line of a round, and the lines of the rows that were not written before. A round that was stopped has
+/// its line alone.
+#[tactic(auto, unfolding(station_replay::specs::Texts::text_of))]
+pub fn write_round<K: Sink>(
+    session: &Session,
+    disk: &mut Stopping<MemDisk>,
+    out: &mut K,
+    line: &RoundLine,
+    written: u64,
+) -> Result<(), Cut>
+    requires { is_stop (ending_of line.now.end) ≡ false → IsReadable session.now disk.old }
+    ensures text { (x : Rounded) → Tells line.now written x
+        → (is_stop x.end ≡ false → (settings : StationSettings) × GoesOn settings x.rows session.now disk.old)
+        → Writes (K.outlet.taken out.old) (K.outlet.taken out.new) (text_of (Item.Ran x)) result }
+    ensures disk { IsOnlyRead disk.old disk.new }
+    ensures stopped { is_stop (ending_of line.now.end) ≡ true → disk.new ≡ disk.old }
+    ensures cause { Cause (K.outlet.faults out.old) (K.outlet.faults out.new) (result ≡ Err Cut.WriteFault) }
+    ensures still { result ≢ Err Cut.WriteFault → K.outlet.faults out.new ≡ K.outlet.faults out.old }
+{
+    write(out, &line.text())?;
+    match line.end {
+        RoundEnding::Stopped(_) => Ok(()),
+        _ => write_rows(session, disk, out, written),
+    }
+}
+
+/// Writes `unseen round R host D`, or `reply D`.
+#[tactic(auto, unfolding(station_replay::specs::Texts::text_of))]
+pub fn write_unseen<K: Sink>(out: &mut K, number: u32, which: Unseen) -> Result<(), Cut>
+    ensures text { Writes (K.outlet.taken out.old) (K.outlet.taken out.new)
+        (text_of (Item.Unsaid number which)) result }
+    ensures cause { Cause (K.outlet.faults out.old) (K.outlet.faults out.new) (result ≡ Err Cut.WriteFault) }
+    ensures still { result ≢ Err Cut.WriteFault → K.outlet.faults out.new ≡ K.outlet.faults out.old }
+{
+    write(out, &unseen_line(number, which))
+}
+
+/// Writes the lines of all days, and then `end rows N days D`.
+#[tactic(auto, unfolding(station_replay::specs::Texts::text_of))]
+pub fn write_end<K: Sink>(
+    session: &Session,
+    disk: &mut Stopping<MemDisk>,
+    out: &mut K,
+) -> Result<(), Cut>
+    requires { IsReadable session.now disk.old }
+    ensures text { (settings : StationSettings) (rows : List Row) → GoesOn settings rows session.now disk.old
+        → Writes (K.outlet.taken out.old) (K.outlet.taken out.new) (text_of (Item.Ended rows)) result }
+    ensures disk { IsOnlyRead disk.old disk.new }
+    ensures cause { Cause (K.outlet.faults out.old) (K.outlet.faults out.new) (result ≡ Err Cut.WriteFault) }
+    ensures still { result ≢ Err Cut.WriteFault → K.outlet.faults out.new ≡ K.outlet.faults out.old }
+{
+    let book = session.book();
+    write_days(session, disk, out)?;
+    write(out, &end_line(book.len(), book.days()))
+}
+
+// Writes bytes.
+fn write<K: Sink>(out: &mut K, bytes: &[u8]) -> Result<(), Cut>
+    requires { 0 < length bytes.now }
+    ensures text { Writes (K.outlet.taken out.old) (K.outlet.taken out.new) bytes.now result }
+    ensures cause { Cause (K.outlet.faults out.old) (K.outlet.faults out.new) (result ≡ Err Cut.WriteFault) }
+    ensures still { result ≢ Err Cut.WriteFault → K.outlet.faults out.new ≡ K.outlet.faults out.old }
+{
+    match out.put(bytes) {
+        Put::Done => Ok(()),
+        Put::Failed => Err(Cut::WriteFault),
+    }
+}
+
+// Writes the line of each row from a number on.
+fn write_rows<K: Sink>(
+    session: &Session,
+    disk: &mut Stopping<MemDisk>,
+    out: &mut K,
+    from: u64,
+) -> Result<(), Cut>
+    requires { IsReadable session.now disk.old }
+    ensures text { (settings : StationSettings) (rows : List Row) → GoesOn settings rows session.now disk.old
+        → Writes (K.outlet.taken out.old) (K.outlet.taken out.new) (rows_text from rows) result }
+    ensures disk { IsOnlyRead disk.old disk.new }
+    ensures cause { Cause (K.outlet.faults out.old) (K.outlet.faults out.new) (result ≡ Err Cut.WriteFault) }
+    ensures still { result ≢ Err Cut.WriteFault → K.outlet.faults out.new ≡ K.outlet.faults out.old }
+{
+    match rows_from(session.book(), disk, out, from) {
+        ReportEnd::Done => Ok(()),
+        ReportEnd::WriteFault => Err(Cut::WriteFault),
+        ReportEnd::DiskFault => unreachable!(),
+    }
+}
+
+// Writes the lines of all days.
+fn write_days<K: Sink>(
+    session: &Session,
+    disk: &mut Stopping<MemDisk>,
+    out: &mut K,
+) -> Result<(), Cut>
+    requires { IsReadable session.now disk.old }
+    ensures text { (settings : StationSettings) (rows : List Row) → GoesOn settings rows session.now disk.old
+        → Writes (K.outlet.taken out.old) (K.outlet.taken out.new) (days_text rows) result }
+    ensures disk { IsOnlyRead disk.old disk.new }
+    ensures cause { Cause (K.outlet.faults out.old) (K.outlet.faults out.new) (result ≡ Err Cut.WriteFault) }
+    ensures still { result ≢ Err Cut.WriteFault → K.outlet.faults out.new ≡ K.outlet.faults out.old }
+{
+    match all_days(session.book(), disk, out) {
+        ReportEnd::Done => Ok(()),
+        ReportEnd::WriteFault => Err(Cut::WriteFault),
+        ReportEnd::DiskFault => unreachable!(),
+    }
+}
