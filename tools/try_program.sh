@@ -63,6 +63,18 @@ status=$?
 output=
 expect 'a report makes no archive' 1 ''
 
+cp "$top/examples/settings.toml" "$top/examples/first.schedule" .
+run replay settings.toml first.schedule
+expect 'a schedule with a lost page and a stop' 0 "$(cat "$top/examples/first.replay")"
+run replay missing.toml first.schedule
+expect 'a schedule without its settings' 8 'read fault'
+echo 'due 2024-07-01' >faulty.schedule
+run replay settings.toml faulty.schedule
+expect 'a faulty schedule' 3 'schedule line 1 fault 4'
+output=$("$program" replay settings.toml first.schedule 2>&1 >/dev/full)
+status=$?
+expect 'an output that is full in a replay' 9 ''
+
 head -c 16777216 /dev/zero | tr '\0' '\1' >longest
 run pages longest
 expect '16 MiB' 14 'bad page 0'

@@ -15,6 +15,7 @@ pub data CommandLine : Type 0 where
   corrected_pages : List ℕ → List ℕ → CommandLine
   task : List ℕ → Task → CommandLine
   report : List ℕ → Wanted → CommandLine
+  replay : List ℕ → List ℕ → CommandLine
 
 -- the words, each as its bytes
 abbrev pub texts : List (Bor (List ℕ)) → List (List ℕ)
@@ -36,6 +37,11 @@ abbrev pub report_in : List (List ℕ) → Option CommandLine
 report_in (archive ∷ kind ∷ first ∷ last ∷ []) = option_map (report archive) (wanted_in kind first last)
 report_in words = None
 
+-- `SETTINGS SCHEDULE`
+abbrev pub replay_in : List (List ℕ) → Option CommandLine
+replay_in (settings ∷ schedule ∷ []) = Some (replay settings schedule)
+replay_in words = None
+
 -- the command that the words spell, and none where they are outside the table
 abbrev pub command_of : List (List ℕ) → Option CommandLine
 command_of [] = None
@@ -43,6 +49,7 @@ command_of (command ∷ words) =
     if bytes_eq command (codes "pages") then pages_in words
     else if bytes_eq command (codes "task") then task_in words
     else if bytes_eq command (codes "report") then report_in words
+    else if bytes_eq command (codes "replay") then replay_in words
     else None
 
 -- a command that was read, with the texts that it lends
@@ -51,6 +58,7 @@ command_read (read.Pages file) = pages file.now
 command_read (read.CorrectedPages settings file) = corrected_pages settings.now file.now
 command_read (read.Task address asked) = task address.now asked
 command_read (read.Report archive wanted) = report archive.now wanted
+command_read (read.Replay settings schedule) = replay settings.now schedule.now
 
 -- the same where one was read
 abbrev pub line_of : Option Command → Option CommandLine

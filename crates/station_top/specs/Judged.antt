@@ -1,9 +1,11 @@
 -- What comes of the reading of a settings file: settings, or a line and a status that end the run.
 use Rattle.std.specs.Prelude.{ℕ, ◌≡◌, ◌≢◌, ◌⊎◌, List, Ok, Err, codes}
+use Rattle.causes.specs.Told.{WhereTold}
 use Rattle.settings_file.specs.FaultLine.{fault_line}
 use Rattle.settings_file.specs.Reading.{settings_of}
 use Rattle.settings_file.specs.StationSettings.{StationSettings}
 use Rattle.settings_file.specs.declared.fault.SettingsFault.{SettingsFault}
+use Rattle.station_io.specs.Files.{Gives, Shelf}
 use Rattle.station_io.specs.declared.files.TextRead.{TextRead}
 use Rattle.station_io.specs.declared.files.TextRead.TheVariants as reads
 use Rattle.station_top.specs.declared.status.Status.TheVariants as ends
@@ -35,6 +37,19 @@ MayComeOf reads.Done text judged = MayComeOfText text judged
 MayComeOf reads.Failed text judged = judged ≡ refused read_fault
 MayComeOf reads.TooLong text judged = judged ≡ refused too_long
 MayComeOf reads.OutOfMemory text judged = judged ≡ refused no_memory
+
+-- The settings were read once and judged, before anything else, and by what came of that the run went on.
+pub record SettlesFirst {F : Type 0} (shelf : Shelf F) (settings : List ℕ) (old : F) (GoesOn : Judged → F → Type 0)
+    : Type 0 where
+  pub answer : TextRead
+  pub text : List ℕ
+  pub middle : F
+  pub call : shelf.loaded old settings answer middle
+  pub gives : WhereTold (shelf.held old settings) (λ file. Gives file answer text)
+  pub stay : (other : List ℕ) → shelf.held middle other ≡ shelf.held old other
+  pub judged : Judged
+  pub comes : MayComeOf answer text judged
+  pub goes_on : GoesOn judged middle
 
 -- the settings file could not be read
 abbrev pub IsReadFault : Judged → Type 0

@@ -16,5 +16,7 @@ pub mod TaskRun
 pub mod GoodFile
 pub mod ReportRun
 pub mod Judged
+pub mod JudgedSchedule
 pub mod JudgedRead
+pub mod ReplayRun
 pub mod Run

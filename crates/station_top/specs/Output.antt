@@ -38,7 +38,9 @@ abbrev pub code : Status → ℕ
 code ends.Done = 0
 code ends.Usage = 1
 code ends.BadSettings = 2
+code ends.BadSchedule = 3
 code ends.Trouble = 4
+code ends.Unseen = 5
 code ends.LinkFault = 6
 code ends.DiskFault = 7
 code ends.ReadFault = 8

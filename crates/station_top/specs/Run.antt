@@ -14,11 +14,12 @@ use Rattle.station_io.specs.declared.files.TextRead.TheVariants as reads
 use Rattle.station_top.specs.declared.status.Status.{Status}
 use Rattle.station_top.specs.declared.status.Status.TheVariants as ends
 use Rattle.station_top.specs.declared.task.Task.{Task}
-use Rattle.station_top.specs.Command.{CommandLine, pages, corrected_pages, task, report}
+use Rattle.station_top.specs.Command.{CommandLine, pages, corrected_pages, task, report, replay}
 use Rattle.station_top.specs.GoodFile.{IsGoodFile}
-use Rattle.station_top.specs.Judged.{Judged, MayComeOf, refused, accepted, read_fault, too_long}
+use Rattle.station_top.specs.Judged.{Judged, SettlesFirst, refused, accepted, read_fault, too_long}
 use Rattle.station_top.specs.Output.{Output, EndsWith, no_memory}
 use Rattle.station_top.specs.Listing.{listing}
+use Rattle.station_top.specs.ReplayRun.{HasGoodFiles, ReplaysFiles}
 use Rattle.station_top.specs.ReportRun.{ReportsOn, TellsArchive}
 use Rattle.station_top.specs.Style.{RowStyle, short, corrected}
 use Rattle.station_top.specs.TaskRun.{CallsFor, exchanges_of}
@@ -54,20 +55,12 @@ GoesOn shelf outlet (accepted settings) name old out new out' result =
     PrintsFile shelf outlet (corrected settings) name old out new out' result
 
 -- The settings were read once and judged, before the file.
-pub record PrintsCorrected {F S : Type 0} (shelf : Shelf F) (outlet : Outlet S) (settings name : List ℕ)
-    (old : F) (out : S) (new : F) (out' : S) (result : ℕ) : Type 0 where
-  pub answer : TextRead
-  pub text : List ℕ
-  pub middle : F
-  pub call : shelf.loaded old settings answer middle
-  pub gives : WhereTold (shelf.held old settings) (λ file. Gives file answer text)
-  pub stay : (other : List ℕ) → shelf.held middle other ≡ shelf.held old other
-  pub judged : Judged
-  pub comes : MayComeOf answer text judged
-  pub goes_on : GoesOn shelf outlet judged name middle out new out' result
+abbrev pub PrintsCorrected : {F S : Type 0} → Shelf F → Outlet S → List ℕ → List ℕ → F → S → F → S → ℕ → Type 0
+PrintsCorrected shelf outlet settings name old out new out' result =
+    SettlesFirst shelf settings old (λ judged middle. GoesOn shelf outlet judged name middle out new out' result)
 
--- what each command does: one that prints pages touches no link and no disk, a task no file and no disk, and a report
--- no file and no link
+-- what each command does: one that prints pages or replays a schedule touches no link and no disk, a task no file and
+-- no disk, and a report no file and no link
 abbrev pub Performs : {F S L D : Type 0} → Shelf F → Outlet S → Traffic L → Medium D → CommandLine
     → F → S → L → D → F → S → L → D → ℕ → Type 0
 Performs shelf outlet traffic medium (pages file) old out link disk new out' link' disk' result =
@@ -78,6 +71,8 @@ Performs shelf outlet traffic medium (task address asked) old out link disk new 
     (new ≡ old) × (disk' ≡ disk) × CallsFor traffic outlet address asked link out link' out' result
 Performs shelf outlet traffic medium (report archive wanted) old out link disk new out' link' disk' result =
     (new ≡ old) × (link' ≡ link) × ReportsOn medium outlet archive wanted disk out disk' out' result
+Performs shelf outlet traffic medium (replay settings schedule) old out link disk new out' link' disk' result =
+    (link' ≡ link) × (disk' ≡ disk) × ReplaysFiles shelf outlet settings schedule old out new out' result
 
 -- a text of settings that is not too long and is accepted
 abbrev pub IsAccepted : List ℕ → Type 0
@@ -90,6 +85,15 @@ HasGoodInput shelf (corrected_pages settings file) files =
     IsSomeAnd (shelf.held files settings) IsAccepted × IsSomeAnd (shelf.held files file) IsGoodFile
 HasGoodInput shelf (task address asked) files = ⊥
 HasGoodInput shelf (report archive wanted) files = ⊥
+HasGoodInput shelf (replay settings schedule) files = ⊥
+
+-- the command is a replay, and both files are told and good
+abbrev pub HasSchedule : {F : Type 0} → Shelf F → CommandLine → F → Type 0
+HasSchedule shelf (pages file) files = ⊥
+HasSchedule shelf (corrected_pages settings file) files = ⊥
+HasSchedule shelf (task address asked) files = ⊥
+HasSchedule shelf (report archive wanted) files = ⊥
+HasSchedule shelf (replay settings schedule) files = HasGoodFiles shelf settings schedule files
 
 -- the command is a report, over a disk that tells an archive
 abbrev pub HasArchive : {D : Type 0} → Medium D → CommandLine → D → Type 0
@@ -97,6 +101,7 @@ HasArchive medium (pages file) disk = ⊥
 HasArchive medium (corrected_pages settings file) disk = ⊥
 HasArchive medium (task address asked) disk = ⊥
 HasArchive medium (report archive wanted) disk = TellsArchive medium disk
+HasArchive medium (replay settings schedule) disk = ⊥
 
 -- What a link gained is told, and is the talk of the task that is done.
 pub record ShowsDone {L : Type 0} (traffic : Traffic L) (asked : Task) (old new : L) : Type 0 where
@@ -112,6 +117,7 @@ IsShownDone traffic (pages file) old new = ⊥
 IsShownDone traffic (corrected_pages settings file) old new = ⊥
 IsShownDone traffic (task address asked) old new = ShowsDone traffic asked old new
 IsShownDone traffic (report archive wanted) old new = ⊥
+IsShownDone traffic (replay settings schedule) old new = ⊥
 
 -- the command is a task
 abbrev pub IsTask : CommandLine → Type 0
@@ -119,6 +125,7 @@ IsTask (pages file) = ⊥
 IsTask (corrected_pages settings file) = ⊥
 IsTask (task address asked) = Unit {0}
 IsTask (report archive wanted) = ⊥
+IsTask (replay settings schedule) = ⊥
 
 -- The command was done, unless a read fault, a write fault or want of memory kept it from that.
 abbrev pub IsDoneOrHindered : Status → Type 0

@@ -31,6 +31,13 @@ pub enum Command<'a> {
         /// Which lines, and of which days.
         wanted: Wanted,
     },
+    /// `replay SETTINGS SCHEDULE`: the run of a schedule over a modelled console, its line and its archive.
+    Replay {
+        /// The name of the settings file.
+        settings: &'a str,
+        /// The name of the schedule's file.
+        schedule: &'a str,
+    },
 }
 
 impl<'a> Command<'a> {
@@ -47,12 +54,13 @@ impl<'a> Command<'a> {
             "pages" => read_pages(more),
             "task" => read_call(more),
             "report" => read_report(more),
+            "replay" => read_replay(more),
             _ => None,
         }
     }
 }
 
-ghost use Rattle.station_top.specs.Command.{command_read, line_of, pages_in, report_in, task_in, texts};
+ghost use Rattle.station_top.specs.Command.{command_read, line_of, pages_in, replay_in, report_in, task_in, texts};
 ghost use Rattle.station_top.specs.Possible.{IsPossible};
 
 // `FILE`, or `SETTINGS FILE`.
@@ -91,4 +99,15 @@ fn read_report<'a>(words: &[&'a str]) -> Option<Command<'a>>
         archive,
         wanted: read_wanted(kind, first, last)?,
     })
+}
+
+// `SETTINGS SCHEDULE`.
+fn read_replay<'a>(words: &[&'a str]) -> Option<Command<'a>>
+    ensures command { line_of result ≡ replay_in (texts words.now) }
+    ensures possible { IfSome result (λ command. IsPossible (command_read command)) }
+{
+    let [settings, schedule] = *words else {
+        return None;
+    };
+    Some(Command::Replay { settings, schedule })
 }

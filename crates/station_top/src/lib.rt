@@ -9,6 +9,7 @@ mod judging;
 mod numbers;
 mod pages;
 mod program;
+mod replaying;
 mod report_words;
 mod reporting;
 mod status;

@@ -8,13 +8,14 @@ ghost use Rattle.station_top.specs.GoodFile.{IsGoodFile};
 ghost use Rattle.station_top.specs.Judged.{IsEnding, IsReadFault, MayGoOn};
 ghost use Rattle.station_top.specs.JudgedRead.{judged_of};
 ghost use Rattle.station_top.specs.ReportRun.{WentWell};
-ghost use Rattle.station_top.specs.Run.{FilesStill, GoesOn, HasArchive, HasGoodInput, IsAccepted, IsDoneOrHindered, IsNoCall, IsShownDone, IsTask, IsUsage, Performs, PrintsCorrected, PrintsFile, output_of};
+ghost use Rattle.station_top.specs.Run.{FilesStill, GoesOn, HasArchive, HasGoodInput, HasSchedule, IsAccepted, IsDoneOrHindered, IsNoCall, IsShownDone, IsTask, IsUsage, Performs, PrintsCorrected, PrintsFile, output_of};
 ghost use Rattle.station_top.specs.StyleRead.{style_of};
 
 use crate::calling::call_for;
 use crate::command::Command;
 use crate::judging::{Ending, judge};
 use crate::pages::{finish, print_pages};
+use crate::replaying::replay_files;
 use crate::reporting::report;
 use crate::status::Status;
 use crate::style::Style;
@@ -66,6 +67,10 @@ pub fn run<F: Files, K: Sink, L: Link, D: Disk>(
     ensures reported { IfSome (command_of (texts words.now)) (λ command. HasArchive D.medium command disk.old
         → (result ≡ 0) ⊎ (result ≡ 7) ⊎ (result ≡ 9) ⊎ (result ≡ 12)) }
 
+    // A schedule that is accepted is replayed to its end, or to a delivery that was unseen.
+    ensures replayed { IfSome (command_of (texts words.now)) (λ command. HasSchedule F.shelf command files.old
+        → (result ≡ 0) ⊎ (result ≡ 5) ⊎ (result ≡ 8) ⊎ (result ≡ 9) ⊎ (result ≡ 12)) }
+
     // A task that what was said and heard shows as done ends so, unless its line could not be written.
     ensures done { IfSome (command_of (texts words.now)) (λ command.
         IsShownDone L.traffic command link.old link.new → (result ≡ 0) ⊎ (result ≡ 9)) }
@@ -77,6 +82,9 @@ pub fn run<F: Files, K: Sink, L: Link, D: Disk>(
         }
         Some(Command::Task { address, task }) => call_for(address, &task, link, out),
         Some(Command::Report { archive, wanted }) => report(alloc, archive, &wanted, disk, out),
+        Some(Command::Replay { settings, schedule }) => {
+            replay_files(alloc, settings, schedule, files, out)
+        }
         None => finish(b"usage\n", Status::Usage, out),
     };
     status as u8
@@ -172,6 +180,8 @@ fn print_reading<K: Sink>(read: TextRead, bytes: &[u8], style: &Style<'_>, out: 
 
 #[cfg(test)]
 mod console_tests;
+#[cfg(test)]
+mod replay_tests;
 #[cfg(test)]
 mod report_tests;
 #[cfg(test)]
