@@ -1,6 +1,7 @@
 ghost use Rattle.std.specs.Prelude.{◌≡◌, ◌≢◌, ◌↔◌, IsErr};
 ghost use Rattle.causes.specs.Cause.{Cause};
 
+use crate::open_files::{Notes, OpenFile, OpenFiles, refuse_unless_plain};
 use causes::raised;
 use disk_model::{Disk, Disked, Length};
 use std::fs;
@@ -16,7 +17,9 @@ use std::rt::Files;
 #[derive(Drop)]
 pub struct FileDisk<'a, R> {
     runtime: &'a R,
-    file: Option<File>,
+    // What it shares with the other disk of a pair.
+    notes: Option<Notes<'a>>,
+    file: Option<OpenFile<'a>>,
     moment: u64,
     looks: u64,
     faults: u64,
@@ -27,8 +30,31 @@ impl<'a, R> FileDisk<'a, R> {
     pub fn new(runtime: &'a R) -> Self
         ensures { result.moment ≡ 0 }
     {
+        Self::noting(runtime, None)
+    }
+
+    /// Two disks of this runtime with no file yet, which will never have one file open both.
+    ///
+    /// An attach fails where the other disk has the file open, be it to read or to write, and
+    /// nothing is written. Files are told apart by device and inode, whatever their names.
+    pub fn pair(runtime: &'a R, files: &'a mut OpenFiles) -> (Self, Self)
+        ensures first { result.0.moment ≡ 0 }
+        ensures second { result.1.moment ≡ 0 }
+    {
+        let (first, second) = files.notes();
+        (
+            Self::noting(runtime, Some(first)),
+            Self::noting(runtime, Some(second)),
+        )
+    }
+
+    // A disk that notes its file here, and reads here which one it is not to open.
+    fn noting(runtime: &'a R, notes: Option<Notes<'a>>) -> Self
+        ensures { result.moment ≡ 0 }
+    {
         FileDisk {
             runtime,
+            notes,
             file: None,
             moment: 0,
             looks: 0,
@@ -62,13 +88,14 @@ impl<R: Files<File = File> + Alloc> Disk for FileDisk<'_, R> {
     /// With `make` the file is opened to be written too, and locked, and one that is not there is
     /// made. The lock is the system's advisory one, which falls with the process: where another open
     /// has it, this fails. The folder is synced, so that a crash does not lose the name. What is no
-    /// plain file is refused, and not waited on.
+    /// plain file is refused, and not waited on. The file attached before is let go first, also
+    /// where this fails.
     fn attach(&mut self, name: &str, make: bool) -> Disked {
         self.file = None;
         let opened = if make {
-            open_to_write(self.runtime, name)
+            open_to_write(self.runtime, name, self.notes)
         } else {
-            open_to_read(self.runtime, name)
+            open_to_read(self.runtime, name, self.notes)
         };
         let done = match opened {
             Ok(file) => {
@@ -114,41 +141,47 @@ impl<R: Files<File = File> + Alloc> Disk for FileDisk<'_, R> {
 }
 
 // The file, where one is attached.
-fn attached(file: &Option<File>) -> io::Result<&File> {
+fn attached<'a>(file: &'a Option<OpenFile<'_>>) -> io::Result<&'a File> {
     match file {
-        Some(file) => Ok(file),
+        Some(open) => Ok(open.file()),
         None => Err(ErrorKind::NotFound.into()),
     }
 }
 
-fn measure(file: &Option<File>) -> io::Result<u64> {
+fn measure(file: &Option<OpenFile<'_>>) -> io::Result<u64> {
     Ok(attached(file)?.metadata()?.len())
 }
 
 // A file that ends before the buffer is full is an error.
-fn read_whole(file: &Option<File>, at: u64, buf: &mut [u8]) -> io::Result<()> {
+fn read_whole(file: &Option<OpenFile<'_>>, at: u64, buf: &mut [u8]) -> io::Result<()> {
     attached(file)?.read_exact_at(buf, at)
 }
 
-fn write_whole(file: &Option<File>, at: u64, bytes: &[u8]) -> io::Result<()> {
+fn write_whole(file: &Option<OpenFile<'_>>, at: u64, bytes: &[u8]) -> io::Result<()> {
     attached(file)?.write_all_at(bytes, at)
 }
 
 // Of what the system keeps beside the bytes it makes durable what reading them takes, as the length.
-fn sync_bytes(file: &Option<File>) -> io::Result<()> {
+fn sync_bytes(file: &Option<OpenFile<'_>>) -> io::Result<()> {
     attached(file)?.sync_data()
 }
 
 // The plain file of this name, to be read.
-fn open_to_read(files: &impl Files<File = File>, name: &str) -> io::Result<File> {
+fn open_to_read<'a>(
+    files: &impl Files<File = File>,
+    name: &str,
+    notes: Option<Notes<'a>>,
+) -> io::Result<OpenFile<'a>> {
     refuse_unless_plain(&fs::metadata(files, name)?)?;
-    let file = File::open(files, name)?;
-    refuse_unless_plain(&file.metadata()?)?;
-    Ok(file)
+    OpenFile::of(File::open(files, name)?, notes)
 }
 
 // The plain file of this name, to be written by this process alone, and made where there is none.
-fn open_to_write(rt: &(impl Files<File = File> + Alloc), name: &str) -> io::Result<File> {
+fn open_to_write<'a>(
+    rt: &(impl Files<File = File> + Alloc),
+    name: &str,
+    notes: Option<Notes<'a>>,
+) -> io::Result<OpenFile<'a>> {
     match fs::metadata(rt, name) {
         Ok(found) => refuse_unless_plain(&found)?,
         Err(error) if error.kind() == ErrorKind::NotFound => {}
@@ -156,22 +189,12 @@ fn open_to_write(rt: &(impl Files<File = File> + Alloc), name: &str) -> io::Resu
     }
     let mut options = OpenOptions::new();
     options.read(true).write(true).create(true);
-    let file = options.open(rt, name)?;
-    refuse_unless_plain(&file.metadata()?)?;
-    if file.try_lock().is_err() {
+    let open = OpenFile::of(options.open(rt, name)?, notes)?;
+    if open.file().try_lock().is_err() {
         return Err(ErrorKind::ResourceBusy.into());
     }
     sync_folder(rt, name)?;
-    Ok(file)
-}
-
-// A folder has bytes on some systems, and a pipe or a device may be waited on for ever.
-fn refuse_unless_plain(found: &fs::Metadata) -> io::Result<()> {
-    if found.is_file() {
-        Ok(())
-    } else {
-        Err(ErrorKind::InvalidInput.into())
-    }
+    Ok(open)
 }
 
 // Makes the name durable, in the folder where the file lies, which a link may lead to. It is done

@@ -2,6 +2,7 @@
 #![tactic(auto)]
 
 mod file_disk;
+mod open_files;
 mod outcome;
 mod std_files;
 mod std_sink;
@@ -9,6 +10,7 @@ mod streams;
 mod tcp_link;
 
 pub use file_disk::FileDisk;
+pub use open_files::OpenFiles;
 pub use outcome::{Outcome, understand};
 pub use std_files::StdFiles;
 pub use std_sink::StdSink;

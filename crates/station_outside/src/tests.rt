@@ -3,7 +3,7 @@ ghost use Rattle.std.specs.Prelude.{◌≤◌, IfOk};
 use crate::std_files::read_front;
 use crate::std_sink::write_whole;
 use crate::tcp_link::{accept, bind};
-use crate::{FileDisk, StdFiles, TcpLink, hold_standard_streams};
+use crate::{FileDisk, OpenFiles, StdFiles, TcpLink, hold_standard_streams};
 use disk_model::{Disk, Disked, Length};
 use serial_link::{Connected, Link, Recv, Sent, Side};
 use station_io::{Files, LONGEST, Put, TextRead};
@@ -290,5 +290,76 @@ fn what_is_no_plain_file_is_refused(rt: HostRuntime) -> Result<(), Fail> {
             Disked::Failed
         );
     }
+    Ok(())
+}
+
+// Whether the one disk gets the file, and then the other is refused it by this name. Neither has it afterwards.
+fn is_kept_from(holder: &mut impl Disk, other: &mut impl Disk, file: &str, name: &str) -> bool {
+    [false, true].iter().all(|&make| {
+        holder.attach(file, !make) == Disked::Done
+            && other.attach(name, make) == Disked::Failed
+            && other.length() == Length::Failed
+            && holder.attach("", false) == Disked::Failed
+    })
+}
+
+#[test]
+fn a_pair_never_has_one_file_open_twice(rt: HostRuntime) -> Result<(), Fail> {
+    const FOLDER: &str = "station_outside_pair";
+    const OLD: &str = "station_outside_pair/old";
+    const LINK: &str = "station_outside_pair/link";
+    const SECOND_NAME: &str = "station_outside_pair/second";
+    const BYTES: &[u8] = b"an archive";
+    let _ = fs::remove_dir_all(&rt, FOLDER);
+    fs::create_dir(&rt, FOLDER)?;
+    fs::write(&rt, OLD, BYTES)?;
+    symlink(&rt, "old", LINK)?;
+    fs::hard_link(&rt, OLD, SECOND_NAME)?;
+    let mut files = OpenFiles::none();
+    let (mut first, mut second) = FileDisk::pair(&rt, &mut files);
+    for name in [
+        OLD,
+        "./station_outside_pair/old",
+        "station_outside_pair/../station_outside_pair/old",
+        LINK,
+        SECOND_NAME,
+    ] {
+        assert!(rt; is_kept_from(&mut first, &mut second, OLD, name), "{name}");
+        assert!(rt; is_kept_from(&mut second, &mut first, OLD, name), "{name}");
+    }
+    assert_eq!(rt; fs::read(&rt, OLD)?.as_slice(), BYTES);
+    fs::remove_dir_all(&rt, FOLDER)?;
+    Ok(())
+}
+
+#[test]
+fn a_file_that_is_let_go_is_free(rt: HostRuntime) -> Result<(), Fail> {
+    const FOLDER: &str = "station_outside_free";
+    const OLD: &str = "station_outside_free/old";
+    const NEW: &str = "station_outside_free/new";
+    let _ = fs::remove_dir_all(&rt, FOLDER);
+    fs::create_dir(&rt, FOLDER)?;
+    fs::write(&rt, OLD, b"an archive")?;
+    let mut files = OpenFiles::none();
+    let (mut first, mut second) = FileDisk::pair(&rt, &mut files);
+    assert_eq!(rt; first.attach(OLD, false), Disked::Done);
+    assert_eq!(rt; second.attach(NEW, true), Disked::Done, "another file");
+    assert_eq!(rt; second.write_at(0, b"its copy"), Disked::Done);
+    assert_eq!(rt; first.attach(NEW, false), Disked::Failed);
+    assert_eq!(rt;
+        second.attach(OLD, true),
+        Disked::Done,
+        "let go, though the attach failed"
+    );
+    assert_eq!(rt; first.attach(NEW, false), Disked::Done, "attached anew");
+    drop(second);
+    assert_eq!(rt;
+        first.attach(OLD, false),
+        Disked::Done,
+        "let go with its disk"
+    );
+    assert_eq!(rt; fs::read(&rt, OLD)?.as_slice(), b"an archive".as_slice());
+    assert_eq!(rt; fs::read(&rt, NEW)?.as_slice(), b"its copy".as_slice());
+    fs::remove_dir_all(&rt, FOLDER)?;
     Ok(())
 }
