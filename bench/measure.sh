@@ -21,3 +21,13 @@ prove() {
     mkdir -p "$copy/crates/measure/proofs/$1"
     cat >"$copy/crates/measure/proofs/$1/$2.antt"
 }
+
+# Sets `archive` to a file of 1,048,575 rows and `adding` to the program that made it. bench/archive.sh makes them where
+# they are missing.
+find_large_archive() {
+    archive=out/bench/archive/files/large
+    adding=out/bench/archive/crates/measure/out/measure
+    if [ ! -s "$archive" ] || [ ! -x "$adding" ]; then
+        bash bench/archive.sh
+    fi
+}

@@ -4,8 +4,8 @@
 # printed by the command sqlite3, all its columns as text. It is no test.
 set -eu
 cd "$(dirname "$0")/.."
-archive=out/bench/archive/files/large
-[ -s "$archive" ] || bash bench/archive.sh
+. bench/measure.sh
+find_large_archive
 command -v sqlite3 >/dev/null || { echo 'sqlite3 is missing' >&2; exit 1; }
 ./station pages examples/first.pages >/dev/null
 PYTHONPATH=bench python3 - crates/station_program/out/station_program "$archive" <<'MEASURE'

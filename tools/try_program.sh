@@ -26,6 +26,36 @@ run() {
     status=$?
 }
 
+# Runs another command in its place, and takes its status alone.
+check() {
+    "$@"
+    status=$?
+    output=
+}
+
+# So many zero bytes.
+zeros() {
+    head -c "$1" /dev/zero
+}
+
+# A row slot of five minutes of 2024-07-01, with an outside temperature alone. The words are the hexadecimal digits of the
+# gate, of the number of slots, of the minute of the day's first hour, and of the low byte of the temperature, behind 0x02.
+row_slot() {
+    printf '%b' "\\x$1\\x01\\x$2\\x00\\xe1\\x30\\x$3\\x00\\x05\\x00\\x00\\x00\\x01"
+    zeros 7
+    printf '%b' "\\x$4\\x02"
+    zeros 154
+}
+
+# An archive of this version of two rows, at 00:05 with 65.1 F and at 00:10 with a temperature as of `row_slot`.
+two_rows() {
+    printf 'DVARCH0%d' "$1"
+    zeros 168
+    row_slot 01 02 05 8b
+    row_slot 00 00 0a "$2"
+    zeros 1
+}
+
 cp "$top/examples/first.pages" "$work/" && cd "$work" || exit 1
 output=$("$top/station" pages first.pages)
 status=$?
@@ -54,14 +84,67 @@ expect 'a folder' 8 'read fault'
 
 run report missing.archive days 2024-07-01 2024-07-31
 expect 'an archive that is not there' 7 'disk fault'
+not_archive="not an archive $(head -c 8 first.pages | od -An -tx1 | tr -d ' \n')"
 run report first.pages days 2024-07-01 2024-07-31
-expect 'an archive that is none' 11 "not an archive $(head -c 8 first.pages | od -An -tx1 | tr -d ' \n')"
+expect 'an archive that is none' 11 "$not_archive"
 run report first.pages days 2024-07-31 2024-07-01
 expect 'days that fall' 1 usage
-[ -e missing.archive ]
-status=$?
-output=
+check [ -e missing.archive ]
 expect 'a report makes no archive' 1 ''
+
+two_rows 2 8c >old.archive
+two_rows 1 8c >first.archive
+two_rows 2 8d >other.archive
+cp old.archive kept
+listed=$'row 2024-07-01 00:05 5 outTemp=651\nrow 2024-07-01 00:10 5 outTemp=652'
+run report old.archive rows 2024-07-01 2024-07-01
+expect 'an archive of two rows' 0 "$listed"
+for from in old.archive first.archive; do
+    run copy "$from" "copy.of.$from"
+    expect "a copy of $from" 0 'copied 2'
+    run report "copy.of.$from" rows 2024-07-01 2024-07-01
+    expect "the rows of a copy of $from" 0 "$listed"
+    run copy "$from" "copy.of.$from"
+    expect "a copy of $from, made again" 0 'copied 2'
+done
+run copy old.archive first.archive
+expect 'a copy to an archive of the first version' 16 'old archive'
+run copy old.archive other.archive
+expect 'a copy to an archive whose second row differs' 17 'not a prefix at row 1'
+run copy old.archive first.pages
+expect 'a copy to a file that is no archive' 11 "$not_archive"
+check cmp -s first.pages "$top/examples/first.pages"
+expect 'a file that is no archive is kept' 0 ''
+
+run copy old.archive old.archive
+expect 'a copy to the same word' 1 usage
+ln -s old.archive link.archive
+ln old.archive second.archive
+for name in ./old.archive "$work/old.archive" link.archive second.archive; do
+    run copy old.archive "$name"
+    expect "a copy to $name, which is the same file" 7 'disk fault'
+    run copy "$name" old.archive
+    expect "a copy from $name, which is the same file" 7 'disk fault'
+done
+check cmp -s old.archive kept
+expect 'an archive that was to be copied to itself is kept' 0 ''
+
+run copy missing.archive unmade.archive
+expect 'a copy of an archive that is not there' 7 'disk fault'
+check [ -e unmade.archive ]
+expect 'no copy is made of an archive that is not there' 1 ''
+run copy first.pages empty.archive
+expect 'a copy of a file that is no archive' 11 "$not_archive"
+check cmp -s empty.archive /dev/null
+expect 'its copy is made, and empty' 0 ''
+
+if command -v flock >/dev/null; then
+    output=$(flock -o copy.of.old.archive "$program" copy old.archive copy.of.old.archive)
+    status=$?
+    expect 'a copy to an archive that another process holds' 7 'disk fault'
+else
+    echo 'flock is missing: no copy to an archive that another process holds was tried' >&2
+fi
 
 cp "$top/examples/settings.toml" "$top/examples/first.schedule" .
 run replay settings.toml first.schedule

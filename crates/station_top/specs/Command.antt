@@ -16,6 +16,7 @@ pub data CommandLine : Type 0 where
   task : List ℕ → Task → CommandLine
   report : List ℕ → Wanted → CommandLine
   replay : List ℕ → List ℕ → CommandLine
+  copy : List ℕ → List ℕ → CommandLine
 
 -- the words, each as its bytes
 abbrev pub texts : List (Bor (List ℕ)) → List (List ℕ)
@@ -42,6 +43,11 @@ abbrev pub replay_in : List (List ℕ) → Option CommandLine
 replay_in (settings ∷ schedule ∷ []) = Some (replay settings schedule)
 replay_in words = None
 
+-- `OLD NEW`, two names that differ
+abbrev pub copy_in : List (List ℕ) → Option CommandLine
+copy_in (from ∷ to ∷ []) = if bytes_eq from to then None else Some (copy from to)
+copy_in words = None
+
 -- the command that the words spell, and none where they are outside the table
 abbrev pub command_of : List (List ℕ) → Option CommandLine
 command_of [] = None
@@ -50,6 +56,7 @@ command_of (command ∷ words) =
     else if bytes_eq command (codes "task") then task_in words
     else if bytes_eq command (codes "report") then report_in words
     else if bytes_eq command (codes "replay") then replay_in words
+    else if bytes_eq command (codes "copy") then copy_in words
     else None
 
 -- a command that was read, with the texts that it lends
@@ -59,6 +66,7 @@ command_read (read.CorrectedPages settings file) = corrected_pages settings.now 
 command_read (read.Task address asked) = task address.now asked
 command_read (read.Report archive wanted) = report archive.now wanted
 command_read (read.Replay settings schedule) = replay settings.now schedule.now
+command_read (read.Copy from to) = copy from.now to.now
 
 -- the same where one was read
 abbrev pub line_of : Option Command → Option CommandLine

@@ -15,6 +15,7 @@ pub mod TaskText
 pub mod TaskRun
 pub mod GoodFile
 pub mod ReportRun
+pub mod CopyRun
 pub mod Judged
 pub mod JudgedSchedule
 pub mod JudgedRead

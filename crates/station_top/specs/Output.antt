@@ -45,11 +45,14 @@ code ends.LinkFault = 6
 code ends.DiskFault = 7
 code ends.ReadFault = 8
 code ends.WriteFault = 9
+code ends.ArchiveFull = 10
 code ends.BadArchive = 11
 code ends.OutOfMemory = 12
 code ends.Flood = 13
 code ends.BadPage = 14
 code ends.TooLong = 15
+code ends.OldArchive = 16
+code ends.NotPrefix = 17
 
 -- The run ended with this number, and the sink took the output that it stands for or a front of it.
 pub record EndsWith {S : Type 0} (outlet : Outlet S) (output : Output) (old new : S) (result : ℕ) : Type 0 where

@@ -2,7 +2,7 @@
 use Rattle.std.specs.Prelude.{◌≡◌, ◌≤◌, true, length}
 use Rattle.console_tasks.specs.Memory.{AreWithin}
 use Rattle.station_base.specs.ClockTime.{can_be_shown}
-use Rattle.station_top.specs.Command.{CommandLine, pages, corrected_pages, task, report, replay}
+use Rattle.station_top.specs.Command.{CommandLine, pages, corrected_pages, task, report, replay, copy}
 use Rattle.station_top.specs.declared.task.Task.{Task}
 use Rattle.station_top.specs.declared.task.Task.TheVariants.{Packets, ReadMemory, WriteMemory}
 use Rattle.station_top.specs.declared.task.Task.TheVariants.{ReadClock, SetClock, SetPeriod, Kind}
@@ -24,3 +24,4 @@ IsPossible (corrected_pages settings file) = Unit {0}
 IsPossible (task address asked) = CanBeMade asked
 IsPossible (report archive wanted) = Unit {0}
 IsPossible (replay settings schedule) = Unit {0}
+IsPossible (copy from to) = Unit {0}

@@ -14,7 +14,8 @@ use Rattle.station_io.specs.declared.files.TextRead.TheVariants as reads
 use Rattle.station_top.specs.declared.status.Status.{Status}
 use Rattle.station_top.specs.declared.status.Status.TheVariants as ends
 use Rattle.station_top.specs.declared.task.Task.{Task}
-use Rattle.station_top.specs.Command.{CommandLine, pages, corrected_pages, task, report, replay}
+use Rattle.station_top.specs.Command.{CommandLine, pages, corrected_pages, task, report, replay, copy}
+use Rattle.station_top.specs.CopyRun.{CopiesOn, TellArchives}
 use Rattle.station_top.specs.GoodFile.{IsGoodFile}
 use Rattle.station_top.specs.Judged.{Judged, SettlesFirst, refused, accepted, read_fault, too_long}
 use Rattle.station_top.specs.Output.{Output, EndsWith, no_memory}
@@ -31,12 +32,16 @@ output_of style reads.Failed bytes = read_fault
 output_of style reads.TooLong bytes = too_long
 output_of style reads.OutOfMemory bytes = no_memory
 
+-- neither disk was touched
+abbrev pub AtRest : {D : Type 0} → D → D → D → D → Type 0
+AtRest disk second disk' second' = (disk' ≡ disk) × (second' ≡ second)
+
 -- No file was touched, no link, and no disk.
-pub record IsUsage {F S L D : Type 0} (outlet : Outlet S) (old : F) (out : S) (link : L) (disk : D)
-    (new : F) (out' : S) (link' : L) (disk' : D) (result : ℕ) : Type 0 where
+pub record IsUsage {F S L D : Type 0} (outlet : Outlet S) (old : F) (out : S) (link : L) (disk second : D)
+    (new : F) (out' : S) (link' : L) (disk' second' : D) (result : ℕ) : Type 0 where
   pub untouched : new ≡ old
   pub silent : link' ≡ link
-  pub at_rest : disk' ≡ disk
+  pub at_rest : AtRest disk second disk' second'
   pub written : EndsWith outlet (record { text = codes "usage\n"; status = ends.Usage }) out out' result
 
 -- The file was read once, and what came of that was written.
@@ -60,19 +65,21 @@ PrintsCorrected shelf outlet settings name old out new out' result =
     SettlesFirst shelf settings old (λ judged middle. GoesOn shelf outlet judged name middle out new out' result)
 
 -- what each command does: one that prints pages or replays a schedule touches no link and no disk, a task no file and
--- no disk, and a report no file and no link
+-- no disk, a report no file, no link and no second disk, and a copy no file and no link
 abbrev pub Performs : {F S L D : Type 0} → Shelf F → Outlet S → Traffic L → Medium D → CommandLine
-    → F → S → L → D → F → S → L → D → ℕ → Type 0
-Performs shelf outlet traffic medium (pages file) old out link disk new out' link' disk' result =
-    (link' ≡ link) × (disk' ≡ disk) × PrintsFile shelf outlet short file old out new out' result
-Performs shelf outlet traffic medium (corrected_pages settings file) old out link disk new out' link' disk' result =
-    (link' ≡ link) × (disk' ≡ disk) × PrintsCorrected shelf outlet settings file old out new out' result
-Performs shelf outlet traffic medium (task address asked) old out link disk new out' link' disk' result =
-    (new ≡ old) × (disk' ≡ disk) × CallsFor traffic outlet address asked link out link' out' result
-Performs shelf outlet traffic medium (report archive wanted) old out link disk new out' link' disk' result =
-    (new ≡ old) × (link' ≡ link) × ReportsOn medium outlet archive wanted disk out disk' out' result
-Performs shelf outlet traffic medium (replay settings schedule) old out link disk new out' link' disk' result =
-    (link' ≡ link) × (disk' ≡ disk) × ReplaysFiles shelf outlet settings schedule old out new out' result
+    → F → S → L → D → D → F → S → L → D → D → ℕ → Type 0
+Performs shelf outlet traffic medium (pages file) old out link disk second new out' link' disk' second' result =
+    (link' ≡ link) × AtRest disk second disk' second' × PrintsFile shelf outlet short file old out new out' result
+Performs shelf outlet traffic medium (corrected_pages settings file) old out link disk second new out' link' disk' second' result =
+    (link' ≡ link) × AtRest disk second disk' second' × PrintsCorrected shelf outlet settings file old out new out' result
+Performs shelf outlet traffic medium (task address asked) old out link disk second new out' link' disk' second' result =
+    (new ≡ old) × AtRest disk second disk' second' × CallsFor traffic outlet address asked link out link' out' result
+Performs shelf outlet traffic medium (report archive wanted) old out link disk second new out' link' disk' second' result =
+    (new ≡ old) × (link' ≡ link) × (second' ≡ second) × ReportsOn medium outlet archive wanted disk out disk' out' result
+Performs shelf outlet traffic medium (replay settings schedule) old out link disk second new out' link' disk' second' result =
+    (link' ≡ link) × AtRest disk second disk' second' × ReplaysFiles shelf outlet settings schedule old out new out' result
+Performs shelf outlet traffic medium (copy from to) old out link disk second new out' link' disk' second' result =
+    (new ≡ old) × (link' ≡ link) × CopiesOn medium outlet from to disk second out disk' second' out' result
 
 -- a text of settings that is not too long and is accepted
 abbrev pub IsAccepted : List ℕ → Type 0
@@ -86,6 +93,7 @@ HasGoodInput shelf (corrected_pages settings file) files =
 HasGoodInput shelf (task address asked) files = ⊥
 HasGoodInput shelf (report archive wanted) files = ⊥
 HasGoodInput shelf (replay settings schedule) files = ⊥
+HasGoodInput shelf (copy from to) files = ⊥
 
 -- the command is a replay, and both files are told and good
 abbrev pub HasSchedule : {F : Type 0} → Shelf F → CommandLine → F → Type 0
@@ -94,14 +102,16 @@ HasSchedule shelf (corrected_pages settings file) files = ⊥
 HasSchedule shelf (task address asked) files = ⊥
 HasSchedule shelf (report archive wanted) files = ⊥
 HasSchedule shelf (replay settings schedule) files = HasGoodFiles shelf settings schedule files
+HasSchedule shelf (copy from to) files = ⊥
 
--- the command is a report, over a disk that tells an archive
-abbrev pub HasArchive : {D : Type 0} → Medium D → CommandLine → D → Type 0
-HasArchive medium (pages file) disk = ⊥
-HasArchive medium (corrected_pages settings file) disk = ⊥
-HasArchive medium (task address asked) disk = ⊥
-HasArchive medium (report archive wanted) disk = TellsArchive medium disk
-HasArchive medium (replay settings schedule) disk = ⊥
+-- the command is a report, over a disk that tells an archive, or a copy over two that tell archives
+abbrev pub HasArchive : {D : Type 0} → Medium D → CommandLine → D → D → Type 0
+HasArchive medium (pages file) disk second = ⊥
+HasArchive medium (corrected_pages settings file) disk second = ⊥
+HasArchive medium (task address asked) disk second = ⊥
+HasArchive medium (report archive wanted) disk second = TellsArchive medium disk
+HasArchive medium (replay settings schedule) disk second = ⊥
+HasArchive medium (copy from to) disk second = TellArchives medium disk second
 
 -- What a link gained is told, and is the talk of the task that is done.
 pub record ShowsDone {L : Type 0} (traffic : Traffic L) (asked : Task) (old new : L) : Type 0 where
@@ -118,6 +128,7 @@ IsShownDone traffic (corrected_pages settings file) old new = ⊥
 IsShownDone traffic (task address asked) old new = ShowsDone traffic asked old new
 IsShownDone traffic (report archive wanted) old new = ⊥
 IsShownDone traffic (replay settings schedule) old new = ⊥
+IsShownDone traffic (copy from to) old new = ⊥
 
 -- the command is a task
 abbrev pub IsTask : CommandLine → Type 0
@@ -126,6 +137,7 @@ IsTask (corrected_pages settings file) = ⊥
 IsTask (task address asked) = Unit {0}
 IsTask (report archive wanted) = ⊥
 IsTask (replay settings schedule) = ⊥
+IsTask (copy from to) = ⊥
 
 -- The command was done, unless a read fault, a write fault or want of memory kept it from that.
 abbrev pub IsDoneOrHindered : Status → Type 0

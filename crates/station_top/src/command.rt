@@ -38,6 +38,13 @@ pub enum Command<'a> {
         /// The name of the schedule's file.
         schedule: &'a str,
     },
+    /// `copy OLD NEW`: the rows of the one archive, added to the other one, which has another name.
+    Copy {
+        /// The name of the archive that is read.
+        from: &'a str,
+        /// The name of the archive that is written.
+        to: &'a str,
+    },
 }
 
 impl<'a> Command<'a> {
@@ -55,12 +62,13 @@ impl<'a> Command<'a> {
             "task" => read_call(more),
             "report" => read_report(more),
             "replay" => read_replay(more),
+            "copy" => read_copy(more),
             _ => None,
         }
     }
 }
 
-ghost use Rattle.station_top.specs.Command.{command_read, line_of, pages_in, replay_in, report_in, task_in, texts};
+ghost use Rattle.station_top.specs.Command.{command_read, copy_in, line_of, pages_in, replay_in, report_in, task_in, texts};
 ghost use Rattle.station_top.specs.Possible.{IsPossible};
 
 // `FILE`, or `SETTINGS FILE`.
@@ -110,4 +118,18 @@ fn read_replay<'a>(words: &[&'a str]) -> Option<Command<'a>>
         return None;
     };
     Some(Command::Replay { settings, schedule })
+}
+
+// `OLD NEW`, two names that differ.
+fn read_copy<'a>(words: &[&'a str]) -> Option<Command<'a>>
+    ensures command { line_of result ≡ copy_in (texts words.now) }
+    ensures possible { IfSome result (λ command. IsPossible (command_read command)) }
+{
+    let [from, to] = *words else {
+        return None;
+    };
+    if from == to {
+        return None;
+    }
+    Some(Command::Copy { from, to })
 }

@@ -1,10 +1,11 @@
-//! The program, over files, a sink, a link and a disk that are handed in.
+//! The program, over files, a sink, a link and two disks that are handed in.
 #![tactic(auto)]
 
 mod asking;
 mod calling;
 mod clock_words;
 mod command;
+mod copying;
 mod judging;
 mod numbers;
 mod pages;

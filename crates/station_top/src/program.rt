@@ -1,7 +1,7 @@
-ghost use Rattle.std.specs.Prelude.{◌≡◌, ◌≢◌, ◌⊎◌, ◌≤◌, List, ℕ, length, IfSome, IfNone, IsSomeAnd};
+ghost use Rattle.std.specs.Prelude.{◌≡◌, ◌≢◌, ◌⊎◌, ◌<◌, ◌≤◌, ◌^◌, List, ℕ, length, IfSome, IfNone, IsSomeAnd};
 ghost use Rattle.causes.specs.Cause.{Cause, Rose};
-ghost use Rattle.disk_model.specs.Disk.{Faults};
 ghost use Rattle.station_io.specs.Files.{most_bytes};
+ghost use Rattle.station_top.specs.CopyRun.{RoseOnOne};
 ghost use Rattle.station_top.specs.Output.{Finishes, code};
 ghost use Rattle.station_top.specs.Command.{command_of, texts};
 ghost use Rattle.station_top.specs.GoodFile.{IsGoodFile};
@@ -13,6 +13,7 @@ ghost use Rattle.station_top.specs.StyleRead.{style_of};
 
 use crate::calling::call_for;
 use crate::command::Command;
+use crate::copying::copy_files;
 use crate::judging::{Ending, judge};
 use crate::pages::{finish, print_pages};
 use crate::replaying::replay_files;
@@ -33,22 +34,29 @@ pub fn run<F: Files, K: Sink, L: Link, D: Disk>(
     out: &mut K,
     link: &mut L,
     disk: &mut D,
+    second: &mut D,
 ) -> u8
+    // No disk has begun more changes than a copy leaves room for.
+    requires { D.medium.moment second.old < 2 ^ 63 }
+
     // Words outside the table are answered by a line of their own, no file is read, and nothing is connected or attached.
     ensures usage { IfNone (command_of (texts words.now))
-        (IsUsage K.outlet files.old out.old link.old disk.old files.new out.new link.new disk.new result) }
+        (IsUsage K.outlet files.old out.old link.old disk.old second.old files.new out.new link.new disk.new second.new
+        result) }
 
     // The files that the words name are each read once, in the order of the words, the address that they name is called
-    // once, the archive that they name is attached once, and what came of that decides what is written and how the
-    // program ends.
+    // once, the archives that they name are each attached once, and what came of that decides what is written and how
+    // the program ends.
     ensures command { IfSome (command_of (texts words.now)) (λ command. Performs F.shelf K.outlet L.traffic D.medium
-        command files.old out.old link.old disk.old files.new out.new link.new disk.new result) }
+        command files.old out.old link.old disk.old second.old files.new out.new link.new disk.new second.new result) }
 
     // The faults of the outside have a cause.
     ensures read_fault { Cause (F.shelf.faults files.old) (F.shelf.faults files.new) (result ≡ 8) }
     ensures write_fault { Cause (K.outlet.faults out.old) (K.outlet.faults out.new) (result ≡ 9) }
     ensures link_fault { Cause (L.traffic.faults link.old) (L.traffic.faults link.new) (result ≡ 6) }
-    ensures disk_fault { Faults D.medium disk.old disk.new (result ≡ 7) }
+    ensures disk_fault { result ≡ 7 → RoseOnOne D.medium disk.old second.old disk.new second.new }
+    ensures disk_never_falls { D.medium.faults disk.old ≤ D.medium.faults disk.new }
+    ensures second_never_falls { D.medium.faults second.old ≤ D.medium.faults second.new }
 
     // A task takes no memory: it ends for want of it only where the link had none.
     ensures shortage { IfSome (command_of (texts words.now)) (λ command. IsTask command
@@ -58,13 +66,14 @@ pub fn run<F: Files, K: Sink, L: Link, D: Disk>(
     ensures files_still { result ≢ 8 → result ≢ 9 → F.shelf.faults files.new ≡ F.shelf.faults files.old }
     ensures sink_still { result ≢ 9 → K.outlet.faults out.new ≡ K.outlet.faults out.old }
 
-    // Nor did a call of the disk fail. A disk fault whose line could not be written ends with 9.
+    // Nor did a call of a disk fail. A disk fault whose line could not be written ends with 9.
     ensures disk_well { result ≢ 7 → result ≢ 9 → WentWell D.medium disk.old disk.new }
+    ensures second_well { result ≢ 7 → result ≢ 9 → WentWell D.medium second.old second.new }
 
     // Over good input only such a fault and want of memory keep the command from being done.
     ensures complete { IfSome (command_of (texts words.now)) (λ command. HasGoodInput F.shelf command files.old
         → (result ≡ 0) ⊎ (result ≡ 8) ⊎ (result ≡ 9) ⊎ (result ≡ 12)) }
-    ensures reported { IfSome (command_of (texts words.now)) (λ command. HasArchive D.medium command disk.old
+    ensures reported { IfSome (command_of (texts words.now)) (λ command. HasArchive D.medium command disk.old second.old
         → (result ≡ 0) ⊎ (result ≡ 7) ⊎ (result ≡ 9) ⊎ (result ≡ 12)) }
 
     // A schedule that is accepted is replayed to its end, or to a delivery that was unseen.
@@ -85,6 +94,7 @@ pub fn run<F: Files, K: Sink, L: Link, D: Disk>(
         Some(Command::Replay { settings, schedule }) => {
             replay_files(alloc, settings, schedule, files, out)
         }
+        Some(Command::Copy { from, to }) => copy_files(alloc, from, to, disk, second, out),
         None => finish(b"usage\n", Status::Usage, out),
     };
     status as u8
@@ -180,6 +190,8 @@ fn print_reading<K: Sink>(read: TextRead, bytes: &[u8], style: &Style<'_>, out: 
 
 #[cfg(test)]
 mod console_tests;
+#[cfg(test)]
+mod copy_tests;
 #[cfg(test)]
 mod replay_tests;
 #[cfg(test)]

@@ -112,8 +112,8 @@ fn write_report<D: Disk, K: Sink>(
     }
 }
 
-// The line of a file that is no archive, which begins with these bytes.
-fn not_archive(bytes: &[u8; 8]) -> Text
+/// The line of a file that is no archive, which begins with these bytes.
+pub fn not_archive(bytes: &[u8; 8]) -> Text
     ensures { result.items ≡ not_archive_line bytes.now }
 {
     let mut text = Text::new();
@@ -122,8 +122,8 @@ fn not_archive(bytes: &[u8; 8]) -> Text
     text
 }
 
-// The line of an archive that is damaged at this place.
-fn damaged(place: u64) -> Text
+/// The line of an archive that is damaged at this place.
+pub fn damaged(place: u64) -> Text
     ensures { result.items ≡ damaged_line place }
 {
     let mut text = Text::new();

@@ -29,7 +29,16 @@ fn expect(
     let mut files = MemFiles::new(Vec::new(alloc), Vec::new(alloc));
     let mut sink = MemSink::new(alloc, 300)?;
     let mut disk = MemDisk::new(alloc, 0, 0, 0)?;
-    let ended = run(alloc, words, &mut files, &mut sink, sim, &mut disk);
+    let mut second = MemDisk::new(alloc, 0, 0, 0)?;
+    let ended = run(
+        alloc,
+        words,
+        &mut files,
+        &mut sink,
+        sim,
+        &mut disk,
+        &mut second,
+    );
     assert_eq!(rt; (ended, sink.bytes()), (status, line.as_bytes()));
     Ok(())
 }

@@ -100,8 +100,17 @@ fn replayed(
     let mut sink = MemSink::new(alloc, capacity)?;
     let mut link = ScriptLink::new(alloc, Vec::new(alloc))?;
     let mut disk = MemDisk::new(alloc, 0, 0, 0)?;
+    let mut second = MemDisk::new(alloc, 0, 0, 0)?;
     let words = ["replay", "settings", "schedule"];
-    let status = run(alloc, &words, &mut files, &mut sink, &mut link, &mut disk);
+    let status = run(
+        alloc,
+        &words,
+        &mut files,
+        &mut sink,
+        &mut link,
+        &mut disk,
+        &mut second,
+    );
     Ok((status, Vec::from_slice(alloc, sink.bytes())?))
 }
 

@@ -133,7 +133,16 @@ fn reported(
     let mut files = MemFiles::new(Vec::new(alloc), Vec::new(alloc));
     let mut sink = MemSink::new(alloc, capacity)?;
     let mut link = ScriptLink::new(alloc, Vec::new(alloc))?;
-    let status = run(alloc, words, &mut files, &mut sink, &mut link, disk);
+    let mut second = MemDisk::new(alloc, 0, 0, 0)?;
+    let status = run(
+        alloc,
+        words,
+        &mut files,
+        &mut sink,
+        &mut link,
+        disk,
+        &mut second,
+    );
     Ok((status, Vec::from_slice(alloc, sink.bytes())?))
 }
 

@@ -33,7 +33,16 @@ fn printed(
     let mut sink = MemSink::new(alloc, capacity)?;
     let mut link = ScriptLink::new(alloc, items)?;
     let mut disk = MemDisk::new(alloc, 0, 0, 0)?;
-    let status = run(alloc, words, &mut files, &mut sink, &mut link, &mut disk);
+    let mut second = MemDisk::new(alloc, 0, 0, 0)?;
+    let status = run(
+        alloc,
+        words,
+        &mut files,
+        &mut sink,
+        &mut link,
+        &mut disk,
+        &mut second,
+    );
     Ok((status, Vec::from_slice(alloc, sink.bytes())?))
 }
 
@@ -149,7 +158,16 @@ fn refuse(rt: &impl Abort, alloc: Global, words: &[&str]) -> Result<(), Fail> {
     let items = Vec::from_array(alloc, [ScriptItem::SendFails])?;
     let mut link = ScriptLink::new(alloc, items)?;
     let mut disk = MemDisk::new(alloc, 0, 0, 0)?;
-    let status = run(alloc, words, &mut files, &mut sink, &mut link, &mut disk);
+    let mut second = MemDisk::new(alloc, 0, 0, 0)?;
+    let status = run(
+        alloc,
+        words,
+        &mut files,
+        &mut sink,
+        &mut link,
+        &mut disk,
+        &mut second,
+    );
     assert_eq!(rt; (status, sink.bytes()), (1, b"usage\n".as_slice()));
     assert_eq!(rt; link.connect(Side::Call, "a"), Connected::Failed);
     Ok(())

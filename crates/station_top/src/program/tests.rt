@@ -75,7 +75,16 @@ fn printed(
     let mut sink = MemSink::new(alloc, capacity)?;
     let mut link = ScriptLink::new(alloc, Vec::new(alloc))?;
     let mut disk = MemDisk::new(alloc, 0, 0, 0)?;
-    let status = run(alloc, words, &mut files, &mut sink, &mut link, &mut disk);
+    let mut second = MemDisk::new(alloc, 0, 0, 0)?;
+    let status = run(
+        alloc,
+        words,
+        &mut files,
+        &mut sink,
+        &mut link,
+        &mut disk,
+        &mut second,
+    );
     Ok((status, Vec::from_slice(alloc, sink.bytes())?))
 }
 

@@ -1,14 +1,9 @@
-use Rattle.station_top.proofs.Reports.{none_well}
+use Rattle.std.proofs.Common.{◌≡◌, Some, rules}
+use Rattle.station_top.specs.Command.{command_of, corrected_pages, texts}
+use Rattle.station_top.specs.Run.{IsDoneOrHindered}
 use Rattle.station_top.proofs.program.run.Goals as goal
-use Rattle.station_top.proofs.program.run.Goals.{in-Some-Pages, in-Some-CorrectedPages, in-Some-Task, in-Some-Report, in-Some-Replay, in-None}
 
-pub returns-after-read-6-clause-disk_well : goal.returns-after-read-6-clause-disk_well
-returns-after-read-6-clause-disk_well g c disk write =
-    elim c.match-read.branch [
-      | in-Some-Pages w ↦ none_well g.D.Disk.medium _ _ w.disk-is
-      | in-Some-CorrectedPages w ↦ none_well g.D.Disk.medium _ _ w.disk-is
-      | in-Some-Task w ↦ none_well g.D.Disk.medium _ _ w.disk-is
-      | in-Some-Report w ↦ rw w.disk-is (w.report-status.ensures.well (λ e. cc) (λ e. cc))
-      | in-Some-Replay w ↦ none_well g.D.Disk.medium _ _ w.disk-is
-      | in-None w ↦ none_well g.D.Disk.medium _ _ w.disk-is
-    ]
+pub returns-in-Some-CorrectedPages-clause-complete : goal.returns-in-Some-CorrectedPages-clause-complete
+returns-in-Some-CorrectedPages-clause-complete g c =
+    let is : command_of (texts c.args.words.now) ≡ Some (corrected_pages c.in-Some-CorrectedPages.settings.now c.in-Some-CorrectedPages.file.now) = search rules in
+    rw is (λ good. let done : IsDoneOrHindered c.corrected_pages-status.result = c.corrected_pages-status.ensures.complete good.0 good.1 in search rules)

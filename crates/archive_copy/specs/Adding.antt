@@ -1,0 +1,56 @@
+-- The rows that a copy adds, and what a crash may leave of them.
+use Rattle.std.specs.Prelude.{◌≡◌, ◌⊎◌, ℕ, ◌+◌, ◌-◌, ◌*◌, ◌/◌, ◌<◌, ◌≤◌, List, [], ◌++◌, length, take, drop}
+use Rattle.station_base.specs.declared.row.Row.{Row}
+use Rattle.gated_log.specs.Start.{MovedToWrite}
+use Rattle.weather_book.specs.Rows.{RowsOf, holds, rows_of}
+use Rattle.weather_book.specs.Stands.{HasRows}
+use Rattle.archive_copy.specs.declared.adding.BatchEnd.{BatchEnd}
+use Rattle.archive_copy.specs.declared.adding.BatchEnd.TheVariants as batch
+use Rattle.archive_copy.specs.declared.end.CopyEnd.{CopyEnd}
+use Rattle.archive_copy.specs.declared.end.CopyEnd.TheVariants.{Done, FromDamaged, NotPrefix, FromFault, ToFault, OutOfMemory}
+
+-- how many batches so many rows are: five each, and the last with what is left
+abbrev pub batches : ℕ → ℕ
+batches rows = (rows + 4) / 5
+
+-- the image has these rows, and then none or more of the next ones, in order and none skipped
+abbrev pub HasSome : List Row → List Row → List ℕ → Type 0
+HasSome mine next image = (n : ℕ) × HasRows (mine ++ take n next) image
+
+-- the rows of an archive behind those that the other one has
+abbrev pub next_rows : RowsOf → List Row → List Row
+next_rows (holds theirs) mine = drop (length mine) theirs
+next_rows other mine = []
+
+-- the rows that may be added by a copy that ends so
+abbrev pub to_add : CopyEnd → RowsOf → List Row → List Row
+to_add (NotPrefix n) theirs mine = []
+to_add other theirs mine = next_rows theirs mine
+
+-- the image has the old rows, or these and the new ones
+abbrev pub HasOldOrAll : List Row → List Row → List ℕ → Type 0
+HasOldOrAll old new image = HasRows old image ⊎ HasRows (old ++ new) image
+
+-- how far the moment has come with a batch
+abbrev pub MovedBy : BatchEnd → ℕ → ℕ → Type 0
+MovedBy batch.Done old new = new ≡ old + 4
+MovedBy batch.Fault old new = (old < new) × (new ≤ old + 4)
+MovedBy batch.OutOfMemory old new = new ≡ old
+
+-- how an adding may end that has so many rows in all
+abbrev pub IsOfAdding : CopyEnd → ℕ → Type 0
+IsOfAdding (Done n) count = n ≡ count
+IsOfAdding (FromDamaged place) count = place ≡ 0
+IsOfAdding FromFault count = Unit {0}
+IsOfAdding ToFault count = Unit {0}
+IsOfAdding OutOfMemory count = Unit {0}
+IsOfAdding other count = ⊥
+
+-- How far the moment comes: a recovery makes three changes where it makes the file anew, and else one; each batch takes four.
+-- (A copy that stops says less.)
+abbrev pub Moves : CopyEnd → ℕ → ℕ → List ℕ → Type 0
+Moves (Done n) old new to =
+    (mine : List Row) × (opened : ℕ) × (rows_of to ≡ holds mine) × MovedToWrite old opened to
+    × (new ≡ opened + 4 * batches (n - length mine))
+Moves (NotPrefix n) old new to = MovedToWrite old new to
+Moves other old new to = Unit {0}

@@ -1,0 +1,86 @@
+-- What the files of both archives hold where a copy ended so.
+use Rattle.std.specs.Prelude.{◌≡◌, ℕ, ◌<◌, ◌≤◌, false, true, List, length, take}
+use Rattle.causes.specs.Lists.{IsFrontOf}
+use Rattle.gated_log.specs.Version.{version_of, is_refused}
+use Rattle.gated_log.specs.declared.start.Purpose.TheVariants.{Write}
+use Rattle.station_base.specs.declared.row.Row.{Row}
+use Rattle.disk_model.specs.Medium.{Medium}
+use Rattle.weather_book.specs.Stands.{NowHasRows, ReadsRows}
+use Rattle.weather_book.specs.Rows.{rows_of, holds, not_archive, damaged}
+use Rattle.archive_copy.specs.declared.end.CopyEnd.{CopyEnd}
+use Rattle.archive_copy.specs.declared.end.CopyEnd.TheVariants.{Done, FromNotArchive, FromDamaged, Full, ToNotArchive, ToOldVersion, ToDamaged, NotPrefix, FromFault, ToFault, OutOfMemory}
+use Rattle.archive_copy.specs.Comparing.{IsFirstUnlike}
+
+-- the file has these rows, which are not too many to be copied
+pub record CanBeCopied (from : List ℕ) (theirs : List Row) : Type 0 where
+  pub holds_them : rows_of from ≡ holds theirs
+  pub few : length theirs ≤ 1048576
+
+-- the file has these rows, and more may be added to it
+pub record CanBeAddedTo (to : List ℕ) (mine : List Row) : Type 0 where
+  pub holds_them : rows_of to ≡ holds mine
+  pub current : is_refused Write (version_of to) ≡ false
+
+-- the refusals of the file to copy from
+abbrev pub RefusesFrom : CopyEnd → List ℕ → Type 0
+RefusesFrom (FromNotArchive bytes) from = (rows_of from ≡ not_archive) × (bytes ≡ take 8 from)
+RefusesFrom (FromDamaged place) from = rows_of from ≡ damaged place
+RefusesFrom (Full n) from = (theirs : List Row) × (rows_of from ≡ holds theirs) × (n ≡ length theirs) × (1048576 < n)
+RefusesFrom FromFault from = Unit {0}
+RefusesFrom OutOfMemory from = Unit {0}
+RefusesFrom other from = ⊥
+
+-- the refusals of the file to copy to
+abbrev pub RefusesTo : CopyEnd → List ℕ → Type 0
+RefusesTo (ToNotArchive bytes) to = (rows_of to ≡ not_archive) × (bytes ≡ take 8 to)
+RefusesTo ToOldVersion to = is_refused Write (version_of to) ≡ true
+RefusesTo (ToDamaged place) to = (rows_of to ≡ damaged place) × (is_refused Write (version_of to) ≡ false)
+RefusesTo ToFault to = Unit {0}
+RefusesTo OutOfMemory to = Unit {0}
+RefusesTo other to = ⊥
+
+-- so many rows were to be had, and those of the one archive are the first of them; or row n of it is the first unlike
+abbrev pub EndsWith : CopyEnd → List Row → List Row → Type 0
+EndsWith (Done n) mine theirs = IsFrontOf mine theirs × (n ≡ length theirs)
+EndsWith (NotPrefix n) mine theirs = IsFirstUnlike mine theirs n
+EndsWith FromFault mine theirs = Unit {0}
+EndsWith ToFault mine theirs = Unit {0}
+EndsWith OutOfMemory mine theirs = Unit {0}
+EndsWith other mine theirs = ⊥
+
+-- Why a copy ended so, in this order: the first file refuses, it has too many rows, the second file refuses, or what its
+-- rows are. A fault, or want of memory, says nothing of the files.
+abbrev pub Answers : CopyEnd → List ℕ → List ℕ → Type 0
+Answers (FromNotArchive bytes) from to = RefusesFrom (FromNotArchive bytes) from
+Answers (FromDamaged place) from to = RefusesFrom (FromDamaged place) from
+Answers (Full n) from to = RefusesFrom (Full n) from
+Answers (ToNotArchive bytes) from to = (theirs : List Row) × CanBeCopied from theirs × RefusesTo (ToNotArchive bytes) to
+Answers ToOldVersion from to = (theirs : List Row) × CanBeCopied from theirs × RefusesTo ToOldVersion to
+Answers (ToDamaged place) from to = (theirs : List Row) × CanBeCopied from theirs × RefusesTo (ToDamaged place) to
+Answers (NotPrefix n) from to =
+    (theirs mine : List Row) × CanBeCopied from theirs × CanBeAddedTo to mine × EndsWith (NotPrefix n) mine theirs
+Answers (Done n) from to =
+    (theirs mine : List Row) × CanBeCopied from theirs × CanBeAddedTo to mine × EndsWith (Done n) mine theirs
+Answers FromFault from to = Unit {0}
+Answers ToFault from to = Unit {0}
+Answers OutOfMemory from to = Unit {0}
+
+-- the clause of a refusal of the file to copy from, which comes before the other disk is called
+abbrev pub OnFromRefused : CopyEnd → Type 0 → Type 0
+OnFromRefused (FromNotArchive bytes) p = p
+OnFromRefused (Full n) p = p
+OnFromRefused other p = Unit {0}
+
+-- the clause of a damaged archive to copy from
+abbrev pub OnFromDamaged : CopyEnd → Type 0 → Type 0
+OnFromDamaged (FromDamaged place) p = p
+OnFromDamaged other p = Unit {0}
+
+-- The disk has just the rows of the file that was copied, which are so many: what it reads does, and so does each image
+-- that a crash now may leave.
+pub record IsCopied {D : Type 0} (medium : Medium D) (n : ℕ) (from : List ℕ) (disk : D) : Type 0 where
+  pub theirs : List Row
+  pub holds_them : rows_of from ≡ holds theirs
+  pub count : n ≡ length theirs
+  pub reads : ReadsRows medium disk theirs
+  pub crash : NowHasRows medium disk theirs

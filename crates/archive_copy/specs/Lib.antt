@@ -1,0 +1,6 @@
+pub mod Adding
+pub mod Answers
+pub mod Calls
+pub mod Copies
+pub mod Comparing
+pub mod Opening

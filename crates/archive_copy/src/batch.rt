@@ -1,0 +1,74 @@
+ghost use Rattle.std.specs.Prelude.{◌≡◌, ◌<◌, ◌-◌, false, List, [], drop, length, min, take};
+ghost use Rattle.causes.specs.Told.{WhereTold};
+ghost use Rattle.disk_model.specs.Disk.{Faults, Stays};
+ghost use Rattle.gated_log.specs.Calls.{Looked};
+ghost use Rattle.station_base.specs.declared.row.Row.{Row};
+ghost use Rattle.weather_book.specs.Adding.{AreLimited, ArePrintable};
+ghost use Rattle.weather_book.specs.Book.{StandsFor, len_of};
+ghost use Rattle.weather_book.specs.Rows.{slot_total};
+ghost use Rattle.weather_book.specs.Rising.{exceeds, rise, RowsRise};
+ghost use Rattle.weather_book.specs.Stands.{StandsToReadOn};
+ghost use Rattle.archive_copy.specs.Calls.{read_failed, slots_end};
+
+use crate::limits::BATCH;
+use arrayvec::ArrayVec;
+use disk_model::Disk;
+use station_base::{Row, Stamp};
+use weather_book::{Book, RowAnswer};
+
+// What was read for a batch.
+#[derive(Clone, Copy)]
+pub enum BatchRead {
+    // Its rows are there, and rise.
+    Ready,
+    // The stamp of a row does not exceed the one before.
+    OutOfOrder,
+    // A call of the disk failed.
+    Fault,
+}
+
+// Whether the stamp exceeds the one before, if there is one.
+pub fn exceeds(last: Option<Stamp>, stamp: Stamp) -> bool
+    ensures { result ≡ exceeds last stamp }
+{
+    last.is_none_or(|last| last < stamp)
+}
+
+// Reads the rows of a batch, from this number on, behind a row of this stamp.
+pub fn next_batch<D: Disk>(
+    theirs: &Book,
+    from: &mut D,
+    at: u64,
+    last: Option<Stamp>,
+    batch: &mut ArrayVec<Row, BATCH>,
+) -> BatchRead
+    requires some { at < len_of theirs.now }
+    requires empty { batch.old.items ≡ [] }
+    ensures ready { result ≡ BatchRead.Ready → (rows : List Row) → StandsToReadOn D.medium theirs.now from.old rows
+        → WhereTold (D.medium.seen from.old) (λ _. batch.new.items ≡ take 5 (drop at rows)) }
+    ensures count { result ≡ BatchRead.Ready → length batch.new.items ≡ min 5 (len_of theirs.now - at) }
+    ensures rising { result ≡ BatchRead.Ready → RowsRise last batch.new.items }
+    ensures out_of_order { result ≡ BatchRead.OutOfOrder → (rows : List Row)
+        → StandsToReadOn D.medium theirs.now from.old rows
+        → WhereTold (D.medium.seen from.old) (λ _. rise last (take 5 (drop at rows)) ≡ false) }
+    ensures printable { ArePrintable batch.new.items }
+    ensures limited { AreLimited batch.new.items }
+    ensures stays { Stays D.medium from.old from.new }
+    ensures cause { Faults D.medium from.old from.new (result ≡ BatchRead.Fault) }
+    ensures went { (rows : List Row) → StandsFor theirs.now rows
+        → Looked D.medium (slots_end (slot_total rows)) (read_failed result) from.old from.new }
+{
+    let end = theirs.len().min(at + BATCH as u64);
+    let mut last = last;
+    for n in at..end {
+        let RowAnswer::Row(row) = theirs.row(from, n) else {
+            return BatchRead::Fault;
+        };
+        if !exceeds(last, row.stamp) {
+            return BatchRead::OutOfOrder;
+        }
+        last = Some(row.stamp);
+        batch.push(row);
+    }
+    BatchRead::Ready
+}
