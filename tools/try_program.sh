@@ -149,6 +149,9 @@ fi
 cp "$top/examples/settings.toml" "$top/examples/first.schedule" .
 run replay settings.toml first.schedule
 expect 'a schedule with a lost page and a stop' 0 "$(cat "$top/examples/first.replay")"
+cp "$top/examples/week.toml" "$top/examples/week.schedule" .
+run replay week.toml week.schedule
+expect 'a stormy week' 0 "$(cat "$top/examples/week.replay")"
 run replay missing.toml first.schedule
 expect 'a schedule without its settings' 8 'read fault'
 echo 'due 2024-07-01' >faulty.schedule
