@@ -1,0 +1,86 @@
+"""The row lines that `report` and `replay` print, as values in the units of the fields (docs/FORMATS.md)."""
+import re
+from datetime import datetime, timedelta
+from typing import NamedTuple
+
+# What each field is counted in, by its name: the number by which its value is divided, and the unit.
+FAHRENHEIT_TENTHS = (10, 'degree_F')
+FAHRENHEIT = (1, 'degree_F')
+CODES = (1 / 22.5, 'degree_compass')  # sixteen codes go round the compass
+PERCENT = (1, 'percent')
+MILES = (1, 'mile_per_hour')
+WATTS = (1, 'watt_per_meter_squared')
+INDEX_TENTHS = (10, 'uv_index')
+CENTIBARS = (1, 'centibar')
+COUNT = (1, 'count')
+CLICKS = (1, 'click')
+CLICK_RATE = (1, 'click_per_hour')
+FIELDS = {
+    'outTemp': FAHRENHEIT_TENTHS, 'highOutTemp': FAHRENHEIT_TENTHS, 'lowOutTemp': FAHRENHEIT_TENTHS,
+    'rain': CLICKS, 'highRainRate': CLICK_RATE, 'barometer': (1000, 'inHg'), 'radiation': WATTS, 'windSamples': COUNT,
+    'inTemp': FAHRENHEIT_TENTHS, 'inHumidity': PERCENT, 'outHumidity': PERCENT, 'windSpeed': MILES, 'windGust': MILES,
+    'windGustDir': CODES, 'windDir': CODES, 'UV': INDEX_TENTHS, 'ET': (1000, 'inch'), 'highRadiation': WATTS,
+    'highUV': INDEX_TENTHS, 'forecastRule': COUNT, 'leafTemp1': FAHRENHEIT, 'leafTemp2': FAHRENHEIT,
+    'leafWet1': COUNT, 'leafWet2': COUNT, 'soilTemp1': FAHRENHEIT, 'soilTemp2': FAHRENHEIT, 'soilTemp3': FAHRENHEIT,
+    'soilTemp4': FAHRENHEIT, 'extraHumid1': PERCENT, 'extraHumid2': PERCENT, 'extraTemp1': FAHRENHEIT,
+    'extraTemp2': FAHRENHEIT, 'extraTemp3': FAHRENHEIT, 'soilMoist1': CENTIBARS, 'soilMoist2': CENTIBARS,
+    'soilMoist3': CENTIBARS, 'soilMoist4': CENTIBARS,
+}
+
+# How many clicks of the rain bucket an inch is, by the size of the bucket.
+BUCKETS = {'0.01in': 100, '0.2mm': 127, '0.1mm': 254}
+
+# Lines of a replay or a report that are no rows.
+OTHER_WORDS = {'open', 'round', 'unseen', 'day', 'month', 'end'}
+ROW = re.compile(r'row (\d{4}-\d\d-\d\d \d\d:\d\d) (\d+)((?: \w+=(?:-?\d+|limit))*)')
+
+
+class Row(NamedTuple):
+    """A row: when it ends, how long it is, and the values that it has."""
+    stamp: datetime
+    interval: timedelta
+    values: dict
+
+
+class NotRows(Exception):
+    """What was read are no rows; says what is there in their place."""
+
+
+def unit_of(name):
+    """The unit of a field's values, rain being inches once its clicks are."""
+    return {'click': 'inch', 'click_per_hour': 'inch_per_hour'}.get(FIELDS[name][1], FIELDS[name][1])
+
+
+def value_of(name, number, bucket):
+    """The value of a field that a row line counts so, in the field's unit."""
+    divisor, unit = FIELDS[name]
+    return number / (BUCKETS[bucket] if unit.startswith('click') else divisor)
+
+
+def row_of(line, bucket):
+    """The row of a row line; values that limits took away are missing."""
+    match = ROW.fullmatch(line)
+    if not match:
+        raise NotRows(f'this is no row line: {line[:80]}')
+    pairs = (pair.split('=') for pair in match[3].split())
+    try:
+        values = {name: value_of(name, int(number), bucket) for name, number in pairs if number != 'limit'}
+        return Row(datetime.strptime(match[1], '%Y-%m-%d %H:%M'), timedelta(minutes=int(match[2])), values)
+    except KeyError as name:
+        raise NotRows(f'there is no field {name}') from None
+    except ValueError as fault:
+        raise NotRows(f'{fault}: {line[:80]}') from None
+
+
+def read_rows(lines, bucket):
+    """The rows of what `report .. rows` or `replay` printed. Any other line is what the program ended with."""
+    rows = []
+    for line in lines:
+        line = line.rstrip('\n')
+        if line.startswith('row '):
+            rows.append(row_of(line, bucket))
+        elif line.split(' ')[0] not in OTHER_WORDS:
+            raise NotRows(f'the program said: {line[:80]}')
+    if not rows:
+        raise NotRows('there is no row')
+    return rows
