@@ -1,0 +1,102 @@
+#!/usr/bin/env bash
+# Copies the proved program and what goes with it below a prefix, or takes away just what was copied.
+#
+#     tools/install.sh install [--prefix DIR] [--program FILE]
+#     tools/install.sh uninstall [--prefix DIR]
+#
+# tools/installed.txt lists what is copied. A note below the prefix has a line for each file that was copied, and for
+# each folder that was made for one.
+set -u
+top=$(cd "$(dirname "$0")/.." && pwd)
+program=$top/crates/station_program/out/station_program
+prefix=/usr/local
+note=share/jofitrana/installed
+
+fail() {
+    echo "station: $1" >&2
+    exit 1
+}
+
+# The lines of the list, without its comments.
+listed() {
+    grep -v '^#' "$top/tools/installed.txt"
+}
+
+# Ends where a name of the list is taken by what was not installed from here.
+find_room() {
+    local to
+    while read -r _ _ to; do
+        grep -qxF "file $to" "$prefix/$note" 2>/dev/null && continue
+        if [ -e "$prefix/$to" ] || [ -L "$prefix/$to" ]; then
+            fail "$prefix/$to is there, and was not installed from here: nothing is changed"
+        fi
+    done < <(listed)
+}
+
+# Makes the folder of a name, and those above it, where they are not there, and notes them.
+make_folder() {
+    local folder
+    folder=$(dirname "$1")
+    [ -d "$prefix/$folder" ] && return
+    make_folder "$folder" && mkdir -m 755 "$prefix/$folder" && made+=("folder $folder")
+}
+
+# Copies a file, or makes a link, by a line of the list, and notes it.
+copy() {
+    local mode=$1 from=$2 to=$3
+    make_folder "$to" || return
+    case $mode/$from in
+        link/*) ln -s "$from" "$prefix/$to" ;;
+        */PROGRAM) install -m "$mode" "$program" "$prefix/$to" ;;
+        *) install -m "$mode" "$top/$from" "$prefix/$to" ;;
+    esac && made+=("file $to")
+}
+
+# Takes away the files of the note, and the folders of it that are empty then.
+uninstall() {
+    local kind name
+    mapfile -t made <"$prefix/$note" || fail "$prefix/$note cannot be read"
+    while read -r kind name; do
+        case $kind in
+            file) rm -f "$prefix/$name" || fail "$prefix/$name cannot be taken away" ;;
+            folder) rmdir --ignore-fail-on-non-empty "$prefix/$name" ;;
+        esac
+    done < <(printf '%s\n' "${made[@]}" | tac)
+}
+
+# Copies all that is listed. What was copied before a failure is noted too.
+install_all() {
+    local mode from to failed=
+    [ -x "$program" ] || fail "the program is not there: $program"
+    find_room
+    [ ! -e "$prefix/$note" ] || uninstall
+    made=()
+    make_folder "$note" || fail "$prefix cannot be written to"
+    made+=("file $note")
+    while read -r mode from to; do
+        copy "$mode" "$from" "$to" || { failed=$to; break; }
+    done < <(listed)
+    printf '%s\n' "${made[@]}" >"$prefix/$note" && chmod 644 "$prefix/$note"
+    [ -z "$failed" ] || fail "$prefix/$failed could not be installed; uninstall takes away what was"
+}
+
+command=${1-}
+[ $# = 0 ] || shift
+while [ $# -ge 2 ]; do
+    case $1 in
+        --prefix) prefix=$2 ;;
+        --program) program=$2 ;;
+        *) break ;;
+    esac
+    shift 2
+done
+[ $# = 0 ] || fail "what is '$1'?"
+[ -d "$prefix" ] || fail "there is no folder $prefix"
+case $command in
+    install) install_all ;;
+    uninstall)
+        [ -e "$prefix/$note" ] || fail "nothing is installed below $prefix"
+        uninstall
+        ;;
+    *) fail 'the first word is install or uninstall' ;;
+esac

@@ -1,0 +1,68 @@
+#!/usr/bin/env bash
+# Makes a Debian package of what `station install` copies, in the folder where it is run, and prints its name.
+#
+#     tools/package.sh [--program FILE]
+#
+# Its version is the day of the last commit. The program is packed as it was proved and built.
+set -eu -o pipefail
+top=$(cd "$(dirname "$0")/.." && pwd)
+stage=$(mktemp -d)
+trap 'rm -rf "$stage"' EXIT
+umask 022
+SOURCE_DATE_EPOCH=$(git -C "$top" log -1 --format=%ct)
+export SOURCE_DATE_EPOCH
+root=$stage/debian/jofitrana
+documents=$root/usr/share/doc/jofitrana
+overrides=$root/usr/share/lintian/overrides
+pages=$root/usr/share/man/man1
+
+for command in dpkg-deb dpkg-shlibdeps git gzip; do
+    if ! command -v "$command" >/dev/null; then
+        echo "package: the command $command is missing; on Debian: apt install dpkg-dev git gzip" >&2
+        exit 1
+    fi
+done
+
+# What git says of the last commit by a format.
+commit() {
+    git -C "$top" log -1 --date=format:%Y%m%d --format="$1"
+}
+
+# The first, and only, entry of the changes.
+changes() {
+    printf 'jofitrana (%s) unstable; urgency=medium\n\n' "$version"
+    commit '  * As of the commit %h.%n%n -- %an <%ae>  %cD'
+}
+
+# Compresses the manual's pages, and leads links to the compressed ones.
+compress_pages() {
+    local page
+    for page in "$pages"/*.1; do
+        [ ! -L "$page" ] || ln -s "$(readlink "$page").gz" "$page.gz"
+        if [ -L "$page" ]; then rm "$page"; else gzip -9n "$page"; fi
+    done
+}
+
+# The libraries that the program loads, as packages.
+libraries() (
+    cd "$stage"
+    touch debian/control
+    dpkg-shlibdeps -O debian/jofitrana/usr/bin/jofitrana | sed -n 's/^shlibs:Depends=//p'
+)
+
+version=0.$(commit %cd)
+architecture=$(dpkg --print-architecture)
+mkdir -p "$root/usr" "$root/DEBIAN"
+"$top/tools/install.sh" install --prefix "$root/usr" "$@"
+rm "$root/usr/share/jofitrana/installed"
+install -m 644 "$top/tools/debian/copyright" "$documents/copyright"
+install -D -m 644 "$top/tools/debian/lintian-overrides" "$overrides/jofitrana"
+changes | gzip -9n >"$documents/changelog.gz"
+compress_pages
+needed=$(libraries)
+size=$(du -sk --apparent-size "$root" | cut -f 1)
+sed -e "s/@VERSION@/$version/" -e "s/@ARCHITECTURE@/$architecture/" -e "s/@MAINTAINER@/$(commit '%an <%ae>')/" \
+    -e "s/@SIZE@/$size/" -e "s/@LIBRARIES@/$needed/" "$top/tools/debian/control" >"$root/DEBIAN/control"
+package=jofitrana_${version}_$architecture.deb
+dpkg-deb --root-owner-group --build "$root" "$package" >/dev/null
+echo "$package"
