@@ -1,0 +1,142 @@
+#!/usr/bin/env bash
+# Tries chart, export and check, and that what is installed is taken away again, on a handful of rows and with a script
+# in the program's place. The last line is 'N passed, M failed', and the status is 1 where any failed.
+set -u
+tools=$(cd "$(dirname "$0")" && pwd)
+work=$(mktemp -d)
+trap 'rm -rf "$work"' EXIT
+cd "$work" || exit 1
+passed=0
+failed=0
+
+# Runs a command, and holds its status and output against the status and the pattern that are wanted.
+expect() {
+    local name=$1 wanted=$2 pattern=$3 output status
+    shift 3
+    output=$("$@" 2>&1)
+    status=$?
+    # shellcheck disable=SC2053  # it is a pattern
+    if [ "$status" = "$wanted" ] && [[ $output == $pattern ]]; then
+        passed=$((passed + 1))
+    else
+        failed=$((failed + 1))
+        echo "$name: status $status and '${output:0:300}', in place of $wanted and '${pattern:0:300}'" >&2
+    fi
+}
+
+# Runs a command on the text of a file.
+on() {
+    "${@:2}" <"$1"
+}
+
+cat >rows <<'ROWS'
+row 2024-07-01 00:05 5 outTemp=651 highOutTemp=655 lowOutTemp=-48 rain=2 barometer=29921 outHumidity=48 windSpeed=3 windGust=7 windDir=4
+row 2024-07-01 00:10 5 outTemp=limit rain=0 windGust=6
+row 2024-07-01 00:25 5 outTemp=640 rain=1 barometer=29930 windGust=5
+ROWS
+cat >summer <<'ROWS'
+row 2024-03-31 01:55 5 outTemp=500
+row 2024-03-31 02:30 5 outTemp=501
+row 2024-10-27 01:55 5 outTemp=502
+row 2024-10-27 02:30 5 outTemp=503
+row 2024-10-27 03:00 5 outTemp=504
+ROWS
+{ echo 'open rows 0'; cat rows; echo 'end rows 3 days 1'; } >replay
+{ cat rows; echo 'disk fault'; } >refusal
+: >nothing
+
+cat >series.py <<'PYTHON'
+import sys
+import chart
+import rows
+picture = chart.Picture(rows.read_rows(sys.stdin, '0.01in'), chart.AS_IT_IS)
+print(*picture.series('outTemp'), *(height for height, _ in picture.rain_bars()[0].values()))
+PYTHON
+
+if /usr/bin/python3 -c 'import matplotlib' 2>/dev/null; then
+    expect 'a gap for a value, one for rows, and bars' 0 '65.1 nan nan 64.0 0.02 0.0 0.01' \
+        env PYTHONPATH="$tools" /usr/bin/python3 series.py <rows
+    expect 'a chart' 0 '' on replay "$tools/chart.py" --metric chart.svg
+    expect 'the title of a chart' 0 1 grep -c -- '<!-- 2024-07-01 00:05 to 2024-07-01 00:25 -->' chart.svg
+    expect 'the units of a chart' 0 1 grep -c -- '<!-- °C -->' chart.svg
+    expect 'a chart of pixels' 0 '' on rows "$tools/chart.py" chart.png
+    expect 'its kind' 0 1 grep -ac PNG chart.png
+    expect 'a chart of a refusal' 1 'chart: the program said: disk fault' on refusal "$tools/chart.py" chart.png
+    expect 'a chart of nothing' 1 'chart: there is no row' on nothing "$tools/chart.py" chart.png
+    expect 'a picture of another kind' 2 '*ends neither in .png nor in .svg' on rows "$tools/chart.py" chart.gif
+else
+    echo 'python3-matplotlib is missing: no chart was tried' >&2
+fi
+
+expect 'an export' 0 '' on rows "$tools/export.py" table.csv
+expect 'a table' 0 "\
+stamp,interval (minute),outTemp (degree_F),highOutTemp (degree_F),lowOutTemp (degree_F),rain (inch),barometer (inHg),\
+outHumidity (percent),windSpeed (mile_per_hour),windGust (mile_per_hour),windDir (degree_compass)
+2024-07-01 00:05,5,65.1,65.5,-4.8,0.02,29.921,48,3,7,90
+2024-07-01 00:10,5,,,,0,,,,6,
+2024-07-01 00:25,5,64,,,0.01,29.93,,,5," cat table.csv
+expect 'a configuration' 0 9 grep -c 'source_field = ' table.conf
+expect 'an export of small clicks' 0 '' on rows "$tools/export.py" --bucket 0.2mm table.csv
+expect 'two small clicks' 0 '*,65.1,65.5,-4.8,0.015748,29.921,*' cat table.csv
+expect 'an export over both ends of summer time' 3 "\
+export: left out: 2024-03-31 02:30 does not come in Europe/Berlin
+export: left out: 2024-10-27 02:30 comes twice in Europe/Berlin" on summer "$tools/export.py" --zone Europe/Berlin table.csv
+expect 'a table in UTC' 0 "\
+stamp,time (UTC),time (unix_epoch),interval (minute),outTemp (degree_F)
+2024-03-31 01:55,2024-03-31T00:55:00Z,1711846500,5,50
+2024-10-27 01:55,2024-10-26T23:55:00Z,1729986900,5,50.2
+2024-10-27 03:00,2024-10-27T02:00:00Z,1729994400,5,50.4" cat table.csv
+expect 'an export of a refusal' 1 'export: the program said: disk fault' on refusal "$tools/export.py" table.csv
+expect 'a zone that is none' 2 '*Nowhere is no time zone*' on rows "$tools/export.py" --zone Nowhere table.csv
+
+cat >program <<'PROGRAM'
+#!/bin/sh
+[ ! -e refused ] || { echo 'damaged at 352'; exit 11; }
+awk -v first="$4" -v last="$5" '$2 >= first && $2 <= last' listed
+PROGRAM
+chmod +x program
+export TZ=UTC
+
+# Prints the rows of a day, of which the last is so many minutes old.
+a_day() {
+    local now ago
+    now=$(date '+%F %H:%M')
+    for ago in {287..0}; do printf '%s UTC %+d minutes\n' "$now" $((-5 * ago - $1)); done | date -f - '+row %F %H:%M 5 rain=0'
+}
+
+a_day 3 >listed
+expect 'a whole day' 0 'JOFITRANA OK - last row * [34] minutes ago; the day up to it lacks 0 rows | age=* lacking=0' \
+    "$tools/check.sh" -p ./program a
+sed -i '100,104d' listed
+expect 'a day that lacks rows' 1 'JOFITRANA WARNING * lacks 5 rows *' "$tools/check.sh" -p ./program a
+expect 'other limits' 0 'JOFITRANA OK * lacks 5 rows *' "$tools/check.sh" -w 15,5 -p ./program a
+a_day 70 >listed
+expect 'an old row' 2 'JOFITRANA CRITICAL * 7[01] minutes ago*' "$tools/check.sh" -p ./program a
+a_day -30 >listed
+expect 'a row of the future' 1 'JOFITRANA WARNING * [23]? minutes ahead of the clock*' "$tools/check.sh" -p ./program a
+cp rows listed
+expect 'a row of long ago' 2 'JOFITRANA CRITICAL - last row 2024-07-01 00:25,* lacks 285 rows *' \
+    "$tools/check.sh" -p ./program a
+: >listed
+expect 'an archive without rows' 2 'JOFITRANA CRITICAL - a has no row' "$tools/check.sh" -p ./program a
+: >refused
+expect 'a damaged archive' 2 'JOFITRANA CRITICAL - a: damaged at 352' "$tools/check.sh" -p ./program a
+expect 'no program' 3 'JOFITRANA UNKNOWN - the program is missing: ./nowhere' "$tools/check.sh" -p ./nowhere a
+expect 'limits out of form' 3 'JOFITRANA UNKNOWN - usage: *' "$tools/check.sh" -w 5 a
+
+mkdir -p prefix/bin
+expect 'what is installed' 0 '' "$tools/install.sh" install --prefix prefix --program ./program
+expect 'the program installed' 0 '' cmp program prefix/bin/jofitrana
+expect 'an export that is installed' 0 '' on rows prefix/bin/jofitrana-export table.csv
+expect 'what is installed again' 0 '' "$tools/install.sh" install --prefix prefix --program ./program
+expect 'what is taken away' 0 '' "$tools/install.sh" uninstall --prefix prefix
+expect 'what is left' 0 $'prefix\nprefix/bin' find prefix
+expect 'nothing to take away' 1 'station: nothing is installed below prefix' "$tools/install.sh" uninstall --prefix prefix
+cp rows prefix/bin/jofitrana
+expect 'a name that is taken' 1 'station: * nothing is changed' "$tools/install.sh" install --prefix prefix --program ./program
+expect 'a file of that name is kept' 0 '' cmp rows prefix/bin/jofitrana
+
+expect 'the schedule of the stormy week' 0 '' cmp <(python3 "$tools/make_week.py") "$tools/../examples/week.schedule"
+
+echo "$passed passed, $failed failed"
+[ "$failed" = 0 ]
