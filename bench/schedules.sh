@@ -12,54 +12,20 @@ cat >"$copy/crates/measure/src/main.rt" <<'PROGRAM'
 //! `go FILE ..` goes through it as often, and prints how many records were kept.
 #![tactic(auto)]
 
-ghost use Rattle.std.specs.Prelude.{◌≡◌};
-ghost use Rattle.archive_record.specs.Reading.{stamp_in};
-ghost use Rattle.station_base.specs.LastStamp.{last_stamp};
+mod counter;
 
 use archive_record::Rec52;
 use causes::OutOfMemory;
 use console_model::Console;
-use dmpaft_driver::{Keeper, Kept, Tally, dump};
+use counter::Counter;
+use dmpaft_driver::{Tally, dump};
 use eeprom_map::Eeprom;
 use loop_packet::LoopPacket;
 use serial_link::TalkItem;
-use station_base::{Period, Stamp};
+use station_base::Period;
 use station_sim::{Schedule, Sim, Step};
 use std::alloc::Global;
 use std::{env, fs, io, mem};
-
-#[derive(Drop)]
-struct Counter {
-    last: Option<Stamp>,
-    kept: u32,
-}
-
-impl Keeper for Counter {
-    ghost ledger = { record {
-      last = λ k. k.last;
-      room = λ k. 513;
-      keeps = λ k steps l. Unit {0};
-      keeps_none = λ k. tt;
-      keeps_joins = λ k l m first later one two. tt;
-    } };
-
-    fn keep(&mut self, rows: &[Rec52]) -> Kept {
-        self.last = last_of(rows, self.last);
-        self.kept = self.kept.saturating_add(rows.len() as u32);
-        Kept::Done
-    }
-}
-
-// The stamp of the last record, or the one before where there is none.
-fn last_of(rows: &[Rec52], before: Option<Stamp>) -> Option<Stamp>
-    ensures { result ≡ last_stamp stamp_in rows.now before }
-{
-    let mut last = before;
-    for row in rows {
-        last = Some(row.stamp());
-    }
-    last
-}
 
 // The record a period later with the same values.
 fn next(record: Rec52, period: Period) -> Option<Rec52> {
@@ -132,15 +98,7 @@ fn main(rt: HostRuntime) -> io::Result<()> {
     Ok(())
 }
 PROGRAM
-prove last_of Invariants <<'PROOF'
-use Rattle.std.proofs.Common.{◌≡◌, drop}
-use Rattle.station_base.specs.LastStamp.{last_stamp}
-use Rattle.archive_record.specs.Reading.{stamp_in}
-use Rattle.measure.proofs.last_of.Given as goal
-
-abbrev pub invariant-loop-row : goal.invariant-loop-row
-invariant-loop-row l = last_stamp stamp_in (drop l.row-index l.rows) l.last ≡ last_stamp stamp_in l.rows l.initial.last
-PROOF
+add_counter
 (cd "$copy/crates/measure" && rt run -- >/dev/null)
 PYTHONPATH=bench python3 - "$copy" <<'MEASURE'
 import statistics, sys

@@ -1,9 +1,19 @@
 #!/usr/bin/env bash
-# Tries how the built program answers trouble that no test of a crate can make: its statuses and its lines. It builds the
-# program where that is not done yet. The last line is 'N passed, M failed', and the status is 1 where any failed.
+# Tries how the built program answers trouble that no test of a crate can make: its statuses and its lines. The last line
+# is 'N passed, M failed', and the status is 1 where any failed.
+#
+#     tools/try_program.sh [PROGRAM]
+#
+# Without a program it is that of this checkout, which is built first where that is not done yet.
 set -u
 top=$(cd "$(dirname "$0")/.." && pwd)
-program=$top/crates/station_program/out/station_program
+if [ $# = 0 ]; then
+    program=$top/crates/station_program/out/station_program
+    first=$top/station
+else
+    program=$(readlink -f "$1")
+    first=$program
+fi
 work=$(mktemp -d)
 trap 'rm -rf "$work"' EXIT
 rows=$(cat "$top/examples/first.txt")
@@ -57,7 +67,7 @@ two_rows() {
 }
 
 cp "$top/examples/first.pages" "$work/" && cd "$work" || exit 1
-output=$("$top/station" pages first.pages)
+output=$("$first" pages first.pages)
 status=$?
 expect 'a good file, from another folder' 0 "$rows"
 
@@ -160,6 +170,45 @@ expect 'a faulty schedule' 3 'schedule line 1 fault 4'
 output=$("$program" replay settings.toml first.schedule 2>&1 >/dev/full)
 status=$?
 expect 'an output that is full in a replay' 9 ''
+
+run station settings.toml new.archive 127.0.0.1:1
+expect 'a round where no console is' 6 'link fault'
+run report new.archive rows 2000-01-01 2099-12-31
+expect 'its archive is made, without a row' 0 ''
+run station missing.toml unmade.archive 127.0.0.1:1
+expect 'a round without its settings' 8 'read fault'
+echo 'period = 7' >bad.toml
+run station bad.toml unmade.archive 127.0.0.1:1
+expect 'a round with refused settings' 2 'settings bad period'
+check [ -e unmade.archive ]
+expect 'refused settings make no archive' 1 ''
+run station settings.toml first.archive 127.0.0.1:1
+expect 'a round with an archive of the first version' 16 'old archive'
+run station settings.toml first.pages 127.0.0.1:1
+expect 'a round with a file that is no archive' 11 "$not_archive"
+check cmp -s first.pages "$top/examples/first.pages"
+expect 'a file that a round refused is kept' 0 ''
+output=$("$program" station settings.toml old.archive 127.0.0.1:1 2>&1 >/dev/full)
+status=$?
+expect 'an output that is full in a round' 9 ''
+check cmp -s old.archive kept
+expect 'an archive that a round added nothing to is kept' 0 ''
+if command -v flock >/dev/null; then
+    output=$(flock -o old.archive "$program" station settings.toml old.archive 127.0.0.1:1)
+    status=$?
+    expect 'a round with an archive that another process holds' 7 'disk fault'
+fi
+
+run console settings.toml faulty.schedule 127.0.0.1:1 1
+expect 'a console with a faulty schedule' 3 'schedule line 1 fault 4'
+run console settings.toml first.schedule 203.0.113.1:22222 1
+expect 'a console at an address of no network of this machine' 6 'link fault'
+run console settings.toml first.schedule 127.0.0.1:1 0
+expect 'a console for no turns' 1 usage
+run make 1 300
+expect 'a made run' 0 $'made 300 records 6 rounds\nok 4 gaveup 0 full 0 stop 2\nharmed 2\nrows 300 days 2'
+run make 2147483648 1
+expect 'a run made from too great a number' 1 usage
 
 head -c 16777216 /dev/zero | tr '\0' '\1' >longest
 run pages longest

@@ -1,6 +1,6 @@
 #!/usr/bin/env bash
-# Tries chart, export and check, and that what is installed is taken away again, on a handful of rows and with a script
-# in the program's place. The last line is 'N passed, M failed', and the status is 1 where any failed.
+# Tries chart, export and check, the units, and that what is installed is taken away again, on a handful of rows and with a
+# script in the program's place. The last line is 'N passed, M failed', and the status is 1 where any failed.
 set -u
 tools=$(cd "$(dirname "$0")" && pwd)
 work=$(mktemp -d)
@@ -135,6 +135,23 @@ expect 'nothing to take away' 1 'station: nothing is installed below prefix' "$t
 cp rows prefix/bin/jofitrana
 expect 'a name that is taken' 1 'station: * nothing is changed' "$tools/install.sh" install --prefix prefix --program ./program
 expect 'a file of that name is kept' 0 '' cmp rows prefix/bin/jofitrana
+
+if command -v systemd-analyze >/dev/null; then
+    units=("$work/units/jofitrana@.service" "$work/units/jofitrana@.timer")
+    mkdir units && cp "$tools"/../systemd/jofitrana@.* units
+    sed -i "s|^ExecStart=jofitrana |ExecStart=$work/program |" units/*
+    expect 'the units' 0 '' systemd-analyze verify --man=no --recursive-errors=no "${units[@]}"
+    expect 'how far a round is shut in' 0 '*exposure level*' \
+        systemd-analyze security --offline=true --threshold=20 "${units[0]}"
+else
+    echo 'systemd-analyze is missing: no unit was tried' >&2
+fi
+if command -v systemd-sysusers >/dev/null; then
+    expect 'the user of the rounds' 0 "*Creating user 'jofitrana'*" \
+        on "$tools/../systemd/jofitrana.conf" systemd-sysusers --dry-run --root="$work" -
+else
+    echo 'systemd-sysusers is missing: no user was tried' >&2
+fi
 
 expect 'the schedule of the stormy week' 0 '' cmp <(python3 "$tools/make_week.py") "$tools/../examples/week.schedule"
 

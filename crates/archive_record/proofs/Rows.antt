@@ -76,6 +76,17 @@ pub stamp_some : (bytes : List ℕ) → ReadsAsRow bytes → IsSome (stamp_in by
 unfolding chosen reading
 stamp_some bytes row = some_by (is_unwritten bytes) (slice_index bytes 42 == 0) (stamp_in bytes) bytes row
 
+-- and is of revision B
+known_by : (unwritten known : Bool) (stamp : Option CivilMinute) (bytes : List ℕ) → IsRow (chosen unwritten known stamp bytes 1) → known ≡ true
+unfolding chosen
+known_by true known stamp bytes row = absurd row
+known_by false false stamp bytes row = absurd row
+known_by false true stamp bytes row = refl
+
+pub row_known : (bytes : List ℕ) → ReadsAsRow bytes → (slice_index bytes 42 == 0) ≡ true
+unfolding chosen reading
+row_known bytes row = known_by (is_unwritten bytes) (slice_index bytes 42 == 0) (stamp_in bytes) bytes row
+
 -- a reading as a row is one at whatever interval
 row_by : (unwritten known : Bool) (stamp : Option CivilMinute) (bytes : List ℕ) (row : Row) → chosen unwritten known stamp bytes row.interval ≡ ReadRow row →
     IsRow (chosen unwritten known stamp bytes 1)
@@ -100,3 +111,9 @@ row_at_by false true (Some stamp) bytes interval row = tt
 pub row_at : (bytes : List ℕ) (interval : ℕ) → ReadsAsRow bytes → IsRow (reading bytes interval)
 unfolding chosen reading
 row_at bytes interval row = row_at_by (is_unwritten bytes) (slice_index bytes 42 == 0) (stamp_in bytes) bytes interval row
+
+-- bytes of revision B with a stamp read as a row
+pub row_with : (bytes : List ℕ) (stamp : CivilMinute) → length bytes ≡ 52 → slice_index bytes 42 ≡ 0 → stamp_in bytes ≡ Some stamp → ReadsAsRow bytes
+unfolding made
+row_with bytes stamp long revision is =
+    reads_as_row bytes (made stamp 1 (values_in bytes)) (parts_row bytes (made stamp 1 (values_in bytes)) long revision is refl refl)

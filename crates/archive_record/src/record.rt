@@ -4,8 +4,8 @@ ghost use Rattle.archive_record.specs.Reading.{stamp_in};
 ghost use Rattle.archive_record.specs.Record.{IsRecord, ReadsAsRow};
 
 use crate::place::{RECORD_SIZE, word_at};
-use crate::record_read::{DATE, RecordRead, TIME, read};
-use station_base::{Period, Stamp};
+use crate::record_read::{DATE, REVISION, TIME};
+use station_base::Stamp;
 use std::marker::Model;
 
 // The bytes of 2000-01-01 00:00, of each missing mark, and of 0 where a field has none.
@@ -36,14 +36,16 @@ impl Model for Rec52 {
 }
 
 impl Rec52 {
-    /// The record in these bytes, if they read as a row.
+    /// The record in these bytes, if they read as a row. That takes no reading of values: it is so where the revision is B
+    /// and the words name a minute.
     pub fn of(bytes: [u8; RECORD_SIZE]) -> Option<Rec52>
         ensures { SomeIff result (ReadsAsRow bytes) bytes }
     {
-        match read(&bytes, Period::shortest()) {
-            RecordRead::Row(_) => Some(Rec52::new(bytes)),
-            _ => None,
+        if bytes[REVISION] != 0 {
+            return None;
         }
+        Stamp::from_words(word_at(&bytes, DATE), word_at(&bytes, TIME))?;
+        Some(Rec52::new(bytes))
     }
 
     /// The record in these bytes, which read as a row.

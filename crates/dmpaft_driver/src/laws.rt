@@ -1,5 +1,7 @@
-ghost use Rattle.std.specs.Prelude.{Option};
+ghost use Rattle.std.specs.Prelude.{◌≡◌, Option};
 ghost use Rattle.station_base.specs.CivilMinute.{CivilMinute};
+ghost use Rattle.dmpaft_driver.specs.declared.limits.TheConstants.{MOST_HEARD, MOST_SAID};
+ghost use Rattle.dmpaft_driver.specs.Bounds.{AttemptsAreBounded, most_heard, most_said};
 ghost use Rattle.dmpaft_driver.specs.Exact.{Sound, Complete, Stuck};
 ghost use Rattle.dmpaft_driver.specs.OneAttempt.{OneAttempt, OneFront, AcknowledgedAreKept, TakenAreAcknowledged};
 ghost use Rattle.dmpaft_driver.specs.OneAttempt.{TakenWereHeard};
@@ -23,4 +25,12 @@ pub fn a_pump_takes_attempts()
     ensures complete { (after : Option CivilMinute) → Complete after }
     ensures stuck { (after : Option CivilMinute) → Stuck after }
     ensures trial { (after : Option CivilMinute) → OneTrial after }
+{}
+
+/// Whatever the console does, an attempt hears at most `MOST_HEARD` bytes, which is 101,669,940, and says at most
+/// `MOST_SAID`, which is 2,069.
+pub fn an_attempt_is_bounded()
+    ensures bounded { AttemptsAreBounded }
+    ensures heard { MOST_HEARD ≡ most_heard }
+    ensures said { MOST_SAID ≡ most_said }
 {}

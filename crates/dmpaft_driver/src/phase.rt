@@ -12,7 +12,7 @@ const SETTLED: u8 = 6;
 const UNANSWERED: u8 = 3;
 
 // So many bytes in a settling are a flood.
-const FLOOD: usize = 65_536;
+pub const FLOOD: usize = 65_536;
 
 // A part of an attempt: what is said, and then heard. `left` is how many more tries or askings there may be, `more`
 // how many pages come after this one, and `said` the byte that asks.

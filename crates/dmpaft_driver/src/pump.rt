@@ -25,10 +25,10 @@ use vantage_frames::{PAGE_SIZE, stamp_frame};
 const PIECE: usize = PAGE_SIZE;
 
 // So many times more a line feed is said that did not wake the console.
-const WAKES: u8 = 2;
+pub const WAKES: u8 = 2;
 
 // So many times more a page is asked for that did not come.
-const REPEATS: u8 = 3;
+pub const REPEATS: u8 = 3;
 
 // What a console that is awake answers to a line feed.
 const AWAKE: [u8; 2] = [b'\n', b'\r'];

@@ -19,9 +19,9 @@ use Rattle.station_sim.specs.Sound.{AreRecords}
 use Rattle.station_sim.proofs.Falls.{fates_sound, left_records}
 use Rattle.station_sim.proofs.Limits.{few_records}
 use Rattle.station_replay.specs.Room.{lines}
-use Rattle.station_replay.specs.Schedule.{AreSteps, records}
+use Rattle.station_replay.specs.Schedule.{AreSteps, IsSchedule, records}
 use Rattle.station_replay.proofs.Falling.{fates_fall}
-use Rattle.schedule_replay.specs.Accepted.{HasRecord, IsInRange, IsAccepted}
+use Rattle.schedule_replay.specs.Accepted.{AreAccepted, HasRecord, IsInRange, IsAccepted}
 use Rattle.schedule_replay.specs.Runs.{run_records}
 use Rattle.schedule_replay.specs.Steps.{steps_for}
 use Rattle.schedule_replay.proofs.Falling.{MidsFall, AllFall, lines_in, IsFalling, all_fall, all_lines, falling_after, falling_first}
@@ -119,6 +119,14 @@ taken period long (code.Round fates stop ∷ steps) a b fall has =
       lines_are = omega (arith, rest.lines_are);
       counted = omega (arith, rest.counted, mids.1, length-append left others);
     }
+
+-- Steps whose records fall due one after another keep the rules of a run, where they are few.
+pub falling_accepted : (period b : ℕ) (steps : List code_step.Step) → 1 ≤ period → AllFall period 0 (steps_seen period steps) b → AllByRecursion HasRecord steps → lines_in (steps_seen period steps) ≤ 200
+    → records_in (steps_seen period steps) ≤ 20000 → AreAccepted period steps × (length (records (steps_for period steps)) ≡ records_in (steps_seen period steps))
+falling_accepted period b steps long fall has few_lines few =
+    let t = taken period long steps 0 b fall has in
+    let rules : IsSchedule (steps_for period steps) = record { each = t.each; rises = rise_follows b (records (steps_for period steps)) t.rise; are_records = t.are } in
+    (record { rules = rules; ranges = t.ranges; few_lines = omega (arith, t.lines_are, few_lines); few_records = omega (arith, t.counted, few) }, t.counted)
 
 long_period : (period : ℕ) → IsPeriod period → 1 ≤ period
 long_period period is = grind (arith, nat_tests)

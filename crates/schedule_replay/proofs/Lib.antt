@@ -1,10 +1,12 @@
 pub mod Accepting
+pub mod Ahead
 pub mod Beginning
 pub mod Changing
 pub mod Falling
 pub mod Heads
 pub mod Looping
 pub mod NewDisk
+pub mod NewLine
 pub mod Opened
 pub mod Parts
 pub mod ReadForms
@@ -18,6 +20,9 @@ pub mod RoundPlayed
 pub mod RunLaws
 pub mod RunRecords
 pub mod SameValues
+pub mod Sinks
 pub mod Stamping
 pub mod StepLaws
 pub mod Told
+pub mod TurnPlayed
+pub mod Turned

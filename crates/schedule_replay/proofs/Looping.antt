@@ -2,8 +2,6 @@
 use Rattle.std.proofs.Common.{◌≡◌, ℕ, zero, suc, ◌+◌, ◌*◌, ◌≤◌, ◌<◌, Bool, true, false, List, [], ◌∷◌, ◌++◌, length, take, drop, Option, Some, None, refl, sym, ◌∙◌, ap, subst, arith, append-nil, append_assoc, inl, inr, get_or, drop-cons}
 use Rattle.std.proofs.lemmas.List.{map-append, take-append-drop, take_more, take_all}
 use Rattle.std.specs.List.{AllByRecursion}
-use Rattle.std.specs.Io.KnownBytes.{Appends}
-use Rattle.causes.specs.Written.{WritesPart}
 use Rattle.station_base.specs.declared.row.Row.{Row}
 use Rattle.settings_file.specs.StationSettings.{StationSettings}
 use Rattle.loop_packet.specs.declared.packet.LoopPacket.{LoopPacket}
@@ -12,30 +10,31 @@ use Rattle.disk_model.specs.declared.stopping.Stopping.{Stopping}
 use Rattle.weather_book.specs.Stands.{HasRows}
 use Rattle.station_sim.specs.declared.schedule.step.Step as code_step
 use Rattle.station_sim.specs.declared.schedule.step.Step.TheVariants as code
-use Rattle.station_sim.specs.declared.schedule.Schedule.{Schedule}
 use Rattle.station_sim.specs.declared.sim.Sim.{Sim}
+use Rattle.station_sim.specs.Fates.{Fates}
 use Rattle.station_session.specs.Attempts.{all_said}
 use Rattle.station_session.specs.declared.session.Session.{Session}
-use Rattle.station_replay.specs.Replay.{Does, IsBegun, IsReplay, IsUnseen, IsWhole, Item, Opens, OpensNext, Runs, Stage, closing, first, is_stop, opened, start, stops_opening}
+use Rattle.station_replay.specs.Replay.{Does, IsBegun, IsBroken, IsReplay, IsRound, IsUnseen, IsWhole, Item, Opens, OpensNext, Runs, Stage, closing, first, is_stop, opened, start, stops_opening}
 use Rattle.station_replay.specs.Room.{line_of, lines}
 use Rattle.station_replay.specs.Schedule.{IsSchedule, Step, Stop, records}
 use Rattle.station_replay.specs.Stopped.{IsStop}
-use Rattle.station_replay.specs.Texts.{text, tried_of}
+use Rattle.station_replay.specs.Texts.{tried_of}
 use Rattle.station_replay.proofs.Leaving.{total_few}
 use Rattle.station_replay.proofs.Roomy.{room_law, round_in_run}
 use Rattle.station_replay.proofs.Running.{begun_law, schedules_law}
 use Rattle.station_replay.proofs.Stops.{slots_is}
 use Rattle.schedule_replay.specs.declared.run.Run.{Run}
-use Rattle.schedule_replay.specs.Accepted.{IsAccepted, IsInRange}
+use Rattle.schedule_replay.specs.Accepted.{AreAccepted, IsInRange}
 use Rattle.schedule_replay.specs.Opening.{limits_of}
-use Rattle.schedule_replay.specs.Replayed.{IsCutOff, IsReplayed, TookPart}
 use Rattle.schedule_replay.specs.Resting.{AtRest, IsRoomFor}
-use Rattle.schedule_replay.specs.Running.{After, BreaksAt, IsCut}
+use Rattle.schedule_replay.specs.Running.{BreaksAt, IsCut}
 use Rattle.schedule_replay.specs.SoFar.{SoFar}
 use Rattle.schedule_replay.specs.Standing.{HasRunRoom, HasSaid, HasSession, HoldsAt, LineAt, MayTake, StandsThere, said_in}
 use Rattle.schedule_replay.specs.Steps.{step_of, steps_for}
-use Rattle.schedule_replay.proofs.RoundLaws.{after_rounds, opened_rounds, opened_rows}
-use Rattle.schedule_replay.proofs.RunLaws.{appends_join, appends_none, part_second, text_join}
+use Rattle.schedule_replay.specs.Telling.{Telling}
+use Rattle.schedule_replay.specs.Turns.{BreaksRun, CutsRun, EndsRun}
+use Rattle.schedule_replay.proofs.Ahead.{is_opened}
+use Rattle.schedule_replay.proofs.RoundLaws.{after_rounds, front_whole, opened_rounds, opened_rows, said_first}
 
 pub runs_more : (settings : StationSettings) (xs : List Step) (x : Step) (s u v : Stage) (is now : List Item) → Runs settings xs s is u → Does settings x u now v → Runs settings (xs ++ x ∷ []) s (is ++ now) v
 runs_more settings [] x s u v is now (none, same) h = (v, now, [], ap (λ z. z ++ now) none ∙ sym (append-nil now), subst (λ (z : Stage). Does settings x z now v) same h, (refl, refl))
@@ -49,6 +48,9 @@ said_join (Item.OpenStopped k rows ∷ o) ys = said_join o ys
 said_join (Item.Ran x ∷ o) ys = ap (λ z. all_said (tried_of x.tried) ++ z) (said_join o ys) ∙ sym (append_assoc (all_said (tried_of x.tried)) (said_in o) (said_in ys))
 said_join (Item.Unsaid n u ∷ o) ys = said_join o ys
 said_join (Item.Ended rows ∷ o) ys = said_join o ys
+
+pub said_more : (before line now : Sim) (items is : List Item) → HasSaid items before line → HasSaid is line now → HasSaid (items ++ is) before now
+said_more before line now items is first later = later ∙ ap (λ z. z ++ said_in is) first ∙ append_assoc before.talk.items (said_in items) (said_in is) ∙ ap (λ z. before.talk.items ++ z) (sym (said_join items is))
 
 lines_join : (xs ys : List Step) → lines (xs ++ ys) ≡ lines xs + lines ys
 lines_join [] ys = omega arith
@@ -76,28 +78,19 @@ rounds_few settings (x ∷ xs) s is u (mid, now, rest, split, does, again) =
     let more = rounds_few settings xs mid rest u again in
     omega (arith, one, more)
 
-texts_more : (is now : List Item) (a b c : Option (List ℕ)) → Appends a b (text is) → Appends b c (text now) → Appends a c (text (is ++ now))
-texts_more is now a b c one two = subst (Appends a c) (sym (text_join is now)) (appends_join a b c (text is) (text now) one two)
-
-part_more : (is now : List Item) (a b c : Option (List ℕ)) → Appends a b (text is) → WritesPart b c (text now) → WritesPart a c (text (is ++ now))
-part_more is now a b c one two = subst (WritesPart a c) (sym (text_join is now)) (part_second a b c (text is) (text now) one two)
-
 -- one more step was taken
-pub so_far_more : (settings : StationSettings) (from : Stage) (xs : List Step) (x : Step) (a b c : Option (List ℕ)) (before line now : Sim) (made disk next : Stopping MemDisk) (run after : Run)
-    → (so : SoFar settings from xs a b before line made disk run)
-    → After false settings x so.stage (λ is u. HoldsAt (so.openings + line_of x) settings u after next × LineAt u now × HasSaid is line now) b c
-    → limits_of next ≡ limits_of disk → SoFar settings from (xs ++ x ∷ []) a c before now made next after
-so_far_more settings from xs x a b c before line now made disk next run after so (is, u, does, (holds, at, said), w) limits = record {
-  items = so.items ++ is;
+pub so_far_more : (settings : StationSettings) (from : Stage) (xs : List Step) (x : Step) (items is : List Item) (s u : Stage) (openings : ℕ) (before line now : Sim) (made next : Stopping MemDisk) (after : Run)
+    → Runs settings xs from items s → openings ≤ lines xs → HasSaid items before line → Does settings x s is u → HoldsAt (openings + line_of x) settings u after next → LineAt u now → HasSaid is line now
+    → limits_of next ≡ limits_of made → SoFar settings from (xs ++ x ∷ []) (items ++ is) before now made next after
+so_far_more settings from xs x items is s u openings before line now made next after runs few before_said does holds at said limits = record {
   stage = u;
-  runs = runs_more settings xs x from so.stage u so.items is so.runs does;
-  openings = so.openings + line_of x;
-  few = let e = lines_join xs (x ∷ []) in omega (arith, so.few, e);
+  runs = runs_more settings xs x from s u items is runs does;
+  openings = openings + line_of x;
+  few = let e = lines_join xs (x ∷ []) in omega (arith, few, e);
   holds = holds;
   at = at;
-  said = said ∙ ap (λ z. z ++ said_in is) so.said ∙ append_assoc before.talk.items (said_in so.items) (said_in is) ∙ ap (λ z. before.talk.items ++ z) (sym (said_join so.items is));
-  limits = limits ∙ so.limits;
-  written = texts_more so.items is a b c so.written w;
+  said = said_more before line now items is before_said said;
+  limits = limits;
 }
 
 -- a step's stop comes within a change, the first of which is change 1
@@ -141,46 +134,111 @@ stands_there settings eeprom packet xs ys x is s openings disk ok few records_fe
       may_take settings eeprom packet xs ys x is s ok runs stop few fits.1,
     )
 
--- all steps were taken, and the end was written
-pub all_done : (settings : StationSettings) (eeprom : List ℕ) (packet : LoopPacket) (xs : List Step) (a b c : Option (List ℕ)) (is : List Item) (u : Stage) → IsSchedule xs → Runs settings xs (start eeprom packet) is u → Appends a b (text is) → Appends b c (text (closing u))
-    → IsReplayed false settings (start eeprom packet) xs a c
-all_done settings eeprom packet xs a b c is u ok runs one two =
-    let k : IsWhole settings (start eeprom packet) xs (is ++ closing u) = (is, u, runs, refl) in
-    record { items = is ++ closing u; is_replay = k; kept = schedules_law settings eeprom packet xs ok (is ++ closing u) (inl k); written = texts_more is (closing u) a b c one two }
+-- all steps were taken, the archive is open, and the end was told
+pub all_done : {T : Type 0} (telling : Telling T) (settings : StationSettings) (eeprom : List ℕ) (packet : LoopPacket) (xs : List Step) (given : List Item) (s : Stage) (b c : T) (before line : Sim) (next : Stopping MemDisk) → IsSchedule xs
+    → Runs settings xs (start eeprom packet) given s → LineAt s line → HasSaid given before line → (openings : ℕ) → AtRest openings (opened s.is_open s).archive next → telling.tells b (Item.Ended s.archive.rows ∷ []) c
+    → EndsRun telling settings (start eeprom packet) xs (given ++ first s.is_open s) before line next b c
+all_done telling settings eeprom packet xs given s b c before line next ok runs at said openings rest told =
+    let whole : (given ++ first s.is_open s) ++ Item.Ended s.archive.rows ∷ [] ≡ given ++ closing s = append_assoc given (first s.is_open s) (Item.Ended s.archive.rows ∷ []) in
+    let k : IsWhole settings (start eeprom packet) xs ((given ++ first s.is_open s) ++ Item.Ended s.archive.rows ∷ []) = (given, s, runs, whole) in
+    record {
+      ran = given;
+      last = s;
+      runs = runs;
+      given = Item.Ended s.archive.rows ∷ [];
+      whole = whole;
+      kept = schedules_law settings eeprom packet xs ok ((given ++ first s.is_open s) ++ Item.Ended s.archive.rows ∷ []) (inl k);
+      told = told;
+      line = at.stands;
+      talk = said;
+      image = rest.image;
+      reads = rest.seen;
+      rows = subst (λ (r : List Row). HasRows r rest.image) (opened_rows s.is_open s) rest.rows;
+      size = rest.length_is;
+      changes = rest.rests.changes_are;
+    }
 
-pub end_cut : (settings : StationSettings) (eeprom : List ℕ) (packet : LoopPacket) (xs : List Step) (a b c : Option (List ℕ)) (is : List Item) (u : Stage) → IsSchedule xs → Runs settings xs (start eeprom packet) is u → Appends a b (text is) → WritesPart b c (text (closing u))
-    → IsCutOff settings (start eeprom packet) xs a c
-end_cut settings eeprom packet xs a b c is u ok runs one two =
-    let k : IsReplay settings (start eeprom packet) xs (is ++ closing u) = inl (is, u, runs, refl) in
-    record { items = is ++ closing u; is_begun = inr k; kept = schedules_law settings eeprom packet xs ok (is ++ closing u) k; written = part_more is (closing u) a b c one two }
+pub end_cut : {T : Type 0} (telling : Telling T) (settings : StationSettings) (eeprom : List ℕ) (packet : LoopPacket) (xs : List Step) (given : List Item) (s : Stage) (b c : T) → IsSchedule xs → Runs settings xs (start eeprom packet) given s → telling.breaks_off b (Item.Ended s.archive.rows ∷ []) c
+    → CutsRun telling settings (start eeprom packet) xs (given ++ first s.is_open s) b c
+end_cut telling settings eeprom packet xs given s b c ok runs told =
+    let whole : (given ++ first s.is_open s) ++ Item.Ended s.archive.rows ∷ [] ≡ given ++ closing s = append_assoc given (first s.is_open s) (Item.Ended s.archive.rows ∷ []) in
+    let k : IsReplay settings (start eeprom packet) xs ((given ++ first s.is_open s) ++ Item.Ended s.archive.rows ∷ []) = inl (given, s, runs, whole) in
+    record { given = Item.Ended s.archive.rows ∷ []; is_begun = inr k; kept = schedules_law settings eeprom packet xs ok ((given ++ first s.is_open s) ++ Item.Ended s.archive.rows ∷ []) k; told = told }
 
 -- a delivery was unseen in the next step
 unseen_in : (settings : StationSettings) (from : Stage) (xs ys : List Step) (x : Step) (is now : List Item) (u : Stage) → Runs settings xs from is u → BreaksAt settings x u now → IsUnseen settings from (xs ++ x ∷ ys) (is ++ now)
 unseen_in settings from xs ys x is now u runs b = (xs, ys, b.0, b.1, b.2, is, u, b.3, ap (λ (z : Step). xs ++ z ∷ ys) b.4, runs, b.5, ap (λ z. is ++ z) b.6)
 
-pub all_broken : (settings : StationSettings) (eeprom : List ℕ) (packet : LoopPacket) (xs ys : List Step) (x : Step) (a b c : Option (List ℕ)) (is now : List Item) (u : Stage) → IsSchedule (xs ++ x ∷ ys) → Runs settings xs (start eeprom packet) is u → Appends a b (text is)
-    → BreaksAt settings x u now → Appends b c (text now) → IsReplayed true settings (start eeprom packet) (xs ++ x ∷ ys) a c
-all_broken settings eeprom packet xs ys x a b c is now u ok runs one broken two =
-    let k = unseen_in settings (start eeprom packet) xs ys x is now u runs broken in
-    record { items = is ++ now; is_replay = k; kept = schedules_law settings eeprom packet (xs ++ x ∷ ys) ok (is ++ now) (inr k); written = texts_more is now a b c one two }
+-- a round from an open stage is one from where the archive was closed, behind its opening
+does_opened : (settings : StationSettings) (f : Fates) (left : ℕ → List (List ℕ)) (stop : Option Stop) (s u : Stage) (is : List Item) → Does settings (Step.Round f left stop) (opened s.is_open s) is u → Does settings (Step.Round f left stop) s (first s.is_open s ++ is) u
+does_opened settings f left stop s u is (r, made, i) =
+    let t = opened s.is_open s in
+    let same : opened t.is_open t ≡ t = ap (λ (b : Bool). opened b t) (is_opened s) in
+    let none : first t.is_open t ≡ [] = ap (λ (b : Bool). first b t) (is_opened s) in
+    (r, subst (λ (z : Stage). IsRound settings f left stop z r u) same made, ap (λ z. first s.is_open s ++ z) (i ∙ ap (λ z. z ++ Item.Ran r ∷ []) none))
 
-begun_too : (settings : StationSettings) (eeprom : List ℕ) (packet : LoopPacket) (xs : List Step) (a c : Option (List ℕ)) (o : List Item) → IsSchedule xs → IsBegun settings (start eeprom packet) xs o → WritesPart a c (text o) → IsCutOff settings (start eeprom packet) xs a c
-begun_too settings eeprom packet xs a c o ok is w = record { items = o; is_begun = inl is; kept = begun_law settings eeprom packet xs ok o is; written = w }
+breaks_opened : (settings : StationSettings) (x : Step) (s : Stage) (is : List Item) → BreaksAt settings x (opened s.is_open s) is → BreaksAt settings x s (first s.is_open s ++ is)
+breaks_opened settings x s is (f, left, stop, i, round, broken, e) =
+    let t = opened s.is_open s in
+    let same : opened t.is_open t ≡ t = ap (λ (b : Bool). opened b t) (is_opened s) in
+    let none : first t.is_open t ≡ [] = ap (λ (b : Bool). first b t) (is_opened s) in
+    (f, left, stop, i, round, subst (λ (z : Stage). IsBroken settings f stop z i) same broken, ap (λ z. first s.is_open s ++ z) (e ∙ ap (λ z. z ++ i ∷ []) none))
 
-pub step_cut : (settings : StationSettings) (eeprom : List ℕ) (packet : LoopPacket) (xs ys : List Step) (x : Step) (a b c : Option (List ℕ)) (is : List Item) (u : Stage) → IsSchedule (xs ++ x ∷ ys) → Runs settings xs (start eeprom packet) is u → Appends a b (text is)
-    → IsCut settings x u b c → IsCutOff settings (start eeprom packet) (xs ++ x ∷ ys) a c
-step_cut settings eeprom packet xs ys x a b c is u ok runs one (inl (now, v, does, w)) =
-    begun_too settings eeprom packet (xs ++ x ∷ ys) a c (is ++ now) ok
-    (xs ++ x ∷ [], ys, is ++ now, v, sym (append_assoc xs (x ∷ []) ys), runs_more settings xs x (start eeprom packet) u v is now runs does, inl refl) (part_more is now a b c one w)
-step_cut settings eeprom packet xs ys x a b c is u ok runs one (inr (inl (now, broken, w))) =
+-- a round behind its opening was taken
+pub round_more : (settings : StationSettings) (from : Stage) (xs : List Step) (f : Fates) (left : ℕ → List (List ℕ)) (stop : Option Stop) (given is : List Item) (s u : Stage) (openings : ℕ) (before line now : Sim) (made next : Stopping MemDisk) (after : Run)
+    → Runs settings xs from given s → openings ≤ lines xs → HasSaid given before line → Does settings (Step.Round f left stop) (opened s.is_open s) is u → HoldsAt (openings + 1) settings u after next → LineAt u now → HasSaid is line now
+    → limits_of next ≡ limits_of made → SoFar settings from (xs ++ Step.Round f left stop ∷ []) ((given ++ first s.is_open s) ++ is) before now made next after
+round_more settings from xs f left stop given is s u openings before line now made next after runs few before_said does holds at said limits =
+    subst (λ (z : List Item). SoFar settings from (xs ++ Step.Round f left stop ∷ []) z before now made next after) (sym (append_assoc given (first s.is_open s) is))
+    (so_far_more settings from xs (Step.Round f left stop) given (first s.is_open s ++ is) s u openings before line now made next after runs few before_said (does_opened settings f left stop s u is does) holds at
+    (said ∙ ap (λ z. line.talk.items ++ z) (sym (said_first s.is_open s is))) limits)
+
+-- a delivery was unseen in a round behind its opening
+pub round_broken : {T : Type 0} (telling : Telling T) (settings : StationSettings) (eeprom : List ℕ) (packet : LoopPacket) (xs ys : List Step) (x : Step) (b c : T) (given now : List Item) (s : Stage) → IsSchedule (xs ++ x ∷ ys) → Runs settings xs (start eeprom packet) given s
+    → BreaksAt settings x (opened s.is_open s) now → telling.tells b now c → BreaksRun telling settings (start eeprom packet) (xs ++ x ∷ ys) (given ++ first s.is_open s) b c
+round_broken telling settings eeprom packet xs ys x b c given now s ok runs broken told =
+    let k = subst (λ (z : List Item). IsUnseen settings (start eeprom packet) (xs ++ x ∷ ys) z) (sym (append_assoc given (first s.is_open s) now))
+    (unseen_in settings (start eeprom packet) xs ys x given (first s.is_open s ++ now) s runs (breaks_opened settings x s now broken)) in
+    record { given = now; is_unseen = k; kept = schedules_law settings eeprom packet (xs ++ x ∷ ys) ok ((given ++ first s.is_open s) ++ now) (inr k); told = told }
+
+pub begun_too : {T : Type 0} (telling : Telling T) (settings : StationSettings) (eeprom : List ℕ) (packet : LoopPacket) (xs : List Step) (b c : T) (is now : List Item) → IsSchedule xs → IsBegun settings (start eeprom packet) xs (is ++ now) → telling.breaks_off b now c → CutsRun telling settings (start eeprom packet) xs is b c
+begun_too telling settings eeprom packet xs b c is now ok begun told = record { given = now; is_begun = inl begun; kept = begun_law settings eeprom packet xs ok (is ++ now) begun; told = told }
+
+pub step_cut : {T : Type 0} (telling : Telling T) (settings : StationSettings) (eeprom : List ℕ) (packet : LoopPacket) (xs ys : List Step) (x : Step) (b c : T) (is : List Item) (u : Stage) → IsSchedule (xs ++ x ∷ ys) → Runs settings xs (start eeprom packet) is u
+    → IsCut telling settings x u b c → CutsRun telling settings (start eeprom packet) (xs ++ x ∷ ys) is b c
+step_cut telling settings eeprom packet xs ys x b c is u ok runs (inl (now, v, does, w)) =
+    begun_too telling settings eeprom packet (xs ++ x ∷ ys) b c is now ok
+    (xs ++ x ∷ [], ys, is ++ now, v, sym (append_assoc xs (x ∷ []) ys), runs_more settings xs x (start eeprom packet) u v is now runs does, inl refl) w
+step_cut telling settings eeprom packet xs ys x b c is u ok runs (inr (inl (now, broken, w))) =
     let k : IsReplay settings (start eeprom packet) (xs ++ x ∷ ys) (is ++ now) = inr (unseen_in settings (start eeprom packet) xs ys x is now u runs broken) in
-    record { items = is ++ now; is_begun = inr k; kept = schedules_law settings eeprom packet (xs ++ x ∷ ys) ok (is ++ now) k; written = part_more is now a b c one w }
-step_cut settings eeprom packet xs ys x a b c is u ok runs one (inr (inr (inl (f, left, stop, round, w)))) =
-    begun_too settings eeprom packet (xs ++ x ∷ ys) a c (is ++ first u.is_open u) ok
-    (xs, x ∷ ys, is, u, refl, runs, inr (subst (λ (z : Step). OpensNext (z ∷ ys)) (sym round) tt, refl)) (part_more is (first u.is_open u) a b c one w)
-step_cut settings eeprom packet xs ys x a b c is u ok runs one (inr (inr (inr w))) =
-    begun_too settings eeprom packet (xs ++ x ∷ ys) a c is ok (xs, x ∷ ys, is, u, refl, runs, inl refl)
-    record { left = []; leaves = record { written = text is; appended = subst (Appends a c) (append-nil (text is)) (appends_join a b c (text is) [] one w); whole = append-nil (text is) } }
+    record { given = now; is_begun = inr k; kept = schedules_law settings eeprom packet (xs ++ x ∷ ys) ok (is ++ now) k; told = w }
+step_cut telling settings eeprom packet xs ys x b c is u ok runs (inr (inr (inl (f, left, stop, round, w)))) =
+    begun_too telling settings eeprom packet (xs ++ x ∷ ys) b c is (first u.is_open u) ok
+    (xs, x ∷ ys, is, u, refl, runs, inr (subst (λ (z : Step). OpensNext (z ∷ ys)) (sym round) tt, refl)) w
+step_cut telling settings eeprom packet xs ys x b c is u ok runs (inr (inr (inr w))) =
+    begun_too telling settings eeprom packet (xs ++ x ∷ ys) b c is [] ok (xs, x ∷ ys, is, u, refl, runs, inl (append-nil is)) (front_whole telling b c [] w)
+
+-- a round behind its opening was cut off
+pub round_cut : {T : Type 0} (telling : Telling T) (settings : StationSettings) (eeprom : List ℕ) (packet : LoopPacket) (xs ys : List Step) (f : Fates) (left : ℕ → List (List ℕ)) (stop : Option Stop) (b c : T) (given : List Item) (s : Stage) → IsSchedule (xs ++ Step.Round f left stop ∷ ys)
+    → Runs settings xs (start eeprom packet) given s → IsCut telling settings (Step.Round f left stop) (opened s.is_open s) b c → CutsRun telling settings (start eeprom packet) (xs ++ Step.Round f left stop ∷ ys) (given ++ first s.is_open s) b c
+round_cut telling settings eeprom packet xs ys f left stop b c given s ok runs (inl (now, v, does, w)) =
+    let x = Step.Round f left stop in
+    begun_too telling settings eeprom packet (xs ++ x ∷ ys) b c (given ++ first s.is_open s) now ok
+    (subst (λ (z : List Item). IsBegun settings (start eeprom packet) (xs ++ x ∷ ys) z) (sym (append_assoc given (first s.is_open s) now))
+    (xs ++ x ∷ [], ys, given ++ (first s.is_open s ++ now), v, sym (append_assoc xs (x ∷ []) ys), runs_more settings xs x (start eeprom packet) s v given (first s.is_open s ++ now) runs (does_opened settings f left stop s v now does), inl refl)) w
+round_cut telling settings eeprom packet xs ys f left stop b c given s ok runs (inr (inl (now, broken, w))) =
+    let x = Step.Round f left stop in
+    let k : IsReplay settings (start eeprom packet) (xs ++ x ∷ ys) ((given ++ first s.is_open s) ++ now) = inr (subst (λ (z : List Item). IsUnseen settings (start eeprom packet) (xs ++ x ∷ ys) z) (sym (append_assoc given (first s.is_open s) now))
+    (unseen_in settings (start eeprom packet) xs ys x given (first s.is_open s ++ now) s runs (breaks_opened settings x s now broken))) in
+    record { given = now; is_begun = inr k; kept = schedules_law settings eeprom packet (xs ++ x ∷ ys) ok ((given ++ first s.is_open s) ++ now) k; told = w }
+round_cut telling settings eeprom packet xs ys f left stop b c given s ok runs (inr (inr (inl (g, late, k, round, w)))) =
+    let t = opened s.is_open s in
+    let none : first t.is_open t ≡ [] = ap (λ (z : Bool). first z t) (is_opened s) in
+    begun_too telling settings eeprom packet (xs ++ Step.Round f left stop ∷ ys) b c (given ++ first s.is_open s) [] ok
+    (xs, Step.Round f left stop ∷ ys, given, s, refl, runs, inr (tt, append-nil (given ++ first s.is_open s))) (subst (λ (z : List Item). telling.breaks_off b z c) none w)
+round_cut telling settings eeprom packet xs ys f left stop b c given s ok runs (inr (inr (inr w))) =
+    begun_too telling settings eeprom packet (xs ++ Step.Round f left stop ∷ ys) b c (given ++ first s.is_open s) [] ok
+    (xs, Step.Round f left stop ∷ ys, given, s, refl, runs, inr (tt, append-nil (given ++ first s.is_open s))) (front_whole telling b c [] w)
 
 -- the steps of a schedule are those so far, the next, and those to come
 pub steps_split : (period : ℕ) (xs : List code_step.Step) (i : ℕ) (d : code_step.Step) → i < length xs → steps_for period (take i xs) ++ step_of period (get_or xs i d) ∷ steps_for period (drop (suc i) xs) ≡ steps_for period xs
@@ -194,23 +252,6 @@ steps_more period xs i d less = sym (map-append (step_of period) (take i xs) (ge
 pub steps_all : (period : ℕ) (xs : List code_step.Step) (i : ℕ) → length xs ≤ i → steps_for period (take i xs) ≡ steps_for period xs
 steps_all period xs i less = ap (steps_for period) (take_all i xs less)
 
--- the line and the disk took part in a run of all steps that was written
-pub took_part : (settings : StationSettings) (from : Stage) (xs : List Step) (a b c : Option (List ℕ)) (before line : Sim) (made disk next : Stopping MemDisk) (run : Run) → (so : SoFar settings from xs a b before line made disk run) → (openings : ℕ)
-    → AtRest openings (opened so.stage.is_open so.stage).archive next → Appends b c (text (closing so.stage)) → TookPart settings from xs a c before line next
-took_part settings from xs a b c before line made disk next run so openings rest w = record {
-  items = so.items;
-  last = so.stage;
-  runs = so.runs;
-  text_is = texts_more so.items (closing so.stage) a b c so.written w;
-  line = so.at.stands;
-  talk = so.said;
-  image = rest.image;
-  reads = rest.seen;
-  rows = subst (λ (r : List Row). HasRows r rest.image) (opened_rows so.stage.is_open so.stage) rest.rows;
-  size = rest.length_is;
-  changes = rest.rests.changes_are;
-}
-
 -- What is so of the steps of a schedule, in a run with these settings over a disk with this room.
 pub record IsReady (settings : StationSettings) (xs : List code_step.Step) (disk : Stopping MemDisk) : Type 0 where
   pub ok : IsSchedule (steps_for settings.period xs)
@@ -219,46 +260,64 @@ pub record IsReady (settings : StationSettings) (xs : List code_step.Step) (disk
   pub ranges : AllByRecursion (IsInRange settings.period) xs
   pub room : IsRoomFor (length (records (steps_for settings.period xs))) (limits_of disk)
 
-pub ready : (settings : StationSettings) (schedule : Schedule) (disk : Stopping MemDisk) → schedule.period ≡ settings.period → IsAccepted schedule → IsRoomFor schedule.records (limits_of disk) → IsReady settings schedule.steps.items disk
-ready settings schedule disk same accepted room = record {
-  ok = subst (λ (p : ℕ). IsSchedule (steps_for p schedule.steps.items)) same accepted.rules;
-  few_lines = subst (λ (p : ℕ). lines (steps_for p schedule.steps.items) ≤ 200) same accepted.few_lines;
-  few_records = subst (λ (p : ℕ). length (records (steps_for p schedule.steps.items)) ≤ 20000) same accepted.few_records;
-  ranges = subst (λ (p : ℕ). AllByRecursion (IsInRange p) schedule.steps.items) same accepted.ranges;
-  room = subst (λ (p : ℕ). IsRoomFor (length (records (steps_for p schedule.steps.items))) (limits_of disk)) same (subst (λ (n : ℕ). IsRoomFor n (limits_of disk)) (sym accepted.counted) room);
+pub ready : (settings : StationSettings) (xs : List code_step.Step) (disk : Stopping MemDisk) → AreAccepted settings.period xs → IsRoomFor (length (records (steps_for settings.period xs))) (limits_of disk) → IsReady settings xs disk
+ready settings xs disk accepted room = record {
+  ok = accepted.rules;
+  few_lines = accepted.few_lines;
+  few_records = accepted.few_records;
+  ranges = accepted.ranges;
+  room = room;
 }
 
-in_range_at : (p : ℕ) (xs : List code_step.Step) (i : ℕ) (d : code_step.Step) → i < length xs → AllByRecursion (IsInRange p) xs → IsInRange p (get_or xs i d)
+pub in_range_at : (p : ℕ) (xs : List code_step.Step) (i : ℕ) (d : code_step.Step) → i < length xs → AllByRecursion (IsInRange p) xs → IsInRange p (get_or xs i d)
 in_range_at p [] i d less all = absurd (omega (arith, less))
 in_range_at p (x ∷ xs) zero d less all = all.0
 in_range_at p (x ∷ xs) (suc i) d less all = in_range_at p xs i d (omega (arith, less)) all.1
 
-pub may_take_next : (settings : StationSettings) (eeprom : List ℕ) (packet : LoopPacket) (xs : List code_step.Step) (i : ℕ) (d : code_step.Step) (a b : Option (List ℕ)) (before line : Sim) (made disk : Stopping MemDisk) (run : Run) → i < length xs → IsReady settings xs made
-    → (so : SoFar settings (start eeprom packet) (steps_for settings.period (take i xs)) a b before line made disk run) → StandsThere (length (records (steps_for settings.period xs))) so.openings settings (step_of settings.period (get_or xs i d)) so.stage disk
-may_take_next settings eeprom packet xs i d a b before line made disk run less r so =
-    let p = settings.period in
-    let e = steps_split p xs i d less in
-    subst (λ (z : List Step). StandsThere (length (records z)) so.openings settings (step_of p (get_or xs i d)) so.stage disk) e
-    (stands_there settings eeprom packet (steps_for p (take i xs)) (steps_for p (drop (suc i) xs)) (step_of p (get_or xs i d)) so.items so.stage so.openings disk
-    (subst IsSchedule (sym e) r.ok) (subst (λ (z : List Step). lines z ≤ 200) (sym e) r.few_lines) (subst (λ (z : List Step). length (records z) ≤ 20000) (sym e) r.few_records)
-    (stop_in p (get_or xs i d) (in_range_at p xs i d less r.ranges))
-    (subst (λ (z : List Step). IsRoomFor (length (records z)) (limits_of disk)) (sym e) (subst (IsRoomFor (length (records (steps_for p xs)))) (sym so.limits) r.room)) so.runs so.few)
+pub steps_parts : (period : ℕ) (xs : List code_step.Step) (i : ℕ) → steps_for period (take i xs) ++ steps_for period (drop i xs) ≡ steps_for period xs
+steps_parts period xs i = sym (map-append (step_of period) (take i xs) (drop i xs)) ∙ ap (steps_for period) (take-append-drop i xs)
 
-pub few_rounds : (settings : StationSettings) (eeprom : List ℕ) (packet : LoopPacket) (xs : List code_step.Step) (i : ℕ) (d : code_step.Step) (a b : Option (List ℕ)) (before line : Sim) (made disk : Stopping MemDisk) (run : Run) → i < length xs → IsReady settings xs made
-    → SoFar settings (start eeprom packet) (steps_for settings.period (take i xs)) a b before line made disk run → run.rounds < 1000
-few_rounds settings eeprom packet xs i d a b before line made disk run less r so =
-    let p = settings.period in
-    let e : lines (steps_for p (take i xs)) + lines (step_of p (get_or xs i d) ∷ steps_for p (drop (suc i) xs)) ≡ lines (steps_for p xs) = sym (lines_join (steps_for p (take i xs)) (step_of p (get_or xs i d) ∷ steps_for p (drop (suc i) xs))) ∙ ap lines (steps_split p xs i d less) in
-    let few = rounds_few settings (steps_for p (take i xs)) (start eeprom packet) so.items so.stage so.runs in
-    omega (arith, few, e, r.few_lines, so.holds.rounds)
+lines_part : (period : ℕ) (xs : List code_step.Step) (i : ℕ) → lines (steps_for period (take i xs)) ≤ lines (steps_for period xs)
+lines_part period xs i =
+    let e = lines_join (steps_for period (take i xs)) (steps_for period (drop i xs)) in
+    let all = ap lines (steps_parts period xs i) in
+    omega (arith, e, all)
 
-pub next_taken : (settings : StationSettings) (from : Stage) (xs : List code_step.Step) (i : ℕ) (d : code_step.Step) (a b c : Option (List ℕ)) (before line now : Sim) (made disk next : Stopping MemDisk) (run after : Run) → i < length xs
-    → (so : SoFar settings from (steps_for settings.period (take i xs)) a b before line made disk run)
-    → After false settings (step_of settings.period (get_or xs i d)) so.stage (λ is u. HoldsAt (so.openings + line_of (step_of settings.period (get_or xs i d))) settings u after next × LineAt u now × HasSaid is line now) b c
-    → limits_of next ≡ limits_of disk → SoFar settings from (steps_for settings.period (take (i + 1) xs)) a c before now made next after
-next_taken settings from xs i d a b c before line now made disk next run after less so h limits =
-    subst (λ (z : List Step). SoFar settings from z a c before now made next after) (steps_more settings.period xs i d less)
-    (so_far_more settings from (steps_for settings.period (take i xs)) (step_of settings.period (get_or xs i d)) a b c before line now made disk next run after so h limits)
+module _ (settings : StationSettings) (eeprom : List ℕ) (packet : LoopPacket) (xs : List code_step.Step) (i : ℕ) (made disk : Stopping MemDisk) (given : List Item) (s : Stage) (openings : ℕ) (r : IsReady settings xs made)
+    (runs : Runs settings (steps_for settings.period (take i xs)) (start eeprom packet) given s) (few : openings ≤ lines (steps_for settings.period (take i xs))) (limits : limits_of disk ≡ limits_of made) where
+  pub may_take_next : (d : code_step.Step) → i < length xs → StandsThere (length (records (steps_for settings.period xs))) openings settings (step_of settings.period (get_or xs i d)) s disk
+  may_take_next d less =
+      let p = settings.period in
+      let e = steps_split p xs i d less in
+      subst (λ (z : List Step). StandsThere (length (records z)) openings settings (step_of p (get_or xs i d)) s disk) e
+      (stands_there settings eeprom packet (steps_for p (take i xs)) (steps_for p (drop (suc i) xs)) (step_of p (get_or xs i d)) given s openings disk
+      (subst IsSchedule (sym e) r.ok) (subst (λ (z : List Step). lines z ≤ 200) (sym e) r.few_lines) (subst (λ (z : List Step). length (records z) ≤ 20000) (sym e) r.few_records)
+      (stop_in p (get_or xs i d) (in_range_at p xs i d less r.ranges))
+      (subst (λ (z : List Step). IsRoomFor (length (records z)) (limits_of disk)) (sym e) (subst (IsRoomFor (length (records (steps_for p xs)))) (sym limits) r.room)) runs few)
+
+  pub few_rounds : s.rounds < 1000
+  few_rounds =
+      let e = lines_part settings.period xs i in
+      let n = rounds_few settings (steps_for settings.period (take i xs)) (start eeprom packet) given s runs in
+      omega (arith, n, e, r.few_lines)
+
+  -- and it may open the archive
+  pub has_run_room : HasRunRoom (length (records (steps_for settings.period xs))) openings s disk
+  has_run_room =
+      let q = settings.period in let z = steps_for q (take i xs) in let w = steps_for q (drop i xs) in
+      let all : z ++ w ≡ steps_for q xs = steps_parts q xs i in
+      let n = length (records (steps_for q xs)) in
+      let m = length (records (z ++ w)) in
+      let fits = room_law settings eeprom packet z w (subst IsSchedule (sym all) r.ok) (176 * (14 * m + 1) + 1) (λ (rows : List Row) less. let a = total_few rows in let t = slots_is rows in omega (arith, a, t, less)) given s runs in
+      let same : m ≡ n = ap (λ (y : List Step). length (records y)) all in
+      let l = lines_part q xs i in
+      record {
+        room = subst (IsRoomFor n) (sym limits) r.room;
+        changes = omega (arith, fits.1, r.few_lines, l);
+        rows = omega (arith, fits.2, same);
+        records_are = r.few_records;
+        few = omega (arith, few, l, r.few_lines);
+      }
 
 none_taken : (period : ℕ) (xs : List code_step.Step) → steps_for period (take 0 xs) ≡ []
 none_taken period [] = refl
@@ -268,10 +327,9 @@ no_session : (settings : StationSettings) (rows : List Row) (o : Option Session)
 no_session settings rows None disk is = tt
 no_session settings rows (Some x) disk is = absurd cc
 
-pub so_far_first : (settings : StationSettings) (eeprom : List ℕ) (packet : LoopPacket) (xs : List code_step.Step) (a : Option (List ℕ)) (line : Sim) (disk : Stopping MemDisk) (run : Run) → run.session ≡ None → run.rounds ≡ 0 → run.written ≡ 0
-    → LineAt (start eeprom packet) line → AtRest 0 (start eeprom packet).archive disk → SoFar settings (start eeprom packet) (steps_for settings.period (take 0 xs)) a a line line disk disk run
-so_far_first settings eeprom packet xs a line disk run closed rounds written at rests = record {
-  items = [];
+pub so_far_first : (settings : StationSettings) (eeprom : List ℕ) (packet : LoopPacket) (xs : List code_step.Step) (line : Sim) (disk : Stopping MemDisk) (run : Run) → run.session ≡ None → run.rounds ≡ 0 → run.written ≡ 0
+    → LineAt (start eeprom packet) line → AtRest 0 (start eeprom packet).archive disk → SoFar settings (start eeprom packet) (steps_for settings.period (take 0 xs)) [] line line disk disk run
+so_far_first settings eeprom packet xs line disk run closed rounds written at rests = record {
   stage = start eeprom packet;
   runs = subst (λ (z : List Step). Runs settings z (start eeprom packet) [] (start eeprom packet)) (sym (none_taken settings.period xs)) (refl, refl);
   openings = 0;
@@ -280,24 +338,4 @@ so_far_first settings eeprom packet xs a line disk run closed rounds written at 
   at = at;
   said = sym (append-nil line.talk.items);
   limits = refl;
-  written = appends_none a;
 }
-
--- and at its end it may open the archive
-pub room_at_end : (settings : StationSettings) (eeprom : List ℕ) (packet : LoopPacket) (xs : List code_step.Step) (i : ℕ) (a b : Option (List ℕ)) (before line : Sim) (made disk : Stopping MemDisk) (run : Run) → length xs ≤ i → IsReady settings xs made
-    → (so : SoFar settings (start eeprom packet) (steps_for settings.period (take i xs)) a b before line made disk run) → HasRunRoom (length (records (steps_for settings.period xs))) so.openings so.stage disk
-room_at_end settings eeprom packet xs i a b before line made disk run less r so =
-    let q = settings.period in let z = steps_for q (take i xs) in
-    let all : z ++ [] ≡ steps_for q xs = append-nil z ∙ steps_all q xs i less in
-    let n = length (records (steps_for q xs)) in
-    let m = length (records (z ++ [])) in
-    let fits = room_law settings eeprom packet z [] (subst IsSchedule (sym all) r.ok) (176 * (14 * m + 1) + 1) (λ (rows : List Row) few. let s = total_few rows in let t = slots_is rows in omega (arith, s, t, few)) so.items so.stage so.runs in
-    let same : m ≡ n = ap (λ (y : List Step). length (records y)) all in
-    let l : lines z ≡ lines (steps_for q xs) = ap lines (steps_all q xs i less) in
-    record {
-      room = subst (IsRoomFor n) (sym so.limits) r.room;
-      changes = omega (arith, fits.1, r.few_lines, l);
-      rows = omega (arith, fits.2, same);
-      records_are = r.few_records;
-      few = omega (arith, so.few, l, r.few_lines);
-    }

@@ -1,7 +1,8 @@
 -- A new disk is at rest, with an archive of no rows.
-use Rattle.std.proofs.Common.{◌≡◌, ℕ, false, List, [], Some, refl, sym, ◌∙◌, ap, arith}
+use Rattle.std.proofs.Common.{◌≡◌, ◌↔◌, ℕ, false, List, [], Some, refl, sym, ◌∙◌, ap, subst, arith}
 use Rattle.disk_model.specs.Disk.{IsDurable, LeavesJust}
-use Rattle.disk_model.specs.DiskState.{Limits, new_state}
+use Rattle.disk_model.specs.DiskState.{DiskState, Limits, new_state}
+use Rattle.disk_model.specs.MemDisk.{mem_medium, state_of}
 use Rattle.disk_model.specs.Stopping.{stopping_medium, stopping_state_of}
 use Rattle.disk_model.specs.StoppingState.{StoppingState}
 use Rattle.disk_model.specs.declared.mem_disk.MemDisk.{MemDisk}
@@ -11,7 +12,9 @@ use Rattle.gated_log.specs.Version.{version_of}
 use Rattle.weather_book.specs.Rows.{rows_of}
 use Rattle.weather_book.specs.Stands.{HasRows}
 use Rattle.station_replay.specs.Keeping.{Archive}
-use Rattle.schedule_replay.specs.Resting.{AtRest}
+use Rattle.loop_packet.specs.declared.packet.LoopPacket.{LoopPacket}
+use Rattle.schedule_replay.specs.Replayed.{IsNewDisk}
+use Rattle.schedule_replay.specs.Resting.{AtRest, IsRoomFor}
 use Rattle.schedule_replay.proofs.Opened.{left_by}
 
 -- an archive that was never opened
@@ -54,4 +57,21 @@ new_at_rest limits d state seen synced just moment =
         changes = omega (arith, changes, most_changes);
         bytes = omega (arith, bytes, most_bytes);
       };
+    }
+
+-- a new disk, around a disk in memory that was made with these limits
+pub begins_disk : (records : ℕ) (limits : Limits) (inner : MemDisk) (disk : Stopping MemDisk) (eeprom : List ℕ) (packet : LoopPacket) → state_of inner ≡ new_state limits → mem_medium.seen inner ≡ Some [] → mem_medium.synced inner ≡ Some []
+    → LeavesJust (mem_medium.left inner) [] → mem_medium.moment inner ≡ 0 → stopping_state_of disk ≡ record { inner = state_of inner; armed = 0; pick = 0; stopped = false }
+    → stopping_medium.seen disk ≡ mem_medium.seen inner → stopping_medium.synced disk ≡ mem_medium.synced inner → ((t : ℕ) (c : List ℕ) → stopping_medium.left disk t c ↔ mem_medium.left inner t c)
+    → stopping_medium.moment disk ≡ mem_medium.moment inner → IsRoomFor records limits → IsNewDisk records eeprom packet disk
+begins_disk records limits inner disk eeprom packet made seen synced just moment around sees syncs leaves moments room =
+    let state : stopping_state_of disk ≡ record { inner = new_state limits; armed = 0; pick = 0; stopped = false } =
+    around ∙ ap (λ (s : DiskState). record { inner = s; armed = 0; pick = 0; stopped = false }) made in
+    let only : LeavesJust (stopping_medium.left disk) [] = record {
+      nothing_else = λ t c left. just.nothing_else t c ((leaves t c).0 left);
+      them = λ t. (leaves t []).1 (just.them t);
+    } in
+    record {
+      rests = new_at_rest limits disk state (sees ∙ seen) (syncs ∙ synced) only (moments ∙ moment);
+      room = subst (IsRoomFor records) (sym (ap (λ (s : StoppingState). s.inner.limits) state)) room;
     }

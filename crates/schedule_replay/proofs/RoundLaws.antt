@@ -1,7 +1,5 @@
 -- What a round of a run comes to at a stage.
 use Rattle.std.proofs.Common.{◌≡◌, ℕ, ◌+◌, ◌≤◌, Bool, true, false, not, if◌then◌else◌, List, [], ◌∷◌, ◌++◌, length, Option, Some, None, refl, sym, ◌∙◌, ap, subst, arith, append-nil, inl, inr}
-use Rattle.std.specs.Io.KnownBytes.{Appends}
-use Rattle.causes.specs.Written.{WritesPart}
 use Rattle.settings_file.specs.StationSettings.{StationSettings}
 use Rattle.disk_model.specs.Disk.{MayBegin}
 use Rattle.disk_model.specs.Stopping.{stopping_medium}
@@ -20,7 +18,7 @@ use Rattle.station_sim.specs.Standing.{StandsFor}
 use Rattle.station_replay.specs.Keeping.{Archive}
 use Rattle.station_replay.specs.Replay.{IsBroken, Item, Stage, after_round, first, is_stop, opened}
 use Rattle.station_replay.specs.Schedule.{Step, Stop, no_fates}
-use Rattle.station_replay.specs.Texts.{text, text_of, tried_of}
+use Rattle.station_replay.specs.Texts.{tried_of}
 use Rattle.station_session.specs.Attempts.{all_said}
 use Rattle.station_replay.proofs.Leaving.{total_few}
 use Rattle.station_replay.proofs.Stops.{slots_is}
@@ -32,7 +30,7 @@ use Rattle.schedule_replay.specs.Resting.{GoesOn, IsRoomFor}
 use Rattle.schedule_replay.specs.Running.{After, IsCut}
 use Rattle.schedule_replay.specs.Standing.{HasRunRoom, HasSaid, HasSession, HoldsAt, IsTold, LineAt, MayOpen, MayRun, Readies, StandsThere, round_step, said_in}
 use Rattle.schedule_replay.specs.Stops.{stop_set}
-use Rattle.schedule_replay.proofs.RunLaws.{behind_part, behind_text}
+use Rattle.schedule_replay.specs.Telling.{Telling}
 
 opened_line : (t : Bool) (s : Stage) → (opened t s).line ≡ s.line
 opened_line true s = refl
@@ -126,12 +124,12 @@ said_first true s xs = refl
 said_first false s xs = refl
 
 -- a round that was told leads where it leaves the run
-pub told_after : (openings : ℕ) (settings : StationSettings) (fates : code.Fates) (stop : Option code_stop.Stop) (s : Stage) (old : Host) (played : Played) (session : Session) (line : Sim) (disk now : Stopping MemDisk) (run : Run) (before : ℕ) (a b c : Option (List ℕ))
+pub told_after : {T : Type 0} (telling : Telling T) (openings : ℕ) (settings : StationSettings) (fates : code.Fates) (stop : Option code_stop.Stop) (s : Stage) (old : Host) (played : Played) (session : Session) (line : Sim) (disk now : Stopping MemDisk) (run : Run) (before : ℕ) (a b c : T)
     → (o : IsPlayedOut settings (fates_of fates) (left_in fates.mids.items) (stop_set stop) openings (opened s.is_open s) old played (round_host session line disk)) → fates_of line.fates ≡ no_fates
     → IsTold settings openings o.round o.next.archive before run now → run.rounds ≡ s.rounds + 1 → before ≡ (opened s.is_open s).written
-    → Appends a b (text (first s.is_open s)) → Appends b c (text_of (Item.Ran o.round))
-    → After false settings (round_step fates stop) s (λ is u. HoldsAt openings settings u run now × LineAt u line × HasSaid is old.link line) a c
-told_after openings settings fates stop s old played session line disk now run before a b c o none told rounds written one two =
+    → telling.tells a (first s.is_open s) b → telling.tells b (Item.Ran o.round ∷ []) c
+    → After telling false settings (round_step fates stop) s (λ is u. HoldsAt openings settings u run now × LineAt u line × HasSaid is old.link line) a c
+told_after telling openings settings fates stop s old played session line disk now run before a b c o none told rounds written one two =
     let t = is_stop o.round.end in
     let n = o.is_round.next in
     let arc : o.next.archive ≡ o.is_round.archive = ap (λ u. u.archive) n ∙ archive_of t (opened s.is_open s) o.is_round.archive _ in
@@ -151,43 +149,40 @@ told_after openings settings fates stop s old played session line disk now run b
         record { stands = o.line; fates = none },
         o.said ∙ ap (λ l. old.link.talk.items ++ l) (sym (append-nil (all_said (tried_of o.round.tried)))) ∙ ap (λ l. old.link.talk.items ++ l) (sym (said_first s.is_open s (Item.Ran o.round ∷ []))),
       ),
-      behind_text s (Item.Ran o.round) a b c one two,
+      telling.tells_joins a b c (first s.is_open s) (Item.Ran o.round ∷ []) one two,
     )
 
-pub told_cut : (settings : StationSettings) (openings : ℕ) (fates : code.Fates) (stop : Option code_stop.Stop) (s : Stage) (old : Host) (played : Played) (new : Host) (a b c : Option (List ℕ))
+pub told_cut : {T : Type 0} (telling : Telling T) (settings : StationSettings) (openings : ℕ) (fates : code.Fates) (stop : Option code_stop.Stop) (s : Stage) (old : Host) (played : Played) (new : Host) (a b c : T)
     → (o : IsPlayedOut settings (fates_of fates) (left_in fates.mids.items) (stop_set stop) openings (opened s.is_open s) old played new)
-    → Appends a b (text (first s.is_open s)) → WritesPart b c (text_of (Item.Ran o.round)) → IsCut settings (round_step fates stop) s a c
-told_cut settings openings fates stop s old played new a b c o one two =
-    inl (first s.is_open s ++ Item.Ran o.round ∷ [], o.next, (o.round, o.is_round, refl), behind_part s (Item.Ran o.round) a b c one two)
+    → telling.tells a (first s.is_open s) b → telling.breaks_off b (Item.Ran o.round ∷ []) c → IsCut telling settings (round_step fates stop) s a c
+told_cut telling settings openings fates stop s old played new a b c o one two =
+    inl (first s.is_open s ++ Item.Ran o.round ∷ [], o.next, (o.round, o.is_round, refl), telling.breaks_later a b c (first s.is_open s) (Item.Ran o.round ∷ []) one two)
 
-pub unseen_after : (settings : StationSettings) (fates : code.Fates) (stop : Option code_stop.Stop) (s : Stage) (P : List Item → Stage → Type 0) (number : ℕ) (which : Unseen) (a b c : Option (List ℕ))
+pub unseen_after : {T : Type 0} (telling : Telling T) (settings : StationSettings) (fates : code.Fates) (stop : Option code_stop.Stop) (s : Stage) (P : List Item → Stage → Type 0) (number : ℕ) (which : Unseen) (a b c : T)
     → IsBroken settings (fates_of fates) (stop_set stop) (opened s.is_open s) (Item.Unsaid ((opened s.is_open s).rounds + 1) which) → number ≡ s.rounds + 1
-    → Appends a b (text (first s.is_open s)) → Appends b c (text_of (Item.Unsaid number which)) → After true settings (round_step fates stop) s P a c
-unseen_after settings fates stop s P number which a b c broken is one two =
+    → telling.tells a (first s.is_open s) b → telling.tells b (Item.Unsaid number which ∷ []) c → After telling true settings (round_step fates stop) s P a c
+unseen_after telling settings fates stop s P number which a b c broken is one two =
     let same : number ≡ (opened s.is_open s).rounds + 1 = is ∙ ap (λ (k : ℕ). k + 1) (sym (opened_rounds s.is_open s)) in
     let i = Item.Unsaid ((opened s.is_open s).rounds + 1) which in (
       first s.is_open s ++ i ∷ [],
       (fates_of fates, left_in fates.mids.items, stop_set stop, i, refl, broken, refl),
-      behind_text s i a b c one (subst (λ (k : ℕ). Appends b c (text_of (Item.Unsaid k which))) same two),
+      telling.tells_joins a b c (first s.is_open s) (i ∷ []) one (subst (λ (k : ℕ). telling.tells b (Item.Unsaid k which ∷ []) c) same two),
     )
 
-pub unseen_cut : (settings : StationSettings) (fates : code.Fates) (stop : Option code_stop.Stop) (s : Stage) (number : ℕ) (which : Unseen) (a b c : Option (List ℕ))
+pub unseen_cut : {T : Type 0} (telling : Telling T) (settings : StationSettings) (fates : code.Fates) (stop : Option code_stop.Stop) (s : Stage) (number : ℕ) (which : Unseen) (a b c : T)
     → IsBroken settings (fates_of fates) (stop_set stop) (opened s.is_open s) (Item.Unsaid ((opened s.is_open s).rounds + 1) which) → number ≡ s.rounds + 1
-    → Appends a b (text (first s.is_open s)) → WritesPart b c (text_of (Item.Unsaid number which)) → IsCut settings (round_step fates stop) s a c
-unseen_cut settings fates stop s number which a b c broken is one two =
+    → telling.tells a (first s.is_open s) b → telling.breaks_off b (Item.Unsaid number which ∷ []) c → IsCut telling settings (round_step fates stop) s a c
+unseen_cut telling settings fates stop s number which a b c broken is one two =
     let same : number ≡ (opened s.is_open s).rounds + 1 = is ∙ ap (λ (k : ℕ). k + 1) (sym (opened_rounds s.is_open s)) in
     let i = Item.Unsaid ((opened s.is_open s).rounds + 1) which in
     inr (inl (
       first s.is_open s ++ i ∷ [],
       (fates_of fates, left_in fates.mids.items, stop_set stop, i, refl, broken, refl),
-      behind_part s i a b c one (subst (λ (k : ℕ). WritesPart b c (text_of (Item.Unsaid k which))) same two),
+      telling.breaks_later a b c (first s.is_open s) (i ∷ []) one (subst (λ (k : ℕ). telling.breaks_off b (Item.Unsaid k which ∷ []) c) same two),
     ))
 
-pub opening_cut : (settings : StationSettings) (fates : code.Fates) (stop : Option code_stop.Stop) (s : Stage) (a c : Option (List ℕ)) → WritesPart a c (text (first s.is_open s)) → IsCut settings (round_step fates stop) s a c
-opening_cut settings fates stop s a c w = inr (inr (inl (fates_of fates, left_in fates.mids.items, stop_set stop, refl, w)))
-
-pub part_whole : (a b : Option (List ℕ)) (t : List ℕ) → Appends a b t → WritesPart a b t
-part_whole a b t w = record { left = []; leaves = record { written = t; appended = w; whole = append-nil t } }
+pub front_whole : {T : Type 0} (telling : Telling T) (a b : T) (is : List Item) → telling.tells a is b → telling.breaks_off a is b
+front_whole telling a b is told = subst (λ (z : List Item). telling.breaks_off a z b) (append-nil is) (telling.breaks_later a b b is [] told (telling.breaks_none b []))
 
 pub written_of : (settings : StationSettings) (f : Fates) (left : ℕ → List (List ℕ)) (stop : Option Stop) (openings : ℕ) (s : Stage) (old : Host) (played : Played) (new : Host)
     → (o : IsPlayedOut settings f left stop openings s old played new) → o.round.written ≡ s.written

@@ -1,7 +1,5 @@
 -- What the works of a run come to at a stage.
-use Rattle.std.proofs.Common.{◌≡◌, ℕ, ◌+◌, Bool, true, false, not, if◌then◌else◌, List, [], ◌∷◌, ◌++◌, length, Option, Some, None, Result, Ok, Err, OnOk, OnErr, refl, sym, ◌∙◌, ap, subst, arith, append-nil, append_assoc, inl}
-use Rattle.std.specs.Io.KnownBytes.{Appends}
-use Rattle.causes.specs.Written.{WritesPart}
+use Rattle.std.proofs.Common.{◌≡◌, ℕ, ◌+◌, Bool, true, false, not, if◌then◌else◌, List, [], ◌∷◌, length, Option, Some, None, Result, Ok, Err, OnOk, OnErr, refl, sym, ◌∙◌, ap, subst, arith, inl}
 use Rattle.station_base.specs.declared.row.Row.{Row}
 use Rattle.settings_file.specs.StationSettings.{StationSettings}
 use Rattle.disk_model.specs.declared.mem_disk.MemDisk.{MemDisk}
@@ -13,7 +11,6 @@ use Rattle.station_replay.specs.Round.{Ending}
 use Rattle.station_sim.specs.declared.schedule.step.Stop as code_stop
 use Rattle.station_replay.specs.Schedule.{Stop}
 use Rattle.station_replay.specs.Replay.{Does, Item, Opens, Stage, cut_archive, cut_short, first, made_ready, opened, opening, recovered, stops_opening, is_stop, Rounded}
-use Rattle.station_replay.specs.Texts.{text, text_of}
 use Rattle.schedule_replay.specs.declared.cut.Cut.{Cut}
 use Rattle.schedule_replay.specs.declared.cut.Cut.TheVariants.{WriteFault, OutOfMemory}
 use Rattle.schedule_replay.specs.declared.playing.Played.{Played}
@@ -25,53 +22,14 @@ use Rattle.schedule_replay.specs.Opening.{IsOpened, OpensBy}
 use Rattle.schedule_replay.specs.Running.{IsCut}
 use Rattle.schedule_replay.specs.Stops.{stop_of}
 use Rattle.schedule_replay.specs.Resting.{AtRest, GoesOn}
-use Rattle.schedule_replay.specs.Standing.{HasSession, HoldsAt, IsTold, LeadsTo, MayOpen, Readies, open_step}
-use Rattle.schedule_replay.specs.Writing.{IsOnlyRead, IsReadable, Writes}
+use Rattle.schedule_replay.specs.Standing.{HasSession, HoldsAt, IsTold, MayOpen, Readies, open_step}
+use Rattle.schedule_replay.specs.Telling.{Telling, TellsAll}
+use Rattle.schedule_replay.specs.Writing.{IsOnlyRead, IsReadable}
 
-pub appends_none : (o : Option (List ℕ)) → Appends o o []
-appends_none None = tt
-appends_none (Some xs) = sym (append-nil xs)
-
--- nothing is a front of everything
-pub part_none : (o : Option (List ℕ)) (t : List ℕ) → WritesPart o o t
-part_none o t = record { left = t; leaves = record { written = []; appended = appends_none o; whole = refl } }
-
-pub appends_join : (a b c : Option (List ℕ)) (s t : List ℕ) → Appends a b s → Appends b c t → Appends a c (s ++ t)
-appends_join None b c s t one two = tt
-appends_join (Some x) None c s t one two = absurd one
-appends_join (Some x) (Some y) None s t one two = absurd two
-appends_join (Some x) (Some y) (Some z) s t one two = two ∙ ap (λ l. l ++ t) one ∙ append_assoc x s t
-
-pub part_first : (a b : Option (List ℕ)) (s t : List ℕ) → WritesPart a b s → WritesPart a b (s ++ t)
-part_first a b s t p = record {
-  left = p.left ++ t;
-  leaves = record {
-    written = p.leaves.written;
-    appended = p.leaves.appended;
-    whole = sym (append_assoc p.leaves.written p.left t) ∙ ap (λ l. l ++ t) p.leaves.whole;
-  };
-}
-
-pub part_second : (a b c : Option (List ℕ)) (s t : List ℕ) → Appends a b s → WritesPart b c t → WritesPart a c (s ++ t)
-part_second a b c s t one two = record {
-  left = two.left;
-  leaves = record {
-    written = s ++ two.leaves.written;
-    appended = appends_join a b c s two.leaves.written one two.leaves.appended;
-    whole = append_assoc s two.leaves.written two.left ∙ ap (λ l. s ++ l) two.leaves.whole;
-  };
-}
-
-pub part_cut : (old new : Option (List ℕ)) (t : List ℕ) (cut : Cut) → Writes old new t (Err cut) → WritesPart old new t
-part_cut old new t WriteFault w = w
-part_cut old new t OutOfMemory w = absurd w
-
-pub text_one : (i : Item) → text (i ∷ []) ≡ text_of i
-text_one i = append-nil (text_of i)
-
-pub text_join : (xs ys : List Item) → text (xs ++ ys) ≡ text xs ++ text ys
-text_join [] ys = refl
-text_join (x ∷ xs) ys = ap (λ z. text_of x ++ z) (text_join xs ys) ∙ sym (append_assoc (text_of x) (text xs) (text ys))
+-- a telling that failed told a front
+pub told_front : {T : Type 0} (telling : Telling T) (old new : T) (items : List Item) (cut : Cut) → TellsAll telling old items (Err cut) new → telling.breaks_off old items new
+told_front telling old new items WriteFault told = told
+told_front telling old new items OutOfMemory told = absurd told
 
 -- a run without a session is closed, and one with a session goes on with it
 pub closed_by : (t : Bool) (settings : StationSettings) (rows : List Row) (o : Option Session) (disk : Stopping MemDisk) → HasSession t settings rows o disk → o ≡ None → t ≡ false
@@ -110,12 +68,12 @@ may_tell settings run disk now session (n, s, holds, can) opens =
     let x = opens n s.archive holds.rests in
     record { openings = n + 1; archive = made_ready s.archive; settings = settings; rows = s.archive.rows; rests = x.0; goes_on = x.1 }
 
--- what an opening of a closed run writes
-pub opens_text : (s : Stage) (old new : Option (List ℕ)) → s.is_open ≡ false → Appends old new (text_of (opening s)) → Appends old new (text (first s.is_open s))
-opens_text s old new closed h = subst (λ (t : Bool). Appends old new (text (first t s))) (sym closed) (subst (Appends old new) (sym (text_one (opening s))) h)
+-- what an opening of a closed run tells
+pub opens_told : {T : Type 0} (telling : Telling T) (s : Stage) (old new : T) → s.is_open ≡ false → telling.tells old (opening s ∷ []) new → telling.tells old (first s.is_open s) new
+opens_told telling s old new closed told = subst (λ (t : Bool). telling.tells old (first t s) new) (sym closed) told
 
-pub opens_part : (s : Stage) (old new : Option (List ℕ)) → s.is_open ≡ false → WritesPart old new (text_of (opening s)) → WritesPart old new (text (first s.is_open s))
-opens_part s old new closed h = subst (λ (t : Bool). WritesPart old new (text (first t s))) (sym closed) (subst (WritesPart old new) (sym (text_one (opening s))) h)
+pub opens_front : {T : Type 0} (telling : Telling T) (s : Stage) (old new : T) → s.is_open ≡ false → telling.breaks_off old (opening s ∷ []) new → telling.breaks_off old (first s.is_open s) new
+opens_front telling s old new closed told = subst (λ (t : Bool). telling.breaks_off old (first t s) new) (sym closed) told
 
 stage_closed : (s : Stage) → s.is_open ≡ false → opened s.is_open s ≡ recovered s
 stage_closed s closed = ap (λ (t : Bool). opened t s) closed
@@ -154,23 +112,11 @@ pub on_err : {P : Type 0} (r : Result (Unit {0}) Cut) → ((cut : Cut) → r ≡
 on_err {P} (Ok x) f = tt
 on_err {P} (Err e) f = f e refl
 
-pub writes_ok : (old new : Option (List ℕ)) (t : List ℕ) (r : Result (Unit {0}) Cut) → r ≡ Ok tt → Writes old new t r → Appends old new t
-writes_ok old new t r is w = subst (Writes old new t) is w
+pub told_all : {T : Type 0} (telling : Telling T) (old new : T) (items : List Item) (r : Result (Unit {0}) Cut) → r ≡ Ok tt → TellsAll telling old items r new → telling.tells old items new
+told_all telling old new items r is told = subst (λ (z : Result (Unit {0}) Cut). TellsAll telling old items z new) is told
 
-pub writes_err : (old new : Option (List ℕ)) (t : List ℕ) (r : Result (Unit {0}) Cut) (cut : Cut) → r ≡ Err cut → Writes old new t r → WritesPart old new t
-writes_err old new t r cut is w = part_cut old new t cut (subst (Writes old new t) is w)
-
--- the texts of an opening where there is one, and of an item behind it
-pub behind_text : (s : Stage) (i : Item) (a b c : Option (List ℕ)) → Appends a b (text (first s.is_open s)) → Appends b c (text_of i) → Appends a c (text (first s.is_open s ++ i ∷ []))
-behind_text s i a b c one two =
-    subst (Appends a c) (sym (text_join (first s.is_open s) (i ∷ []))) (appends_join a b c (text (first s.is_open s)) (text (i ∷ [])) one (subst (Appends b c) (sym (text_one i)) two))
-
-pub behind_part : (s : Stage) (i : Item) (a b c : Option (List ℕ)) → Appends a b (text (first s.is_open s)) → WritesPart b c (text_of i) → WritesPart a c (text (first s.is_open s ++ i ∷ []))
-behind_part s i a b c one two =
-    subst (WritesPart a c) (sym (text_join (first s.is_open s) (i ∷ []))) (part_second a b c (text (first s.is_open s)) (text (i ∷ [])) one (subst (WritesPart b c) (sym (text_one i)) two))
-
-pub front_part : (s : Stage) (i : Item) (a b : Option (List ℕ)) → WritesPart a b (text (first s.is_open s)) → WritesPart a b (text (first s.is_open s ++ i ∷ []))
-front_part s i a b one = subst (WritesPart a b) (sym (text_join (first s.is_open s) (i ∷ []))) (part_first a b (text (first s.is_open s)) (text (i ∷ [])) one)
+pub told_less : {T : Type 0} (telling : Telling T) (old new : T) (items : List Item) (r : Result (Unit {0}) Cut) (cut : Cut) → r ≡ Err cut → TellsAll telling old items r new → telling.breaks_off old items new
+told_less telling old new items r cut is told = told_front telling old new items cut (subst (λ (z : Result (Unit {0}) Cut). TellsAll telling old items z new) is told)
 
 pub ready_readable : (openings : ℕ) (settings : StationSettings) (s : Stage) (run : Run) (session : Session) (disk : Stopping MemDisk) → Readies openings settings s run session disk → IsReadable session disk
 ready_readable openings settings s run session disk r =
@@ -211,13 +157,9 @@ does_stop settings s (Some x) k is t =
     subst (λ (y : code_stop.Stop). Opens (stops_opening y.change s.archive.size) (stop_of y) s (Item.OpenStopped k.change s.archive.rows ∷ []) (cut_short (stop_of k) s)) (sym e)
     (subst (λ (z : Bool). Opens z (stop_of k) s (Item.OpenStopped k.change s.archive.rows ∷ []) (cut_short (stop_of k) s)) (sym t) (refl, refl))
 
--- an opening whose writing failed
-pub open_cut : (settings : StationSettings) (s u : Stage) (stop : Option code_stop.Stop) (i : Item) (old new : Option (List ℕ)) → Does settings (open_step stop) s (i ∷ []) u → WritesPart old new (text_of i) → IsCut settings (open_step stop) s old new
-open_cut settings s u stop i old new does w = inl (i ∷ [], u, does, subst (WritesPart old new) (sym (text_one i)) w)
-
-pub open_leads : (openings : ℕ) (settings : StationSettings) (s u : Stage) (stop : Option code_stop.Stop) (i : Item) (run : Run) (disk : Stopping MemDisk) (old new : Option (List ℕ)) → Does settings (open_step stop) s (i ∷ []) u → HoldsAt openings settings u run disk → Appends old new (text_of i)
-    → LeadsTo openings settings (open_step stop) s run disk old new
-open_leads openings settings s u stop i run disk old new does holds w = (i ∷ [], u, does, holds, subst (Appends old new) (sym (text_one i)) w)
+-- an opening whose telling failed
+pub open_cut : {T : Type 0} (telling : Telling T) (settings : StationSettings) (s u : Stage) (stop : Option code_stop.Stop) (i : Item) (old new : T) → Does settings (open_step stop) s (i ∷ []) u → telling.breaks_off old (i ∷ []) new → IsCut telling settings (open_step stop) s old new
+open_cut telling settings s u stop i old new does told = inl (i ∷ [], u, does, told)
 
 -- what is told of a round in its line
 pub line_tells : (stop : Option Stop) (played : Played) (line : RoundLine) (r : Rounded) (known : Ending) → ending_of line.end ≡ known → Tells stop played r → r.end ≡ known → r.number ≡ line.number → played.report.attempts ≡ line.attempts → played.report.tally.pages ≡ line.pages → played.report.tally.skipped ≡ line.skipped

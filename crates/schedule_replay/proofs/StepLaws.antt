@@ -17,7 +17,8 @@ use Rattle.schedule_replay.specs.Running.{After, IsCut}
 use Rattle.schedule_replay.specs.Standing.{HasSaid, HoldsAt, LeadsTo, LineAt, open_step, said_in}
 use Rattle.schedule_replay.specs.Steps.{passed, step_of}
 use Rattle.schedule_replay.specs.Stops.{stop_of}
-use Rattle.schedule_replay.proofs.RunLaws.{appends_none, rest_on}
+use Rattle.schedule_replay.specs.Telling.{Telling}
+use Rattle.schedule_replay.proofs.RunLaws.{rest_on}
 
 -- an opening says nothing, and leaves the line
 opens_still : (t : Bool) (k : Stop) (s : Stage) (is : List Item) (u : Stage) → Opens t k s is u → (u.line ≡ s.line) × (said_in is ≡ [])
@@ -31,9 +32,9 @@ open_still settings (Some k) s is u h = opens_still (stops_opening k.change s.ar
 said_none : (line now : Sim) (is : List Item) → now.talk.items ≡ line.talk.items → said_in is ≡ [] → HasSaid is line now
 said_none line now is talk e = talk ∙ sym (append-nil line.talk.items) ∙ ap (λ z. line.talk.items ++ z) (sym e)
 
-pub open_after : (openings : ℕ) (settings : StationSettings) (stop : Option code_stop.Stop) (s : Stage) (run : Run) (line : Sim) (disk : Stopping MemDisk) (old new : Option (List ℕ)) → LineAt s line → LeadsTo openings settings (open_step stop) s run disk old new
-    → After false settings (open_step stop) s (λ is u. HoldsAt openings settings u run disk × LineAt u line × HasSaid is line line) old new
-open_after openings settings stop s run line disk old new l (is, u, does, holds, w) =
+pub open_after : {T : Type 0} (telling : Telling T) (openings : ℕ) (settings : StationSettings) (stop : Option code_stop.Stop) (s : Stage) (run : Run) (line : Sim) (disk : Stopping MemDisk) (old new : T) → LineAt s line → LeadsTo telling openings settings (open_step stop) s run disk old new
+    → After telling false settings (open_step stop) s (λ is u. HoldsAt openings settings u run disk × LineAt u line × HasSaid is line line) old new
+open_after telling openings settings stop s run line disk old new l (is, u, does, holds, w) =
     let e = open_still settings stop s is u does in
     (is, u, does, (holds, record { stands = subst (StandsFor line) (sym e.0) l.stands; fates = l.fates }, said_none line line is refl e.1), w)
 
@@ -52,10 +53,10 @@ passes settings period (code.Idle ticks) s is = (refl, refl)
 passes settings period (code.Open stop) s is = absurd cc
 passes settings period (code.Round fates stop) s is = absurd cc
 
-pub wait_after : (openings k : ℕ) (settings : StationSettings) (period : ℕ) (x : code_step.Step) (s : Stage) (run : Run) (line now : Sim) (disk : Stopping MemDisk) (old : Option (List ℕ)) → waits x ≡ true → HoldsAt openings settings s run disk → LineAt s line
+pub wait_after : {T : Type 0} (telling : Telling T) (openings k : ℕ) (settings : StationSettings) (period : ℕ) (x : code_step.Step) (s : Stage) (run : Run) (line now : Sim) (disk : Stopping MemDisk) (old : T) → waits x ≡ true → HoldsAt openings settings s run disk → LineAt s line
     → StandsFor now (passed (step_of period x) s.line) → fates_of now.fates ≡ fates_of line.fates → now.talk.items ≡ line.talk.items
-    → After false settings (step_of period x) s (λ is u. HoldsAt (openings + k) settings u run disk × LineAt u now × HasSaid is line now) old old
-wait_after openings k settings period x s run line now disk old is h l stands fates talk = (
+    → After telling false settings (step_of period x) s (λ is u. HoldsAt (openings + k) settings u run disk × LineAt u now × HasSaid is line now) old old
+wait_after telling openings k settings period x s run line now disk old is h l stands fates talk = (
   [],
   on_line s (passed (step_of period x) s.line),
   passes settings period x s is,
@@ -64,11 +65,11 @@ wait_after openings k settings period x s run line now disk old is h l stands fa
     record { stands = stands; fates = fates ∙ l.fates },
     said_none line now [] talk refl,
   ),
-  appends_none old,
+  telling.tells_none old,
 )
 
-pub wait_cut : (settings : StationSettings) (x : Step) (s : Stage) (old : Option (List ℕ)) → IsCut settings x s old old
-wait_cut settings x s old = inr (inr (inr (appends_none old)))
+pub wait_cut : {T : Type 0} (telling : Telling T) (settings : StationSettings) (x : Step) (s : Stage) (old : T) → IsCut telling settings x s old old
+wait_cut telling settings x s old = inr (inr (inr (telling.tells_none old)))
 
 pub waiting : (x : code_step.Step) → ((rec : Rec52) × (x ≡ code.Due rec)) ⊎ (((first : Rec52) × (count : ℕ) × (x ≡ code.Run first count)) ⊎ ((ticks : ℕ) × (x ≡ code.Idle ticks))) → waits x ≡ true
 waiting x (inl h) = ap waits h.1

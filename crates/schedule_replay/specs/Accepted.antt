@@ -1,5 +1,5 @@
 -- What holds of each schedule that is accepted.
-use Rattle.std.specs.Prelude.{ℕ, ◌≡◌, ◌≤◌, length}
+use Rattle.std.specs.Prelude.{ℕ, ◌≡◌, ◌≤◌, List, length}
 use Rattle.std.specs.List.{AllByRecursion}
 use Rattle.archive_record.specs.Record.{IsRecord}
 use Rattle.station_sim.specs.declared.schedule.Schedule.{Schedule}
@@ -27,6 +27,14 @@ IsInRange period (code.Run first count) = IsRun period first count
 IsInRange period (code.Idle ticks) = Unit {0}
 IsInRange period (code.Open stop) = IsStop (stop_set stop)
 IsInRange period (code.Round fates stop) = IsStop (stop_set stop)
+
+-- Steps of this period keep the rules of a schedule and are in their ranges, at most 200 of them open a session or
+-- make a round, and at most 20,000 records fall due in them.
+pub record AreAccepted (period : ℕ) (steps : List code_step.Step) : Type 0 where
+  pub rules : IsSchedule (steps_for period steps)
+  pub ranges : AllByRecursion (IsInRange period) steps
+  pub few_lines : lines (steps_for period steps) ≤ 200
+  pub few_records : length (records (steps_for period steps)) ≤ 20000
 
 -- Its steps keep the rules of a schedule and are in their ranges, at most 200 of them open a session or make a round,
 -- and its records are as many as it tells, which are at most 20,000.

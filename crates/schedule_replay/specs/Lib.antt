@@ -1,7 +1,11 @@
 pub mod Accepted
+pub mod Counting
+pub mod Left
 pub mod Opening
 pub mod Played
+pub mod Playing
 pub mod Replayed
+pub mod Replaying
 pub mod Restarting
 pub mod Resting
 pub mod RoundLine
@@ -11,4 +15,8 @@ pub mod SoFar
 pub mod Standing
 pub mod Steps
 pub mod Stops
+pub mod Telling
+pub mod TextTelling
+pub mod Told
+pub mod Turns
 pub mod Writing

@@ -1,7 +1,5 @@
 -- Where the replay of a schedule stands after some of its steps.
 use Rattle.std.specs.Prelude.{◌≡◌, ℕ, ◌≤◌, List}
-use Rattle.std.specs.declared.option.Option.{Option}
-use Rattle.std.specs.Io.KnownBytes.{Appends}
 use Rattle.settings_file.specs.StationSettings.{StationSettings}
 use Rattle.disk_model.specs.declared.mem_disk.MemDisk.{MemDisk}
 use Rattle.disk_model.specs.declared.stopping.Stopping.{Stopping}
@@ -9,16 +7,14 @@ use Rattle.station_sim.specs.declared.sim.Sim.{Sim}
 use Rattle.station_replay.specs.Schedule.{Step}
 use Rattle.station_replay.specs.Replay.{Item, Runs, Stage}
 use Rattle.station_replay.specs.Room.{lines}
-use Rattle.station_replay.specs.Texts.{text}
 use Rattle.schedule_replay.specs.declared.run.Run.{Run}
 use Rattle.schedule_replay.specs.Opening.{limits_of}
 use Rattle.schedule_replay.specs.Standing.{HasSaid, HoldsAt, LineAt}
 
--- These steps were taken from a stage: their items are written, the run, its line and its disk stand where they lead,
--- and there were no more openings than steps.
-pub record SoFar (settings : StationSettings) (from : Stage) (steps : List Step) (old new : Option (List ℕ))
+-- These steps were taken from a stage, and gave these items: the run, its line and its disk stand where they lead, and
+-- there were no more openings than steps.
+pub record SoFar (settings : StationSettings) (from : Stage) (steps : List Step) (items : List Item)
     (before line : Sim) (first disk : Stopping MemDisk) (run : Run) : Type 0 where
-  pub items : List Item
   pub stage : Stage
   pub runs : Runs settings steps from items stage
   pub openings : ℕ
@@ -27,4 +23,3 @@ pub record SoFar (settings : StationSettings) (from : Stage) (steps : List Step)
   pub at : LineAt stage line
   pub said : HasSaid items before line
   pub limits : limits_of disk ≡ limits_of first
-  pub written : Appends old new (text items)

@@ -1,5 +1,5 @@
 -- Where a run stands between its steps.
-use Rattle.std.specs.Prelude.{◌≡◌, ℕ, ◌+◌, ◌*◌, ◌≤◌, ◌<◌, Bool, true, false, not, if◌then◌else◌, List, [], ◌∷◌, ◌++◌, length, Some, None}
+use Rattle.std.specs.Prelude.{◌≡◌, ℕ, ◌+◌, ◌*◌, ◌≤◌, ◌<◌, Bool, true, false, not, if◌then◌else◌, List, [], ◌∷◌, ◌++◌, length, get_or, Some, None}
 use Rattle.std.specs.declared.option.Option.{Option}
 use Rattle.station_base.specs.declared.row.Row.{Row}
 use Rattle.settings_file.specs.StationSettings.{StationSettings}
@@ -11,19 +11,21 @@ use Rattle.station_session.specs.Attempts.{all_said}
 use Rattle.station_sim.specs.declared.sim.Sim.{Sim}
 use Rattle.station_sim.specs.Lists.{fates_of, left_in}
 use Rattle.station_sim.specs.declared.fates.Fates as code_fates
+use Rattle.station_sim.specs.declared.schedule.step.Step as code_step
+use Rattle.station_sim.specs.declared.schedule.step.Step.TheVariants as code
 use Rattle.station_sim.specs.declared.schedule.step.Stop as code_stop
-use Rattle.std.specs.Io.KnownBytes.{Appends}
 use Rattle.station_sim.specs.Standing.{StandsFor}
 use Rattle.station_replay.specs.Schedule.{Step, no_fates}
 use Rattle.station_replay.specs.Replay.{Does, Item, Rounded, Stage, is_stop, opened}
 use Rattle.station_replay.specs.Keeping.{Archive}
 use Rattle.station_replay.specs.Stopped.{IsStop}
-use Rattle.station_replay.specs.Texts.{text, tried_of}
+use Rattle.station_replay.specs.Texts.{tried_of}
 use Rattle.schedule_replay.specs.declared.run.Run.{Run}
 use Rattle.schedule_replay.specs.Opening.{CanOpen, limits_of}
-use Rattle.schedule_replay.specs.Played.{IsCounted}
+use Rattle.schedule_replay.specs.Played.{Host, IsCounted, MayPlay}
 use Rattle.schedule_replay.specs.Resting.{AtRest, GoesOn, IsRoomFor}
 use Rattle.schedule_replay.specs.Stops.{stop_set}
+use Rattle.schedule_replay.specs.Telling.{Telling}
 
 -- by whether the run is open: its session goes on, or it has none
 abbrev pub HasSession : Bool → StationSettings → List Row → Option Session → Stopping MemDisk → Type 0
@@ -81,6 +83,20 @@ open_step stop = Step.Open (stop_set stop)
 abbrev pub round_step : code_fates.Fates → Option code_stop.Stop → Step
 round_step fates stop = Step.Round (fates_of fates) (left_in fates.mids.items) (stop_set stop)
 
+-- the step makes no round
+abbrev pub IsNoRound : code_step.Step → Type 0
+IsNoRound (code.Due rec) = Unit {0}
+IsNoRound (code.Run first count) = Unit {0}
+IsNoRound (code.Idle ticks) = Unit {0}
+IsNoRound (code.Open stop) = Unit {0}
+IsNoRound (code.Round fates stop) = ⊥
+
+-- The next step of a run that took so many makes a round, under these fates and with this stop.
+pub record IsNextRound (steps : List code_step.Step) (taken : ℕ) (fates : code_fates.Fates)
+    (stop : Option code_stop.Stop) : Type 0 where
+  pub within : taken < length steps
+  pub is : code.Round fates stop ≡ get_or steps taken (code.Round fates stop)
+
 -- a run of so many records may take the step at this stage
 abbrev pub StandsThere : ℕ → ℕ → StationSettings → Step → Stage → Stopping MemDisk → Type 0
 StandsThere records openings settings x s disk = HasRunRoom records openings s disk × MayTake records settings x s
@@ -105,12 +121,20 @@ pub record Readies (openings : ℕ) (settings : StationSettings) (s : Stage) (ru
   pub written : run.written ≡ (opened s.is_open s).written
   pub none : run.session ≡ None
 
--- the step is taken, its items are written, and the run stands where it leads
-abbrev pub LeadsTo : ℕ → StationSettings → Step → Stage → Run → Stopping MemDisk → Option (List ℕ) → Option (List ℕ)
+-- A round was begun with this host at this stage, which is open, so many openings made. The run is without its session.
+pub record WasBegun (records openings : ℕ) (settings : StationSettings) (s : Stage) (fates : code_fates.Fates)
+    (old : Host) (run : Run) : Type 0 where
+  pub may : MayPlay records settings (fates_of fates) openings s old
+  pub is_open : s.is_open ≡ true
+  pub rounds : run.rounds ≡ s.rounds
+  pub written : run.written ≡ s.written
+
+-- the step is taken, its items are told, and the run stands where it leads
+abbrev pub LeadsTo : {T : Type 0} → Telling T → ℕ → StationSettings → Step → Stage → Run → Stopping MemDisk → T → T
     → Type 0
-LeadsTo openings settings x s run disk old new =
+LeadsTo telling openings settings x s run disk old new =
     (is : List Item) × (u : Stage) × Does settings x s is u × HoldsAt openings settings u run disk
-    × Appends old new (text is)
+    × telling.tells old is new
 
 -- A round was told: the disk is at rest with the archive that it left, its session goes on unless it was stopped, and
 -- all its rows are written, or so many as before.

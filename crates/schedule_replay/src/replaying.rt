@@ -1,29 +1,32 @@
-ghost use Rattle.std.specs.Prelude.{◌≡◌, ◌≢◌, ◌⊎◌, List, ℕ, true, false, IfOk, OnErr, Err};
+ghost use Rattle.std.specs.Prelude.{◌≡◌, ◌≢◌, ◌⊎◌, List, ℕ, true, false, length};
 ghost use Rattle.causes.specs.Cause.{Cause};
 ghost use Rattle.loop_packet.specs.declared.packet.LoopPacket.{LoopPacket};
 ghost use Rattle.station_replay.specs.Replay.{start};
-ghost use Rattle.schedule_replay.specs.Accepted.{IsAccepted};
+ghost use Rattle.station_replay.specs.Schedule.{records};
+ghost use Rattle.schedule_replay.specs.Accepted.{AreAccepted, IsAccepted};
 ghost use Rattle.schedule_replay.specs.Replayed.{IsCutOff, IsNewDisk, IsReplayed, TookPart, steps_in};
 ghost use Rattle.schedule_replay.specs.Standing.{LineAt};
+ghost use Rattle.schedule_replay.specs.Steps.{steps_for};
+ghost use Rattle.schedule_replay.specs.Told.{TakesPart, TellsFront, TellsRun};
 
-use crate::cut::Cut;
-use crate::run::Run;
+use crate::teller::Teller;
+use crate::turns::{ReplayRun, ReplayTurn};
 use disk_model::{MemDisk, Stopping};
 use settings_file::Settings;
 use station_io::Sink;
-use station_sim::{Schedule, Sim};
+use station_sim::{Schedule, Sim, Step};
 use std::alloc::Global;
 
 /// How the replay of a schedule ended.
 #[derive(Clone, Copy, Debug, PartialEq, Eq)]
 pub enum ReplayEnd {
-    /// All steps were taken, the archive was opened where it was closed, and all is written.
+    /// All steps were taken, the archive was opened where it was closed, and all is told.
     Done,
-    /// A delivery of a round was unseen: one that was harmed and passes for whole. What was before it is written, and its line.
+    /// A delivery of a round was unseen: one that was harmed and passes for whole. What was before it is told, and its item.
     Unseen,
-    /// A write failed. A front of what was to be written is.
+    /// A write failed. A front of what was to be told is.
     WriteFault,
-    /// The run found no memory. A front of what was to be written is.
+    /// The run found no memory. A front of what was to be told is.
     OutOfMemory,
 }
 
@@ -59,43 +62,43 @@ pub fn replay<K: Sink>(
     ensures write_fault { Cause (K.outlet.faults out.old) (K.outlet.faults out.new) (result ≡ ReplayEnd.WriteFault) }
     ensures sink_still { result ≢ ReplayEnd.WriteFault → K.outlet.faults out.new ≡ K.outlet.faults out.old }
 {
-    match take_all(alloc, settings, schedule, line, disk, out) {
-        Ok(false) => ReplayEnd::Done,
-        Ok(true) => ReplayEnd::Unseen,
-        Err(Cut::WriteFault) => ReplayEnd::WriteFault,
-        Err(Cut::OutOfMemory) => ReplayEnd::OutOfMemory,
-    }
+    replay_steps(alloc, settings, schedule.steps(), line, disk, out)
 }
 
-// Takes all steps of a schedule and then its end, and writes what they give. Answers whether a delivery was unseen.
-fn take_all<K: Sink>(
+/// Replays the steps of a schedule as `replay` does, and tells each item to the teller as soon as it is known.
+pub fn replay_steps<T: Teller>(
     alloc: Global,
     settings: &Settings,
-    schedule: &Schedule,
+    steps: &[Step],
     line: &mut Sim,
     disk: &mut Stopping<MemDisk>,
-    out: &mut K,
-) -> Result<bool, Cut>
-    requires period { schedule.now.period ≡ settings.now.period }
-    requires accepted { IsAccepted schedule.now }
+    teller: &mut T,
+) -> ReplayEnd
+    requires accepted { AreAccepted settings.now.period steps.now }
     requires line { (eeprom : List ℕ) × (packet : LoopPacket) × LineAt (start eeprom packet) line.old
-        × IsNewDisk schedule.now.records eeprom packet disk.old }
-    ensures replayed { IfOk result (λ unseen. (eeprom : List ℕ) (packet : LoopPacket) → LineAt (start eeprom packet) line.old
-        → IsReplayed unseen settings.now (start eeprom packet) (steps_in schedule.now) (K.outlet.taken out.old) (K.outlet.taken out.new)) }
-    ensures took_part { IfOk result (λ unseen. unseen ≡ false → (eeprom : List ℕ) (packet : LoopPacket) → LineAt (start eeprom packet) line.old
-        → TookPart settings.now (start eeprom packet) (steps_in schedule.now) (K.outlet.taken out.old) (K.outlet.taken out.new)
-        line.old line.new disk.new) }
-    ensures cut_off { OnErr result ((eeprom : List ℕ) (packet : LoopPacket) → LineAt (start eeprom packet) line.old
-        → IsCutOff settings.now (start eeprom packet) (steps_in schedule.now) (K.outlet.taken out.old) (K.outlet.taken out.new)) }
-    ensures write_fault { Cause (K.outlet.faults out.old) (K.outlet.faults out.new) (result ≡ Err Cut.WriteFault) }
-    ensures sink_still { result ≢ Err Cut.WriteFault → K.outlet.faults out.new ≡ K.outlet.faults out.old }
+        × IsNewDisk (length (records (steps_for settings.now.period steps.now))) eeprom packet disk.old }
+
+    ensures done { result ≡ ReplayEnd.Done → (eeprom : List ℕ) (packet : LoopPacket) → LineAt (start eeprom packet) line.old
+        → TellsRun T.telling false settings.now (start eeprom packet) (steps_for settings.now.period steps.now) teller.old teller.new }
+    ensures unseen { result ≡ ReplayEnd.Unseen → (eeprom : List ℕ) (packet : LoopPacket) → LineAt (start eeprom packet) line.old
+        → TellsRun T.telling true settings.now (start eeprom packet) (steps_for settings.now.period steps.now) teller.old teller.new }
+    ensures cut_off { (result ≡ ReplayEnd.WriteFault) ⊎ (result ≡ ReplayEnd.OutOfMemory) → (eeprom : List ℕ) (packet : LoopPacket)
+        → LineAt (start eeprom packet) line.old
+        → TellsFront T.telling settings.now (start eeprom packet) (steps_for settings.now.period steps.now) teller.old teller.new }
+    ensures took_part { result ≡ ReplayEnd.Done → (eeprom : List ℕ) (packet : LoopPacket) → LineAt (start eeprom packet) line.old
+        → TakesPart T.telling settings.now (start eeprom packet) (steps_for settings.now.period steps.now) teller.old teller.new
+        line.old line.new disk.new }
+    ensures write_fault { Cause (T.telling.faults teller.old) (T.telling.faults teller.new) (result ≡ ReplayEnd.WriteFault) }
+    ensures still { result ≢ ReplayEnd.WriteFault → T.telling.faults teller.new ≡ T.telling.faults teller.old }
 {
-    let mut run = Run::new();
-    for step in schedule.steps() {
-        if run.take(alloc, settings, step, line, disk, out)? {
-            return Ok(true);
+    let mut run = ReplayRun::new(alloc, settings);
+    'turns: loop {
+        match run.turn(steps, line, disk, teller) {
+            ReplayTurn::More => {}
+            ReplayTurn::Ended => return ReplayEnd::Done,
+            ReplayTurn::Unseen => return ReplayEnd::Unseen,
+            ReplayTurn::WriteFault => return ReplayEnd::WriteFault,
+            ReplayTurn::OutOfMemory => return ReplayEnd::OutOfMemory,
         }
     }
-    run.close(alloc, settings, disk, out)?;
-    Ok(false)
 }

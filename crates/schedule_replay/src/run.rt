@@ -1,45 +1,46 @@
-ghost use Rattle.std.specs.Prelude.{◌≡◌, ◌≢◌, ◌+◌, ◌*◌, ◌≤◌, ◌^◌, ◌<◌, ℕ, true, false, not, List, length, None, IfOk, IfErr, OnOk, OnErr, Err};
-ghost use Rattle.std.specs.Io.KnownBytes.{Appends};
+ghost use Rattle.std.specs.Prelude.{◌≡◌, ◌≢◌, ◌+◌, ◌*◌, ◌≤◌, ◌^◌, ◌<◌, ℕ, true, false, not, List, [], ◌∷◌, length, None, IfOk, OnOk, OnErr, Err, is_some};
 ghost use Rattle.causes.specs.Cause.{Cause};
-ghost use Rattle.causes.specs.Written.{WritesPart};
 ghost use Rattle.station_base.specs.declared.row.Row.{Row};
 ghost use Rattle.settings_file.specs.StationSettings.{StationSettings};
 ghost use Rattle.weather_book.specs.Book as book;
+ghost use Rattle.disk_model.specs.Stopping.{stopping_medium};
 ghost use Rattle.station_session.specs.Session.{book_of};
-ghost use Rattle.station_replay.specs.Replay.{Does, Item, Rounded, Stage, closing, first, is_stop, opened};
+ghost use Rattle.station_replay.specs.Replay.{Does, Item, Rounded, Stage, first, is_stop, opened};
 ghost use Rattle.station_replay.specs.Session.{EndsAs};
 ghost use Rattle.station_replay.specs.Stopped.{IsStop};
-ghost use Rattle.station_replay.specs.Texts.{text, text_of};
 ghost use Rattle.schedule_replay.specs.Opening.{limits_of};
-ghost use Rattle.schedule_replay.specs.Played.{IsToldOf, IsTellable};
+ghost use Rattle.schedule_replay.specs.Played.{Host, IsToldOf, IsTellable};
+ghost use Rattle.schedule_replay.specs.Playing.{IsOver, IsStill};
 ghost use Rattle.schedule_replay.specs.Resting.{AtRest, GoesOn};
 ghost use Rattle.schedule_replay.specs.RoundLine.{ending_of};
 ghost use Rattle.schedule_replay.specs.Running.{After, IsCut};
+ghost use Rattle.schedule_replay.specs.Left.{left_to_open};
 ghost use Rattle.station_replay.specs.Keeping.{Archive};
 ghost use Rattle.station_replay.specs.Room.{line_of};
 ghost use Rattle.station_replay.specs.Round.{Ending};
-ghost use Rattle.schedule_replay.specs.Standing.{HasSaid, HoldsAt, IsTold, LeadsTo, LineAt, MayOpen, MayRun, Readies, StandsThere, open_step, round_step};
+ghost use Rattle.schedule_replay.specs.Standing.{HasSaid, HoldsAt, IsTold, LeadsTo, IsNoRound, LineAt, MayOpen, MayRun, Readies, StandsThere, WasBegun, open_step, round_step};
+ghost use Rattle.station_sim.specs.declared.fates.Fates as code_fates;
 ghost use Rattle.schedule_replay.specs.Accepted.{IsInRange};
 ghost use Rattle.schedule_replay.specs.Steps.{step_of};
 ghost use Rattle.schedule_replay.specs.Stops.{stop_set};
-ghost use Rattle.schedule_replay.specs.Writing.{IsOnlyRead, IsReadable, Writes};
+ghost use Rattle.schedule_replay.specs.Telling.{TellsAll};
+ghost use Rattle.schedule_replay.specs.Writing.{IsOnlyRead, IsReadable};
 
 use crate::cut::Cut;
 use crate::opening::{recover, recover_with_stop};
-use crate::playing::{Played, play};
+use crate::playing::{Played, Playing, end_play};
 use crate::round_line::{RoundEnding, RoundLine};
 use crate::steps::wait;
-use crate::writing::{write_end, write_opening, write_round, write_stopped_opening, write_unseen};
+use crate::teller::Teller;
 use causes::OutOfMemory;
 use disk_model::{MemDisk, Stopping};
 use settings_file::Settings;
-use station_io::Sink;
 use station_session::{RoundEnd, Session};
-use station_sim::{Fates, Sim, Step, Stop};
+use station_sim::{Sim, Step, Stop};
 use std::alloc::Global;
 
-/// A run of a schedule between two of its steps: its session, where the archive is open, the rounds so far, and how many
-/// rows were written.
+/// A run of a schedule: its session, where the archive is open and no round is under way, the rounds so far, and how many
+/// rows were told.
 #[derive(Drop)]
 pub struct Run {
     pub session: Option<Session>,
@@ -48,7 +49,7 @@ pub struct Run {
 }
 
 impl Run {
-    /// A run that begins: nothing is open and nothing was written.
+    /// A run that begins: nothing is open and nothing was told.
     pub fn new() -> Run
         ensures session { result.session ≡ None }
         ensures rounds { result.rounds ≡ 0 }
@@ -61,60 +62,60 @@ impl Run {
         }
     }
 
-    /// Opens the archive, on a disk that stops within one of the changes of the opening where a stop is set, and writes what
+    /// Opens the archive, on a disk that stops within one of the changes of the opening where a stop is set, and tells what
     /// that gives.
-    pub fn open<K: Sink>(
+    pub fn open<T: Teller>(
         &mut self,
         alloc: Global,
         settings: &Settings,
         stop: Option<Stop>,
         disk: &mut Stopping<MemDisk>,
-        out: &mut K,
+        teller: &mut T,
     ) -> Result<(), Cut>
         requires may { MayOpen settings.now self.old disk.old }
         requires stop { IsStop (stop_set stop) }
         ensures ok { OnOk result ((openings : ℕ) (s : Stage) → HoldsAt openings settings.now s self.old disk.old
-            → LeadsTo (openings + 1) settings.now (open_step stop) s self.new disk.new (K.outlet.taken out.old) (K.outlet.taken out.new)) }
+            → LeadsTo T.telling (openings + 1) settings.now (open_step stop) s self.new disk.new teller.old teller.new) }
         ensures err { OnErr result ((openings : ℕ) (s : Stage) → HoldsAt openings settings.now s self.old disk.old
-            → IsCut settings.now (open_step stop) s (K.outlet.taken out.old) (K.outlet.taken out.new)) }
+            → IsCut T.telling settings.now (open_step stop) s teller.old teller.new) }
         ensures limits { limits_of disk.new ≡ limits_of disk.old }
-        ensures cause { Cause (K.outlet.faults out.old) (K.outlet.faults out.new) (result ≡ Err Cut.WriteFault) }
-        ensures still { result ≢ Err Cut.WriteFault → K.outlet.faults out.new ≡ K.outlet.faults out.old }
+        ensures cause { Cause (T.telling.faults teller.old) (T.telling.faults teller.new) (result ≡ Err Cut.WriteFault) }
+        ensures still { result ≢ Err Cut.WriteFault → T.telling.faults teller.new ≡ T.telling.faults teller.old }
     {
         self.session = None;
         let Some(stop) = stop else {
-            let session = self.ready(alloc, settings, disk, out)?;
+            let session = self.ready(alloc, settings, disk, teller)?;
             self.session = Some(session);
             return Ok(());
         };
         match recover_with_stop(alloc, settings, stop, disk) {
             Ok(Some(session)) => {
-                self.tell_opening(&session, disk, out)?;
+                self.tell_opening(&session, disk, teller)?;
                 self.session = Some(session);
                 Ok(())
             }
-            Ok(None) => write_stopped_opening(out, stop.change),
+            Ok(None) => teller.open_stopped(stop.change),
             Err(_) => Err(Cut::OutOfMemory),
         }
     }
 
-    // The session of the run. Where the archive is not open it is opened first, and what that gives is written.
-    fn ready<K: Sink>(
+    // The session of the run. Where the archive is not open it is opened first, and what that gives is told.
+    fn ready<T: Teller>(
         &mut self,
         alloc: Global,
         settings: &Settings,
         disk: &mut Stopping<MemDisk>,
-        out: &mut K,
+        teller: &mut T,
     ) -> Result<Session, Cut>
         requires may { MayOpen settings.now self.old disk.old }
         ensures ok { IfOk result (λ session. (openings : ℕ) (s : Stage) → HoldsAt openings settings.now s self.old disk.old
             → Readies openings settings.now s self.new session disk.new
-            × Appends (K.outlet.taken out.old) (K.outlet.taken out.new) (text (first s.is_open s))) }
+            × T.telling.tells teller.old (first s.is_open s) teller.new) }
         ensures err { OnErr result ((openings : ℕ) (s : Stage) → HoldsAt openings settings.now s self.old disk.old
-            → WritesPart (K.outlet.taken out.old) (K.outlet.taken out.new) (text (first s.is_open s))) }
+            → T.telling.breaks_off teller.old (first s.is_open s) teller.new) }
         ensures limits { limits_of disk.new ≡ limits_of disk.old }
-        ensures cause { Cause (K.outlet.faults out.old) (K.outlet.faults out.new) (result ≡ Err Cut.WriteFault) }
-        ensures still { result ≢ Err Cut.WriteFault → K.outlet.faults out.new ≡ K.outlet.faults out.old }
+        ensures cause { Cause (T.telling.faults teller.old) (T.telling.faults teller.new) (result ≡ Err Cut.WriteFault) }
+        ensures still { result ≢ Err Cut.WriteFault → T.telling.faults teller.new ≡ T.telling.faults teller.old }
     {
         if let Some(session) = self.session.take() {
             return Ok(session);
@@ -122,136 +123,157 @@ impl Run {
         let Ok(session) = recover(alloc, settings, disk) else {
             return Err(Cut::OutOfMemory);
         };
-        self.tell_opening(&session, disk, out)?;
+        self.tell_opening(&session, disk, teller)?;
         Ok(session)
     }
 
-    // Writes what the opening of this session gives.
-    fn tell_opening<K: Sink>(
+    // Tells what the opening of this session gives.
+    fn tell_opening<T: Teller>(
         &mut self,
         session: &Session,
         disk: &mut Stopping<MemDisk>,
-        out: &mut K,
+        teller: &mut T,
     ) -> Result<(), Cut>
         requires { IsReadable session.now disk.old }
-        ensures text { (settings : StationSettings) (rows : List Row) → GoesOn settings rows session.now disk.old
-            → Writes (K.outlet.taken out.old) (K.outlet.taken out.new) (text_of (Item.Opened rows self.old.written)) result }
+        ensures tells { (settings : StationSettings) (rows : List Row) → GoesOn settings rows session.now disk.old
+            → TellsAll T.telling teller.old (Item.Opened rows self.old.written ∷ []) result teller.new }
         ensures written { OnOk result ((rows : List Row) → book.StandsFor (book_of session.now) rows → self.new.written ≡ length rows) }
         ensures disk { IsOnlyRead disk.old disk.new }
         ensures session { self.new.session ≡ self.old.session }
         ensures rounds { self.new.rounds ≡ self.old.rounds }
-        ensures cause { Cause (K.outlet.faults out.old) (K.outlet.faults out.new) (result ≡ Err Cut.WriteFault) }
-        ensures still { result ≢ Err Cut.WriteFault → K.outlet.faults out.new ≡ K.outlet.faults out.old }
+        ensures cause { Cause (T.telling.faults teller.old) (T.telling.faults teller.new) (result ≡ Err Cut.WriteFault) }
+        ensures still { result ≢ Err Cut.WriteFault → T.telling.faults teller.new ≡ T.telling.faults teller.old }
     {
-        write_opening(session, disk, out, self.written)?;
+        teller.opened(session, disk, self.written)?;
         self.written = session.book().len();
         Ok(())
     }
 
-    /// Plays a round and writes what it gives, after an opening where the archive is not open. Answers whether a delivery was
-    /// unseen, with which the run ends.
-    pub fn round<K: Sink>(
+    /// Opens the archive where it is closed, ahead of a round or of the end, and tells what that gives.
+    pub fn recover<T: Teller>(
         &mut self,
         alloc: Global,
         settings: &Settings,
-        fates: &Fates,
-        stop: Option<Stop>,
+        disk: &mut Stopping<MemDisk>,
+        teller: &mut T,
+    ) -> Result<(), Cut>
+        requires may { MayOpen settings.now self.old disk.old }
+        ensures ok { OnOk result ((openings : ℕ) (s : Stage) → HoldsAt openings settings.now s self.old disk.old
+            → HoldsAt (openings + 1) settings.now (opened s.is_open s) self.new disk.new
+            × T.telling.tells teller.old (first s.is_open s) teller.new) }
+        ensures err { OnErr result ((openings : ℕ) (s : Stage) → HoldsAt openings settings.now s self.old disk.old
+            → T.telling.breaks_off teller.old (first s.is_open s) teller.new) }
+        ensures is_open { OnOk result (is_some self.new.session ≡ true) }
+        ensures limits { limits_of disk.new ≡ limits_of disk.old }
+        ensures cause { Cause (T.telling.faults teller.old) (T.telling.faults teller.new) (result ≡ Err Cut.WriteFault) }
+        ensures still { result ≢ Err Cut.WriteFault → T.telling.faults teller.new ≡ T.telling.faults teller.old }
+    {
+        let session = self.ready(alloc, settings, disk, teller)?;
+        self.session = Some(session);
+        Ok(())
+    }
+
+    /// Ends a round that ended so, and tells what it gives. Answers whether a delivery was unseen, with which the run ends.
+    pub fn end_round<T: Teller>(
+        &mut self,
+        end: RoundEnd,
+        playing: Playing,
         line: &mut Sim,
         disk: &mut Stopping<MemDisk>,
-        out: &mut K,
+        teller: &mut T,
     ) -> Result<bool, Cut>
-        requires may { MayRun settings.now (round_step fates.now stop) self.old line.old disk.old }
-        requires stop { IsStop (stop_set stop) }
-        ensures ok { IfOk result (λ unseen. (records openings : ℕ) (s : Stage) → HoldsAt openings settings.now s self.old disk.old → LineAt s line.old
-            → StandsThere records openings settings.now (round_step fates.now stop) s disk.old
-            → After unseen settings.now (round_step fates.now stop) s
-            (λ is u. HoldsAt (openings + 1) settings.now u self.new disk.new × LineAt u line.new × HasSaid is line.old line.new)
-            (K.outlet.taken out.old) (K.outlet.taken out.new)) }
-        ensures err { OnErr result ((records openings : ℕ) (s : Stage) → HoldsAt openings settings.now s self.old disk.old → LineAt s line.old
-            → StandsThere records openings settings.now (round_step fates.now stop) s disk.old
-            → IsCut settings.now (round_step fates.now stop) s
-            (K.outlet.taken out.old) (K.outlet.taken out.new)) }
-        ensures limits { IfOk result (λ unseen. unseen ≡ false → limits_of disk.new ≡ limits_of disk.old) }
-        ensures cause { Cause (K.outlet.faults out.old) (K.outlet.faults out.new) (result ≡ Err Cut.WriteFault) }
-        ensures still { result ≢ Err Cut.WriteFault → K.outlet.faults out.new ≡ K.outlet.faults out.old }
+        requires may { (settings : StationSettings) × (records : ℕ) × (openings : ℕ) × (s : Stage) × (fates : code_fates.Fates) × (old : Host)
+            × WasBegun records openings settings s fates old self.old
+            × IsOver fates (stop_set playing.stop) old end playing.session playing.report line.old disk.old × (self.old.rounds < 1000) }
+        ensures ok { IfOk result (λ unseen. (records openings : ℕ) (settings : StationSettings) (s : Stage) (fates : code_fates.Fates) (old : Host)
+            → WasBegun records openings settings s fates old self.old
+            → IsOver fates (stop_set playing.stop) old end playing.session playing.report line.old disk.old
+            → After T.telling unseen settings (round_step fates playing.stop) s
+            (λ is u. (HoldsAt openings settings u self.new disk.new × LineAt u line.new × HasSaid is old.link line.new)
+            × (limits_of disk.new ≡ limits_of old.disk)) teller.old teller.new) }
+        ensures err { OnErr result ((records openings : ℕ) (settings : StationSettings) (s : Stage) (fates : code_fates.Fates) (old : Host)
+            → WasBegun records openings settings s fates old self.old
+            → IsOver fates (stop_set playing.stop) old end playing.session playing.report line.old disk.old
+            → IsCut T.telling settings (round_step fates playing.stop) s teller.old teller.new) }
+        ensures is_still { OnOk result (IsStill line.old disk.old line.new disk.new) }
+        ensures cause { Cause (T.telling.faults teller.old) (T.telling.faults teller.new) (result ≡ Err Cut.WriteFault) }
+        ensures still { result ≢ Err Cut.WriteFault → T.telling.faults teller.new ≡ T.telling.faults teller.old }
     {
-        let mut session = self.ready(alloc, settings, disk, out)?;
-        let Ok(played) = play(alloc, &mut session, fates, stop, line, disk) else {
+        let Ok(played) = end_play(end, playing.report, line, disk) else {
             return Err(Cut::OutOfMemory);
         };
         self.rounds += 1;
         if let Some(which) = played.unseen {
-            write_unseen(out, self.rounds, which)?;
+            teller.unseen(self.rounds, which)?;
             return Ok(true);
         }
-        self.tell_round(session, stop, &played, disk, out)?;
+        self.tell_round(playing.session, playing.stop, &played, disk, teller)?;
         Ok(false)
     }
 
-    /// Takes one step of a schedule and writes what it gives. Answers whether a delivery was unseen, with which the run ends.
-    pub fn take<K: Sink>(
+    /// Takes one step of a schedule that makes no round, and tells what it gives.
+    pub fn take<T: Teller>(
         &mut self,
         alloc: Global,
         settings: &Settings,
         step: &Step,
         line: &mut Sim,
         disk: &mut Stopping<MemDisk>,
-        out: &mut K,
-    ) -> Result<bool, Cut>
+        teller: &mut T,
+    ) -> Result<(), Cut>
         requires may { MayRun settings.now (step_of settings.now.period step.now) self.old line.old disk.old }
         requires range { IsInRange settings.now.period step.now }
-        ensures ok { IfOk result (λ unseen. (records openings : ℕ) (s : Stage) → HoldsAt openings settings.now s self.old disk.old → LineAt s line.old
+        requires no_round { IsNoRound step.now }
+        ensures ok { OnOk result ((records openings : ℕ) (s : Stage) → HoldsAt openings settings.now s self.old disk.old → LineAt s line.old
             → StandsThere records openings settings.now (step_of settings.now.period step.now) s disk.old
-            → After unseen settings.now (step_of settings.now.period step.now) s
+            → After T.telling false settings.now (step_of settings.now.period step.now) s
             (λ is u. HoldsAt (openings + line_of (step_of settings.now.period step.now)) settings.now u self.new disk.new × LineAt u line.new × HasSaid is line.old line.new)
-            (K.outlet.taken out.old) (K.outlet.taken out.new)) }
+            teller.old teller.new) }
         ensures err { OnErr result ((records openings : ℕ) (s : Stage) → HoldsAt openings settings.now s self.old disk.old → LineAt s line.old
             → StandsThere records openings settings.now (step_of settings.now.period step.now) s disk.old
-            → IsCut settings.now (step_of settings.now.period step.now) s (K.outlet.taken out.old) (K.outlet.taken out.new)) }
-        ensures limits { IfOk result (λ unseen. unseen ≡ false → limits_of disk.new ≡ limits_of disk.old) }
-        ensures cause { Cause (K.outlet.faults out.old) (K.outlet.faults out.new) (result ≡ Err Cut.WriteFault) }
-        ensures still { result ≢ Err Cut.WriteFault → K.outlet.faults out.new ≡ K.outlet.faults out.old }
+            → IsCut T.telling settings.now (step_of settings.now.period step.now) s teller.old teller.new) }
+        ensures limits { limits_of disk.new ≡ limits_of disk.old }
+        ensures talk { line.new.talk.items ≡ line.old.talk.items }
+        ensures closes { left_to_open self.new.session ≤ left_to_open self.old.session + line_of (step_of settings.now.period step.now) }
+        ensures cause { Cause (T.telling.faults teller.old) (T.telling.faults teller.new) (result ≡ Err Cut.WriteFault) }
+        ensures still { result ≢ Err Cut.WriteFault → T.telling.faults teller.new ≡ T.telling.faults teller.old }
     {
         match step {
-            Step::Open(stop) => {
-                self.open(alloc, settings, *stop, disk, out)?;
-                Ok(false)
-            }
-            Step::Round { fates, stop } => self.round(
-                alloc, settings, fates, *stop, line, disk, out,
-            ),
+            Step::Open(stop) => self.open(alloc, settings, *stop, disk, teller),
             Step::Due(_) | Step::Run { .. } | Step::Idle(_) => match wait(
                 line,
                 step,
                 settings.period(),
             ) {
-                Ok(()) => Ok(false),
+                Ok(()) => Ok(()),
                 Err(_) => Err(Cut::OutOfMemory),
             },
+            Step::Round { .. } => unreachable!(),
         }
     }
 
-    // Writes what a round gives, and goes on with its session unless it was stopped.
-    fn tell_round<K: Sink>(
+    // Tells what a round gives, and goes on with its session unless it was stopped.
+    fn tell_round<T: Teller>(
         &mut self,
         session: Session,
         stop: Option<Stop>,
         played: &Played,
         disk: &mut Stopping<MemDisk>,
-        out: &mut K,
+        teller: &mut T,
     ) -> Result<(), Cut>
         requires { IsTellable (stop_set stop) session played.now disk.old }
         ensures ok { OnOk result ((settings : StationSettings) (openings : ℕ) (r : Rounded) (a : Archive)
             → IsToldOf settings openings (stop_set stop) session played.now disk.old r a → r.number ≡ self.old.rounds → r.written ≡ self.old.written
             → IsTold settings openings r a self.old.written self.new disk.new
-            × Appends (K.outlet.taken out.old) (K.outlet.taken out.new) (text_of (Item.Ran r))) }
+            × T.telling.tells teller.old (Item.Ran r ∷ []) teller.new) }
         ensures err { OnErr result ((settings : StationSettings) (openings : ℕ) (r : Rounded) (a : Archive)
             → IsToldOf settings openings (stop_set stop) session played.now disk.old r a → r.number ≡ self.old.rounds → r.written ≡ self.old.written
-            → WritesPart (K.outlet.taken out.old) (K.outlet.taken out.new) (text_of (Item.Ran r))) }
+            → T.telling.breaks_off teller.old (Item.Ran r ∷ []) teller.new) }
         ensures limits { limits_of disk.new ≡ limits_of disk.old }
+        ensures moment { stopping_medium.moment disk.new ≡ stopping_medium.moment disk.old }
         ensures rounds { self.new.rounds ≡ self.old.rounds }
-        ensures cause { Cause (K.outlet.faults out.old) (K.outlet.faults out.new) (result ≡ Err Cut.WriteFault) }
-        ensures still { result ≢ Err Cut.WriteFault → K.outlet.faults out.new ≡ K.outlet.faults out.old }
+        ensures cause { Cause (T.telling.faults teller.old) (T.telling.faults teller.new) (result ≡ Err Cut.WriteFault) }
+        ensures still { result ≢ Err Cut.WriteFault → T.telling.faults teller.new ≡ T.telling.faults teller.old }
     {
         self.session = None;
         let line = RoundLine {
@@ -264,34 +286,13 @@ impl Run {
             acked: played.report.acked(),
             rows: session.book().len(),
         };
-        write_round(&session, disk, out, &line, self.written)?;
+        teller.round(&session, disk, &line, self.written)?;
         if let RoundEnding::Stopped(_) = line.end {
             return Ok(());
         }
         self.written = line.rows;
         self.session = Some(session);
         Ok(())
-    }
-
-    /// Writes what the end of a run gives: an opening where the archive is not open, the days, and the last line.
-    pub fn close<K: Sink>(
-        &mut self,
-        alloc: Global,
-        settings: &Settings,
-        disk: &mut Stopping<MemDisk>,
-        out: &mut K,
-    ) -> Result<(), Cut>
-        requires may { MayOpen settings.now self.old disk.old }
-        ensures ok { OnOk result ((openings : ℕ) (s : Stage) → HoldsAt openings settings.now s self.old disk.old
-            → AtRest (openings + 1) (opened s.is_open s).archive disk.new
-            × Appends (K.outlet.taken out.old) (K.outlet.taken out.new) (text (closing s))) }
-        ensures err { OnErr result ((openings : ℕ) (s : Stage) → HoldsAt openings settings.now s self.old disk.old
-            → WritesPart (K.outlet.taken out.old) (K.outlet.taken out.new) (text (closing s))) }
-        ensures cause { Cause (K.outlet.faults out.old) (K.outlet.faults out.new) (result ≡ Err Cut.WriteFault) }
-        ensures still { result ≢ Err Cut.WriteFault → K.outlet.faults out.new ≡ K.outlet.faults out.old }
-    {
-        let session = self.ready(alloc, settings, disk, out)?;
-        write_end(&session, disk, out)
     }
 }
 

@@ -35,8 +35,8 @@ pub fn accepted(schedule: &Schedule)
     records_known(schedule.steps());
 }
 
-// Each record of the steps has its bytes.
-fn records_known(steps: &[Step])
+/// Each record of the steps has its fifty-two bytes. The steps are looked at, and nothing else happens.
+pub fn records_known(steps: &[Step])
     ensures { AllByRecursion HasRecord steps.now }
 {
     for step in steps {

@@ -23,8 +23,8 @@ use Rattle.station_session.specs.Turning.{desk}
 use Rattle.station_session.specs.UnderWay.{UnderWay}
 use Rattle.station_session.specs.declared.round.Begun.TheVariants as begun_as
 
-pub round_begun : (last : Option CivilMinute) (round : Round) → Shows no_tally last (begun last Settling) round.pump → round.more ≡ 2 → RoundAt last [] [] round
-round_begun last round shows more = record {
+pub round_begun : (last : Option CivilMinute) (round : Round) → Shows no_tally last (begun last Settling) round.pump → round.more ≡ 2 → round.troubles.items ≡ [] → RoundAt last [] [] round
+round_begun last round shows more none = record {
   tries = [];
   failed = tt;
   few = omega (arith, more);
@@ -38,17 +38,19 @@ round_begun last round shows more = record {
   goes_on = λ f. let z : Hearing Settling [] 0 ≡ Over f.0 f.1 (pump_end.Failed f.2) = f.3 in cc;
   talk_is = refl;
   kept_are = refl;
+  troubles = none;
 }
 
 pub fits_begun : (session : Session) (round : Round) (report : Report) → RoundAt (last_of session.book) [] [] round → is_stale session ≡ false → report.attempts + round.more ≡ 3 → report.tally ≡ round.pump.tally
-    → report.marks.items ≡ [] → 7695 ≤ spare session.book → 1539 ≤ vec_capacity report.marks → Fits session round report
-fits_begun session round report at fresh attempts tally none rows marks =
+    → report.troubles.items ≡ round.troubles.items → report.marks.items ≡ [] → 7695 ≤ spare session.book → 1539 ≤ vec_capacity report.marks → Fits session round report
+fits_begun session round report at fresh attempts tally troubles none rows marks =
     let count : vec_len report.marks ≡ 0 = omega (arith, report.marks.ok.0, ap (λ (x : List Mark). length x) none) in
     record {
       fresh = fresh;
       last = last_is at;
       attempts = attempts;
       tally = tally;
+      troubles = troubles;
       marked = record { last = last_of session.book; talk = []; kept = []; at = at; count_is = omega (arith, count) };
       rows = omega (arith, rows, count);
       marks = marks;

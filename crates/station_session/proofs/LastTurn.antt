@@ -28,7 +28,7 @@ use Rattle.station_session.proofs.WholeRound.{serves, not_stale, cause, waited, 
 
 -- the attempts of a round that is over, by its last turn
 made_all : {L D : Type 0} {traffic : Traffic L} {medium : Medium D} {settings : StationSettings} {link link' : L} {k l : Holding D} {last : Option CivilMinute} {talk : List TalkItem} {given : List Delivery} {end : RoundEnd} {report : Report} → last_of k.book ≡ last
-    → Adds traffic link talk link' → Chain (AddsBatch medium settings) k given l → EndsRound last talk given end report → MakesAttempts traffic medium settings end k link l link' report.attempts report.tally
+    → Adds traffic link talk link' → Chain (AddsBatch medium settings) k given l → EndsRound last talk given end report → MakesAttempts traffic medium settings end k link l link' report.attempts report.tally report.troubles.items
 made_all {L} {D} {traffic} {medium} {settings} {link} {link'} {k} {l} {last} {talk} {given} {end} {report} stamp adds chain e =
     let x : EndsRound (last_of k.book) talk given end report = subst (λ (o : Option CivilMinute). EndsRound o talk given end report) (sym stamp) e in
     record {
@@ -38,6 +38,7 @@ made_all {L} {D} {traffic} {medium} {settings} {link} {link'} {k} {l} {last} {ta
       chain = subst (λ (y : List Delivery). Chain (AddsBatch medium settings) k y l) x.given_are chain;
       count = x.made;
       counted = x.tally;
+      noted = x.troubles;
     }
 
 -- the chain of a round and of a turn
@@ -54,9 +55,9 @@ module _ {L D : Type 0} {traffic : Traffic L} {medium : Medium D} {before began 
   fresh : is_stale before ≡ false
   fresh = sym same.stale ∙ u.in_step.fresh
 
-  made : MakesAttempts traffic medium before.settings end (holding began.book disk []) link (holding new.session.book new.disk new.report.marks.items) new.link new.report.attempts new.report.tally
+  made : MakesAttempts traffic medium before.settings end (holding began.book disk []) link (holding new.session.book new.disk new.report.marks.items) new.link new.report.attempts new.report.tally new.report.troubles.items
   made =
-      subst (λ (x : StationSettings). MakesAttempts traffic medium x end (holding began.book disk []) link (holding new.session.book new.disk new.report.marks.items) new.link new.report.attempts new.report.tally) settings
+      subst (λ (x : StationSettings). MakesAttempts traffic medium x end (holding began.book disk []) link (holding new.session.book new.disk new.report.marks.items) new.link new.report.attempts new.report.tally new.report.troubles.items) settings
       (made_all refl (adds_joins u.adds t.adds) (chain_on u.in_step t) t.stands.0)
 
   serves_all : (rows : List Row) → StandsFor before rows → Serves traffic medium rows end (round_host before link disk) (round_host new.session new.link new.disk) new.report

@@ -55,9 +55,11 @@ pub record HasTurned {L D : Type 0} (traffic : Traffic L) (medium : Medium D) (e
       → StepsAttempt traffic medium (settings_of old.session) end start after s (bench old.round.pump old.link (holding old.session.book old.disk old.report.marks.items))
       (bench mid.pump new.link (holding new.session.book new.disk new.report.marks.items))
   pub more : mid.more ≡ old.round.more
+  pub noted : mid.troubles.items ≡ old.round.troubles.items
   pub goes : GoesOn end result (last_of new.session.book) mid new.round
   pub attempts : new.report.attempts + new.round.more ≡ 3
   pub tally : new.report.tally ≡ new.round.pump.tally
+  pub troubles : new.report.troubles.items ≡ new.round.troubles.items
   pub capacity : vec_capacity old.report.marks ≤ vec_capacity new.report.marks
   pub settings : settings_of new.session ≡ settings_of old.session
   pub before : new.report.rows_before ≡ old.report.rows_before
@@ -67,16 +69,18 @@ pub turned : {L D : Type 0} (traffic : Traffic L) (medium : Medium D) (old new :
     → ((start : Tally) (after : Option CivilMinute) (s : State) → Shows start after s old.round.pump
     → StepsAttempt traffic medium (settings_of old.session) end start after s (bench old.round.pump old.link (holding old.session.book old.disk old.report.marks.items))
     (bench mid.pump new.link (holding new.session.book new.disk new.report.marks.items)))
-    → mid.more ≡ old.round.more → o ≡ last_of new.session.book → GoesOn end result o mid new.round → new.report.attempts + new.round.more ≡ 3 → new.report.tally ≡ new.round.pump.tally
-    → vec_capacity old.report.marks ≤ vec_capacity new.report.marks → settings_of new.session ≡ settings_of old.session → new.report.rows_before ≡ old.report.rows_before → HasTurned traffic medium end result old new
-turned traffic medium old new end result mid o fits steps more last goes attempts tally capacity settings before = record {
+    → mid.more ≡ old.round.more → mid.troubles.items ≡ old.round.troubles.items → o ≡ last_of new.session.book → GoesOn end result o mid new.round → new.report.attempts + new.round.more ≡ 3 → new.report.tally ≡ new.round.pump.tally
+    → new.report.troubles.items ≡ new.round.troubles.items → vec_capacity old.report.marks ≤ vec_capacity new.report.marks → settings_of new.session ≡ settings_of old.session → new.report.rows_before ≡ old.report.rows_before → HasTurned traffic medium end result old new
+turned traffic medium old new end result mid o fits steps more noted last goes attempts tally troubles capacity settings before = record {
   fits = fits;
   mid = mid;
   steps = steps;
   more = more;
+  noted = noted;
   goes = subst (λ (x : Option CivilMinute). GoesOn end result x mid new.round) last goes;
   attempts = attempts;
   tally = tally;
+  troubles = troubles;
   capacity = capacity;
   settings = settings;
   before = before;
@@ -128,10 +132,10 @@ module _ {L D : Type 0} {traffic : Traffic L} {medium : Medium D} {end : Option 
   takes_by : (end : Option DumpEnd) (result : Turn) → GoesOn end result (last_of new.session.book) h.mid new.round → {last : Option CivilMinute} {talk : List TalkItem} {kept : List Delivery} (r : RoundAt last talk kept old.round)
       → steps_from end r → Taken traffic medium result last talk kept old new
   takes_by None turn.More (inl stay) {last} {talk} {kept} r v =
-      let one = stays r refl v h.mid new.round refl h.more stay in
+      let one = stays r refl v h.mid new.round refl h.more h.noted stay in
       record { turn = record { said = v.said; given = gives (stamp_behind last r.tries) r.state v.answers; adds = v.adds; chain = v.chain; stands = one }; spare = v.spare; answered = kept_done v.said (gives (stamp_behind last r.tries) r.state v.answers) one.1 }
   takes_by None turn.More (inr again) {last} {talk} {kept} r v =
-      let one = tries_again r refl v h.mid new.round refl h.more (last_of new.session.book) (new_last r (gives (stamp_behind last r.tries) r.state v.answers) v.chain) again in
+      let one = tries_again r refl v h.mid new.round refl h.more h.noted (last_of new.session.book) (new_last r (gives (stamp_behind last r.tries) r.state v.answers) v.chain) again in
       record {
         spare = v.spare;
         answered = kept_done v.said (gives (stamp_behind last r.tries) r.state v.answers) one.1;
@@ -151,7 +155,7 @@ module _ {L D : Type 0} {traffic : Traffic L} {medium : Medium D} {end : Option 
       given = gives (stamp_behind last r.tries) r.state v.answers;
       adds = v.adds;
       chain = v.chain;
-      stands = refuses r refl v h.mid new.round refl h.more e refused new.report h.attempts h.tally;
+      stands = refuses r refl v h.mid new.round refl h.more h.noted e refused new.report h.attempts h.tally h.troubles;
     };
   }
   takes_by (Some d) result (is, same) {last} {talk} {kept} r v = record {
@@ -163,7 +167,7 @@ module _ {L D : Type 0} {traffic : Traffic L} {medium : Medium D} {end : Option 
       adds = v.adds;
       chain = v.chain;
       stands = subst (λ (x : Turn). TurnsTo x last talk kept v.said (gives (stamp_behind last r.tries) r.state v.answers) new) (sym is)
-          (ends r refl d v h.mid new.round refl h.more same new.report h.attempts h.tally);
+          (ends r refl d v h.mid new.round refl h.more h.noted same new.report h.attempts h.tally h.troubles);
     };
   }
 
@@ -201,6 +205,7 @@ module _ {L D : Type 0} {traffic : Traffic L} {medium : Medium D} {end : Option 
         last = new_last r t.given t.chain ∙ last_is t.stands.0;
         attempts = h.attempts;
         tally = h.tally;
+        troubles = h.troubles;
         marked = record {
           last = h.fits.marked.last;
           talk = h.fits.marked.talk ++ t.said;

@@ -32,10 +32,11 @@ use Rattle.station_session.specs.Attempts.{Tried, Attempts, end_after, stamp_beh
 use Rattle.station_session.specs.Batches.{last_answer}
 use Rattle.station_session.specs.Round.{IsTally}
 use Rattle.station_session.specs.RoundAt.{HasFailed, RoundAt, tally_of}
-use Rattle.station_session.specs.Stepping.{Bench, StepsAttempt, StaysAt, TriesAgain, IsRefused, refused_by, round_end_of}
+use Rattle.station_session.specs.Stepping.{Bench, StepsAttempt, StaysAt, TriesAgain, IsRefused, Notes, refused_by, round_end_of}
+use Rattle.station_session.specs.Troubles.{trouble_of, troubles_of}
 use Rattle.station_session.specs.Turning.{IsOneCallOrBatch, IsOneAtMost, EndsRound}
 use Rattle.station_session.proofs.Brought.{Brought, over_brought, ended_brought}
-use Rattle.station_session.proofs.Rounds.{all, all_length, said_is, given_is, all_pages, counted, tally_is, all_failed, round_ends, gives_up, behind_is}
+use Rattle.station_session.proofs.Rounds.{all, all_length, said_is, given_is, troubles_is, all_pages, counted, tally_is, all_failed, round_ends, gives_up, behind_is}
 use Rattle.station_session.proofs.Ends.{answer_at}
 use Rattle.station_session.proofs.SoFar.{end_shown, over_at_end, never_refused}
 
@@ -54,6 +55,14 @@ refused_is pump_end.DiskFault end h = refl
 refused_is pump_end.Whole end h = cc
 refused_is (pump_end.Failed trouble) end h = cc
 refused_is pump_end.Flood end h = cc
+
+refused_quietly : (e : PumpEnd) (end : RoundEnd) → refused_by e ≡ Some end → trouble_of (dump_end_of e) ≡ []
+refused_quietly pump_end.Full end h = refl
+refused_quietly pump_end.Stale end h = refl
+refused_quietly pump_end.DiskFault end h = refl
+refused_quietly pump_end.Whole end h = cc
+refused_quietly (pump_end.Failed trouble) end h = cc
+refused_quietly pump_end.Flood end h = cc
 
 mild_answer : (e : PumpEnd) → end_of e ≢ End.Refused → answer_at (round_end_of (dump_end_of e)) ≡ stored.Done
 mild_answer pump_end.Whole h = refl
@@ -164,10 +173,15 @@ module _ {last : Option CivilMinute} {talk : List TalkItem} {kept : List Deliver
         ∙ ap (λ (x : List Delivery). all_batches last r.tries ++ x) (sym more_given)
         ∙ sym (given_is last r.tries (r.said ++ t) end (handed a s) tally r.failed less b)
 
-    pub ends_round : (e : RoundEnd) → (end_after end ≡ Some e) ⊎ ((end_after end ≡ None) × (e ≡ round_end.GaveUp) × (round.more ≡ 0)) → (report : Report) → report.attempts + round.more ≡ 3 → report.tally ≡ tally
-        → EndsRound last (talk ++ t) (kept ++ given) e report
+    troubles_are : (noted : List Trouble) → noted ≡ round.troubles.items ++ trouble_of end → noted ≡ troubles_of tries
     unfolding tries
-    ends_round e how report made counts = record {
+    troubles_are noted is =
+        is ∙ ap (λ (x : List Trouble). x ++ trouble_of end) r.troubles ∙ sym (troubles_is last r.tries (r.said ++ t) end (handed a s) tally r.failed less b)
+
+    pub ends_round : (e : RoundEnd) → (end_after end ≡ Some e) ⊎ ((end_after end ≡ None) × (e ≡ round_end.GaveUp) × (round.more ≡ 0)) → (report : Report) → report.attempts + round.more ≡ 3 → report.tally ≡ tally
+        → report.troubles.items ≡ round.troubles.items ++ trouble_of end → EndsRound last (talk ++ t) (kept ++ given) e report
+    unfolding tries
+    ends_round e how report made counts noted = record {
       tries = tries;
       attempts = ended how;
       talk_is = talk_is;
@@ -176,6 +190,7 @@ module _ {last : Option CivilMinute} {talk : List TalkItem} {kept : List Deliver
       some = omega (arith, made, r.few);
       few = omega (arith, ap (λ (x : Tally). x.pages) counts, b.pages, b.few, r.pages, r.few);
       tally = subst (λ (x : Tally). IsTally last tries x) (sym counts) (counted last r.tries (r.said ++ t) end (handed a s) tally r.failed less b);
+      troubles = troubles_are report.troubles.items noted;
     }
       where
         ended : (end_after end ≡ Some e) ⊎ ((end_after end ≡ None) × (e ≡ round_end.GaveUp) × (round.more ≡ 0)) → Attempts 0 last tries e
@@ -186,9 +201,9 @@ module _ {last : Option CivilMinute} {talk : List TalkItem} {kept : List Deliver
 
     -- it failed, and the next one begins
     pub again : (mid : Round) → end_after end ≡ None → mid.more ≡ round.more → mid.pump.tally ≡ tally → (o : Option CivilMinute) → o ≡ last_kept (kept ++ given) last
-        → (round' : Round) → round.more ≡ round'.more + 1 → Shows tally o (begun o Settling) round'.pump → RoundAt last (talk ++ t) (kept ++ given) round'
+        → (round' : Round) → round.more ≡ round'.more + 1 → Shows tally o (begun o Settling) round'.pump → round'.troubles.items ≡ round.troubles.items ++ trouble_of end → RoundAt last (talk ++ t) (kept ++ given) round'
     unfolding tries
-    again mid none more counts o is round' fewer shows =
+    again mid none more counts o is round' fewer shows noted =
         let stamp : stamp_behind last tries ≡ o = behind_is last tries ∙ ap (λ (x : List Delivery). last_kept x last) (sym kept_are) ∙ sym is in
         let same : tally ≡ tally_of last tries = tally_is last r.tries (r.said ++ t) end (handed a s) tally r.failed less b in
         record {
@@ -205,6 +220,7 @@ module _ {last : Option CivilMinute} {talk : List TalkItem} {kept : List Deliver
           goes_on = λ f. let z : Hearing Settling [] 0 ≡ Over f.0 f.1 (pump_end.Failed f.2) = f.3 in cc;
           talk_is = talk_is ∙ sym (append-nil (all_said tries));
           kept_are = kept_are ∙ sym (append-nil (all_batches last tries));
+          troubles = troubles_are round'.troubles.items noted;
         }
 
   -- a step after which nothing ended
@@ -222,8 +238,8 @@ module _ {last : Option CivilMinute} {talk : List TalkItem} {kept : List Deliver
     at = goes_on a r.said v.said r.answers v.answers r.state r.stands (shown_no_astray start a r.state round.pump r.shows)
 
     -- the attempt goes on
-    pub stays : (mid round' : Round) → mid.pump ≡ new.pump → mid.more ≡ round.more → StaysAt mid round' → RoundAt last (talk ++ v.said) (kept ++ gives a r.state v.answers) round' × IsOneCallOrBatch v.said (gives a r.state v.answers)
-    stays mid round' pump more (is, mild, zero) =
+    pub stays : (mid round' : Round) → mid.pump ≡ new.pump → mid.more ≡ round.more → mid.troubles.items ≡ round.troubles.items → StaysAt mid round' → RoundAt last (talk ++ v.said) (kept ++ gives a r.state v.answers) round' × IsOneCallOrBatch v.said (gives a r.state v.answers)
+    stays mid round' pump more noted (is, mild, zero) =
         let shown : Shows start a state mid.pump = subst (λ (x : Pump). Shows start a state x) (sym pump) v.turns.0 in
         let one = not_refused start a r.state v.said v.answers mid.pump shown mild v.turns.1 in (
           subst (λ (x : Round). RoundAt last (talk ++ v.said) (kept ++ gives a r.state v.answers) x) (sym is) (record {
@@ -242,6 +258,7 @@ module _ {last : Option CivilMinute} {talk : List TalkItem} {kept : List Deliver
             kept_are =
                 ap (λ (x : List Delivery). x ++ gives a r.state v.answers) r.kept_are ∙ append_assoc (all_batches last r.tries) (handed a r.state) (gives a r.state v.answers)
                 ∙ ap (λ (x : List Delivery). all_batches last r.tries ++ x) (sym given_more);
+            troubles = noted ∙ r.troubles;
           }),
           one.1,
         )
@@ -253,9 +270,9 @@ module _ {last : Option CivilMinute} {talk : List TalkItem} {kept : List Deliver
         over_brought start a (r.said ++ v.said) (r.answers ++ v.answers) state new.pump at v.turns.0 o.0 o.1 e o.2
 
     -- it failed, and the next one begins
-    pub tries_again : (mid round' : Round) → mid.pump ≡ new.pump → mid.more ≡ round.more → (o : Option CivilMinute) → o ≡ last_kept (kept ++ gives a r.state v.answers) last → TriesAgain o mid round'
+    pub tries_again : (mid round' : Round) → mid.pump ≡ new.pump → mid.more ≡ round.more → mid.troubles.items ≡ round.troubles.items → (o : Option CivilMinute) → o ≡ last_kept (kept ++ gives a r.state v.answers) last → TriesAgain o mid round'
         → RoundAt last (talk ++ v.said) (kept ++ gives a r.state v.answers) round' × IsOneCallOrBatch v.said (gives a r.state v.answers)
-    tries_again mid round' pump more o is (trouble, failed, fewer, shows) =
+    tries_again mid round' pump more before o is (trouble, failed, fewer, shows, noted) =
         let ended : end_at new.pump.stage ≡ Some (pump_end.Failed trouble) = sym (ap (λ (x : Pump). end_at x.stage) pump) ∙ failed in
         let b = brought (pump_end.Failed trouble) ended in
         let mild : (e : PumpEnd) → end_at new.pump.stage ≡ Some e → refused_by e ≡ None =
@@ -263,7 +280,8 @@ module _ {last : Option CivilMinute} {talk : List TalkItem} {kept : List Deliver
         let one = not_refused start a r.state v.said v.answers new.pump v.turns.0 mild v.turns.1 in
         let counts : mid.pump.tally ≡ new.pump.tally = ap (λ (x : Pump). x.tally) pump in (
           again v.said (gives a r.state v.answers) state (dump_end.Failed trouble) new.pump.tally b given_more mid refl more counts o is round' (omega (arith, fewer, more))
-              (subst (λ (x : Tally). Shows x o (begun o Settling) round'.pump) counts shows),
+              (subst (λ (x : Tally). Shows x o (begun o Settling) round'.pump) counts shows)
+              (noted ∙ ap (λ (x : List Trouble). x ++ trouble ∷ []) before),
           one.1,
         )
 
@@ -296,14 +314,15 @@ module _ {last : Option CivilMinute} {talk : List TalkItem} {kept : List Deliver
         ]
 
     -- its batch was refused
-    pub refuses : (mid round' : Round) → mid.pump ≡ new.pump → mid.more ≡ round.more → (end : RoundEnd) → IsRefused end mid round' → (report : Report) → report.attempts + round'.more ≡ 3 → report.tally ≡ round'.pump.tally
-        → EndsRound last (talk ++ v.said) (kept ++ gives a r.state v.answers) end report × IsOneAtMost v.said (gives a r.state v.answers)
-    refuses mid round' pump more end (is, e, at_end, refused) report made counts =
+    pub refuses : (mid round' : Round) → mid.pump ≡ new.pump → mid.more ≡ round.more → mid.troubles.items ≡ round.troubles.items → (end : RoundEnd) → IsRefused end mid round' → (report : Report) → report.attempts + round'.more ≡ 3 → report.tally ≡ round'.pump.tally
+        → report.troubles.items ≡ round'.troubles.items → EndsRound last (talk ++ v.said) (kept ++ gives a r.state v.answers) end report × IsOneAtMost v.said (gives a r.state v.answers)
+    refuses mid round' pump more before end (is, e, at_end, refused) report made counts noted =
         let ended : end_at new.pump.stage ≡ Some e = sym (ap (λ (x : Pump). end_at x.stage) pump) ∙ at_end in
         let b = brought e ended in
         let tallies : round'.pump.tally ≡ new.pump.tally = ap (λ (x : Round). x.pump.tally) is ∙ ap (λ (x : Pump). x.tally) pump in
         let left : round'.more ≡ round.more = ap (λ (x : Round). x.more) is ∙ more in (
-          ends_round v.said (gives a r.state v.answers) state (dump_end_of e) new.pump.tally b given_more end (inl (refused_after e end refused)) report (omega (arith, made, left)) (counts ∙ tallies),
+          ends_round v.said (gives a r.state v.answers) state (dump_end_of e) new.pump.tally b given_more end (inl (refused_after e end refused)) report (omega (arith, made, left)) (counts ∙ tallies)
+              (noted ∙ ap (λ (x : Round). x.troubles.items) is ∙ before ∙ sym (append-nil round.troubles.items) ∙ ap (λ (x : List Trouble). round.troubles.items ++ x) (sym (refused_quietly e end refused))),
           one_at_most start a r.state v.said v.answers new.pump v.turns.0 v.turns.1,
         )
 
@@ -328,19 +347,20 @@ module _ {last : Option CivilMinute} {talk : List TalkItem} {kept : List Deliver
         by_end (inl (place, taken, e, is, end_is, none, noks)) = ap (λ (x : DumpEnd). answer_at (round_end_of x)) end_is ∙ mild_answer e (never_refused r place taken e is)
         by_end (inr (cut, noks, talks, stays, says)) = cut_answer end cut
 
-    pub ends : (mid round' : Round) → mid.pump ≡ new.pump → mid.more ≡ round.more → round' ≡ mid → (report : Report) → report.attempts + round'.more ≡ 3 → report.tally ≡ round'.pump.tally
-        → EndsRound last (talk ++ v.said) (kept ++ gives a r.state v.answers) (round_end_of end) report × IsOneAtMost v.said (gives a r.state v.answers)
-    ends mid round' pump more is report made counts =
+    pub ends : (mid round' : Round) → mid.pump ≡ new.pump → mid.more ≡ round.more → mid.troubles.items ≡ round.troubles.items → Notes end mid round' → (report : Report) → report.attempts + round'.more ≡ 3 → report.tally ≡ round'.pump.tally
+        → report.troubles.items ≡ round'.troubles.items → EndsRound last (talk ++ v.said) (kept ++ gives a r.state v.answers) (round_end_of end) report × IsOneAtMost v.said (gives a r.state v.answers)
+    ends mid round' pump more before is report made counts noted =
         let how = subst (λ (x : Pump). EndsAt end r.state v.said v.answers ⊎ CutsAt end a r.state v.said v.answers x) same v.turns.1 in
         let b : Brought start a (r.said ++ v.said) end (handed a r.state) round.pump.tally = ended_brought start a r.said r.answers r.state round.pump r.stands r.shows v.said v.answers end how in
         let all_given : handed a r.state ≡ handed a r.state ++ gives a r.state v.answers = sym (append-nil (handed a r.state)) ∙ ap (λ (x : List Delivery). handed a r.state ++ x) (sym no_batch) in
-        let tallies : round'.pump.tally ≡ round.pump.tally = ap (λ (x : Round). x.pump.tally) is ∙ ap (λ (x : Pump). x.tally) (pump ∙ v.turns.0 ∙ same) in
-        let left : round'.more ≡ round.more = ap (λ (x : Round). x.more) is ∙ more in
+        let tallies : round'.pump.tally ≡ round.pump.tally = ap (λ (x : Pump). x.tally) (is.0 ∙ pump ∙ v.turns.0 ∙ same) in
+        let left : round'.more ≡ round.more = is.1 ∙ more in
         let by : (end_after end ≡ Some (round_end_of end)) ⊎ ((end_after end ≡ None) × (round_end_of end ≡ round_end.GaveUp) × (round.more ≡ 0)) = elim (fails_or_ends end) [
           | inl none ↦ inr (none, failed_gives_up end none, r.goes_on (has_failed v.turns.1 none))
           | inr some ↦ inl some
         ] in (
-          ends_round v.said (gives a r.state v.answers) r.state end round.pump.tally b all_given (round_end_of end) by report (omega (arith, made, left)) (counts ∙ tallies),
+          ends_round v.said (gives a r.state v.answers) r.state end round.pump.tally b all_given (round_end_of end) by report (omega (arith, made, left)) (counts ∙ tallies)
+              (noted ∙ is.2 ∙ ap (λ (x : List Trouble). x ++ trouble_of end) before),
           inl no_batch,
         )
 

@@ -91,7 +91,7 @@ module _ {D : Type 0} (medium : Medium D) where
 module _ {L D : Type 0} {traffic : Traffic L} {medium : Medium D} where
   module _ {old : Session} {b b' : Book} {link link' : L} {disk disk' : D} {marks : List Mark} {end : RoundEnd} (report : Report)
       (same : IsSameBook old.book b) (fresh : is_stale old.book ≡ false) (none : marks ≡ []) (some : 0 < report.attempts)
-      (made : MakesAttempts traffic medium old.settings end (holding b disk marks) link (holding b' disk' report.marks.items) link' report.attempts report.tally) where
+      (made : MakesAttempts traffic medium old.settings end (holding b disk marks) link (holding b' disk' report.marks.items) link' report.attempts report.tally report.troubles.items) where
     batches : List Delivery
     batches = all_batches (last_of b) made.tries
 
@@ -147,6 +147,7 @@ module _ {L D : Type 0} {traffic : Traffic L} {medium : Medium D} where
           answered = s.answered;
           made = made.count;
           tally = s.tally;
+          troubles = made.noted;
           kept = s.kept;
           acknowledged = s.acknowledged;
         }
@@ -188,6 +189,7 @@ module _ {L D : Type 0} {traffic : Traffic L} {medium : Medium D} where
     answered = none_by end before;
     made = fresh.attempts;
     tally = record { pages = ap (λ (t : Tally). t.pages) fresh.tally; skipped = ap (λ (t : Tally). t.skipped) fresh.tally; newest = ap (λ (t : Tally). t.last) fresh.tally };
+    troubles = fresh.troubles;
     kept = ap (λ (x : List Mark). rows_marked report.rows_before x) fresh.marks ∙ omega arith;
     acknowledged = acknowledged_are_marked (last_stamp rows) [] end 0 report.rows_before report.marks.items (inl (refl, before)) fresh.marks;
   }

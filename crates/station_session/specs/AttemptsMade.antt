@@ -6,19 +6,22 @@ use Rattle.serial_link.specs.Talk.{Adds}
 use Rattle.settings_file.specs.StationSettings.{StationSettings}
 use Rattle.weather_book.specs.Book.{last_of}
 use Rattle.dmpaft_driver.specs.declared.outcome.Tally.{Tally}
+use Rattle.dmpaft_driver.specs.declared.outcome.Trouble.{Trouble}
 use Rattle.station_session.specs.declared.round_end.RoundEnd.{RoundEnd}
 use Rattle.station_session.specs.Attempts.{Tried, Attempts, all_said, all_batches}
 use Rattle.station_session.specs.Holding.{Holding}
 use Rattle.station_session.specs.Round.{IsTally}
 use Rattle.station_session.specs.OneBatch.{AddsBatch, Chain}
+use Rattle.station_session.specs.Troubles.{troubles_of}
 
 -- A round's attempts were made, and their batches were given to the book.
 pub record MakesAttempts {L D : Type 0} (traffic : Traffic L) (medium : Medium D)
     (settings : StationSettings) (end : RoundEnd) (old : Holding D) (link : L) (new : Holding D) (link' : L)
-    (made : ℕ) (tally : Tally) : Type 0 where
+    (made : ℕ) (tally : Tally) (troubles : List Trouble) : Type 0 where
   pub tries : List Tried
   pub attempts : Attempts 0 (last_of old.book) tries end
   pub adds : Adds traffic link (all_said tries) link'
   pub chain : Chain (AddsBatch medium settings) old (all_batches (last_of old.book) tries) new
   pub count : made ≡ length tries
   pub counted : IsTally (last_of old.book) tries tally
+  pub noted : troubles ≡ troubles_of tries

@@ -46,6 +46,7 @@ pub record Fits (session : Session) (round : Round) (report : Report) : Type 0 w
   pub last : last_of session.book ≡ last_so_far round
   pub attempts : report.attempts + round.more ≡ 3
   pub tally : report.tally ≡ round.pump.tally
+  pub troubles : report.troubles.items ≡ round.troubles.items
   pub marked : HasKept round (vec_len report.marks)
   pub rows : MOST_RECORDS * batches_left report ≤ spare session.book
   pub marks : MOST_BATCHES ≤ vec_capacity report.marks

@@ -15,6 +15,7 @@ use Rattle.dmpaft_driver.specs.Standing.{handed}
 use Rattle.station_session.specs.declared.round.Round.{Round}
 use Rattle.station_session.specs.Attempts.{Tried, IsTried, end_after, stamp_after, stamp_behind, all_batches, all_said}
 use Rattle.station_session.specs.Attempts.{page_count, skip_count}
+use Rattle.station_session.specs.Troubles.{troubles_of}
 
 -- each of these attempts failed, the first asking after this stamp and each later one after the last record kept
 abbrev pub AllFailed : Option CivilMinute → List Tried → Type 0
@@ -51,6 +52,7 @@ pub record RoundAt (last : Option CivilMinute) (talk : List TalkItem) (kept : Li
   pub goes_on : HasFailed state → round.more ≡ 0
   pub talk_is : talk ≡ all_said tries ++ said
   pub kept_are : kept ≡ all_batches last tries ++ handed (stamp_behind last tries) state
+  pub troubles : round.troubles.items ≡ troubles_of tries
 
 -- so many turns are left at most: those of the pump, and fewer than 2^30 for each attempt that may follow
 abbrev pub left : Round → ℕ

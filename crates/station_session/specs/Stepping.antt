@@ -1,5 +1,5 @@
 -- One step of the attempt under way, and what the round does then.
-use Rattle.std.specs.Prelude.{◌≡◌, ◌⊎◌, ◌+◌, ◌*◌, ◌≤◌, List, length, Option, Some, None, unwrap_or}
+use Rattle.std.specs.Prelude.{◌≡◌, ◌⊎◌, ◌+◌, ◌*◌, ◌≤◌, List, [], ◌∷◌, ◌++◌, length, Option, Some, None, unwrap_or}
 use Rattle.station_base.specs.CivilMinute.{CivilMinute}
 use Rattle.serial_link.specs.declared.talk.TalkItem.{TalkItem}
 use Rattle.serial_link.specs.Traffic.{Traffic}
@@ -27,6 +27,7 @@ use Rattle.station_session.specs.declared.round_end.RoundEnd.TheVariants as roun
 use Rattle.station_session.specs.Attempts.{end_after}
 use Rattle.station_session.specs.Holding.{Holding}
 use Rattle.station_session.specs.OneBatch.{AddsBatch, Chain}
+use Rattle.station_session.specs.Troubles.{trouble_of}
 
 -- what an attempt works on
 pub record Bench (L D : Type 0) : Type 0 where
@@ -71,13 +72,19 @@ StaysAt old new = (new ≡ old) × ((e : PumpEnd) → end_at old.pump.stage ≡ 
 abbrev pub TriesAgain : Option CivilMinute → Round → Round → Type 0
 TriesAgain last old new = (trouble : Trouble) × (end_at old.pump.stage ≡ Some (pump_end.Failed trouble))
     × (old.more ≡ new.more + 1) × Shows old.pump.tally last (begun last Settling) new.pump
+    × (new.troubles.items ≡ old.troubles.items ++ trouble ∷ [])
 
 -- the round is over, since the batch of its attempt was refused
 abbrev pub IsRefused : RoundEnd → Round → Round → Type 0
 IsRefused end old new = (new ≡ old) × (e : PumpEnd) × (end_at old.pump.stage ≡ Some e) × (refused_by e ≡ Some end)
 
+-- the round is the same, and what an attempt met that ended so is noted, if it failed
+abbrev pub Notes : DumpEnd → Round → Round → Type 0
+Notes end old new = (new.pump ≡ old.pump) × (new.more ≡ old.more)
+    × (new.troubles.items ≡ old.troubles.items ++ trouble_of end)
+
 -- what a round does after a step of its attempt, by the end that the step answered, if one
 abbrev pub GoesOn : Option DumpEnd → Turn → Option CivilMinute → Round → Round → Type 0
-GoesOn (Some end) result last old new = (result ≡ turn.Ended (round_end_of end)) × (new ≡ old)
+GoesOn (Some end) result last old new = (result ≡ turn.Ended (round_end_of end)) × Notes end old new
 GoesOn None turn.More last old new = StaysAt old new ⊎ TriesAgain last old new
 GoesOn None (turn.Ended end) last old new = IsRefused end old new

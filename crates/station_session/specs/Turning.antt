@@ -24,6 +24,7 @@ use Rattle.station_session.specs.OneBatch.{AddsBatch, Chain}
 use Rattle.station_session.specs.Round.{IsTally, stale_with}
 use Rattle.station_session.specs.RoundAt.{RoundAt}
 use Rattle.station_session.specs.Session.{settings_of, most_of, held, is_stale}
+use Rattle.station_session.specs.Troubles.{troubles_of}
 
 -- What a turn works on: a session, its link and its disk, a round, and its report.
 pub record Desk (L D : Type 0) : Type 0 where
@@ -46,7 +47,8 @@ IsOneCallOrBatch said given =
 abbrev pub IsOneAtMost : List TalkItem → List Delivery → Type 0
 IsOneAtMost said given = (given ≡ []) ⊎ ((said ≡ []) × (step : Delivery) × (given ≡ step ∷ []))
 
--- A round that began after this stamp, and said, heard and was given this, is over: its attempts, and what was counted.
+-- A round that began after this stamp, and said, heard and was given this, is over: its attempts, what those met that
+-- failed, and what was counted.
 pub record EndsRound (last : Option CivilMinute) (talk : List TalkItem) (given : List Delivery) (end : RoundEnd)
     (report : Report) : Type 0 where
   pub tries : List Tried
@@ -57,6 +59,7 @@ pub record EndsRound (last : Option CivilMinute) (talk : List TalkItem) (given :
   pub some : 0 < report.attempts
   pub few : report.tally.pages ≤ MOST_BATCHES
   pub tally : IsTally last tries report.tally
+  pub troubles : report.troubles.items ≡ troubles_of tries
 
 -- where a round stands after a turn in which this was said, heard and given
 abbrev pub TurnsTo : {L D : Type 0} → Turn → Option CivilMinute → List TalkItem → List Delivery → List TalkItem

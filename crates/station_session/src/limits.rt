@@ -4,6 +4,9 @@ use vantage_frames::MOST_PAGES;
 // How often a dump is tried within a round.
 pub const ATTEMPTS: u8 = 3;
 
+// The most troubles of a round: one for each attempt.
+pub const MOST_TROUBLES: usize = ATTEMPTS as usize;
+
 // The most batches of a round: one for each page of each attempt.
 pub const MOST_BATCHES: usize = ATTEMPTS as usize * MOST_PAGES as usize;
 
@@ -18,3 +21,9 @@ pub const CHANGES: usize = 4;
 
 // The most changes of the disk that a round begins.
 pub const MOST_CHANGES: usize = CHANGES * MOST_BATCHES;
+
+/// The most bytes that a round hears: what each of three attempts can hear.
+pub const MOST_HEARD: usize = ATTEMPTS as usize * dmpaft_driver::MOST_HEARD;
+
+/// The most bytes that a round says: what each of three attempts can say.
+pub const MOST_SAID: usize = ATTEMPTS as usize * dmpaft_driver::MOST_SAID;

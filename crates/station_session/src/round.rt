@@ -1,9 +1,12 @@
-ghost use Rattle.std.specs.Prelude.{◌≡◌, ◌<◌, ◌≤◌, ◌+◌, ◌^◌, Option};
+ghost use Rattle.std.specs.Prelude.{◌≡◌, ◌<◌, ◌≤◌, ◌+◌, ◌^◌, [], Option};
+ghost use Rattle.arrayvec.specs.ArrayVec.{array_vec_len};
 ghost use Rattle.station_base.specs.CivilMinute.{CivilMinute};
+ghost use Rattle.station_session.specs.declared.limits.TheConstants.{MOST_TROUBLES};
 
-use crate::limits::ATTEMPTS;
+use crate::limits::{ATTEMPTS, MOST_TROUBLES};
 use crate::round_end::{RoundEnd, refused, round_end};
-use dmpaft_driver::{DumpEnd, Pump, PumpEnd, Tally};
+use arrayvec::ArrayVec;
+use dmpaft_driver::{DumpEnd, Pump, PumpEnd, Tally, Trouble};
 use station_base::Stamp;
 
 /// A round that was begun, and is taken turn by turn by the session that began it.
@@ -13,6 +16,8 @@ pub struct Round {
     pub(crate) pump: Pump,
     // So many attempts more may be made.
     more: u8,
+    // What each attempt met that failed, in order.
+    troubles: ArrayVec<Trouble, MOST_TROUBLES>,
 }
 
 /// What comes of the begin of a round.
@@ -39,17 +44,19 @@ impl Round {
     ghost use Rattle.dmpaft_driver.specs.Pump.{Settling, begun};
     ghost use Rattle.dmpaft_driver.specs.Shown.{Shows, left_of, no_tally};
     ghost use Rattle.station_session.specs.RoundAt.{left};
-    ghost use Rattle.station_session.specs.Stepping.{GoesOn};
+    ghost use Rattle.station_session.specs.Stepping.{GoesOn, Notes};
 
     // A round whose first attempt asks after this stamp.
     pub(crate) fn new(last: Option<Stamp>) -> Round
         ensures shows { Shows no_tally last (begun last Settling) result.pump }
         ensures left { left_of result.pump < 2 ^ 30 }
         ensures more { result.more ≡ 2 }
+        ensures troubles { result.troubles.items ≡ [] }
     {
         Round {
             pump: Pump::new(last),
             more: ATTEMPTS - 1,
+            troubles: ArrayVec::new(),
         }
     }
 
@@ -68,20 +75,51 @@ impl Round {
         self.pump.tally()
     }
 
+    // What each attempt met that failed, in order.
+    pub(crate) fn troubles(&self) -> ArrayVec<Trouble, MOST_TROUBLES>
+        ensures { result.items ≡ self.now.troubles.items }
+    {
+        let mut troubles = ArrayVec::new();
+        troubles
+            .try_extend_from_slice(self.troubles.as_slice())
+            .unwrap();
+        troubles
+    }
+
+    // Notes what an attempt met that ended so, if it failed.
+    fn note(&mut self, end: DumpEnd)
+        requires { array_vec_len self.old.troubles < MOST_TROUBLES }
+        ensures { Notes end self.old self.new }
+    {
+        match end {
+            DumpEnd::Failed(trouble) => self.troubles.push(trouble),
+            DumpEnd::Whole
+            | DumpEnd::Full
+            | DumpEnd::Stale
+            | DumpEnd::DiskFault
+            | DumpEnd::Flood
+            | DumpEnd::LinkFault
+            | DumpEnd::OutOfMemory => {}
+        }
+    }
+
     // Goes on after a step of the attempt, or ends with it. Where the attempt failed the next one begins, after this stamp,
     // and where its batch was refused the round is over.
     pub(crate) fn go_on(&mut self, end: Option<DumpEnd>, last: Option<Stamp>) -> Turn
         requires pages { self.old.pump.tally.pages < 2 ^ 31 }
         requires skipped { self.old.pump.tally.skipped < 2 ^ 31 }
+        requires room { array_vec_len self.old.troubles < MOST_TROUBLES }
         ensures goes { GoesOn end result last self.old self.new }
         ensures left { left self.new ≤ left self.old }
     {
         if let Some(end) = end {
+            self.note(end);
             return Turn::Ended(round_end(end));
         }
         match self.pump.ended() {
-            Some(PumpEnd::Failed(_)) if self.more > 0 => {
+            Some(PumpEnd::Failed(trouble)) if self.more > 0 => {
                 self.more -= 1;
+                self.troubles.push(trouble);
                 self.pump = Pump::resume(last, self.pump.tally());
                 Turn::More
             }

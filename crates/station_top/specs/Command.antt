@@ -1,9 +1,11 @@
 -- What the words of the command line ask for.
-use Rattle.std.specs.Prelude.{ℕ, if◌then◌else◌, List, [], ◌∷◌, map, bytes_eq, codes, Some, None, option_map}
+use Rattle.std.specs.Prelude.{ℕ, ◌-◌, ◌^◌, if◌then◌else◌, List, [], ◌∷◌, map, bytes_eq, codes, Some, None, option_map}
 use Rattle.std.specs.Borrow.{Bor}
 use Rattle.std.specs.declared.option.Option.{Option}
+use Rattle.station_top.specs.Numbers.{number_within}
 use Rattle.station_top.specs.ReportWords.{wanted_in}
 use Rattle.station_top.specs.TaskWords.{task_of}
+use Rattle.station_top.specs.Then.{◌>>=◌}
 use Rattle.station_top.specs.declared.command.Command.{Command}
 use Rattle.station_top.specs.declared.command.Command.TheVariants as read
 use Rattle.station_top.specs.declared.task.Task.{Task}
@@ -17,6 +19,9 @@ pub data CommandLine : Type 0 where
   report : List ℕ → Wanted → CommandLine
   replay : List ℕ → List ℕ → CommandLine
   copy : List ℕ → List ℕ → CommandLine
+  station : List ℕ → List ℕ → List ℕ → CommandLine
+  console : List ℕ → List ℕ → List ℕ → ℕ → CommandLine
+  make : ℕ → ℕ → CommandLine
 
 -- the words, each as its bytes
 abbrev pub texts : List (Bor (List ℕ)) → List (List ℕ)
@@ -48,6 +53,25 @@ abbrev pub copy_in : List (List ℕ) → Option CommandLine
 copy_in (from ∷ to ∷ []) = if bytes_eq from to then None else Some (copy from to)
 copy_in words = None
 
+-- `SETTINGS ARCHIVE ADDRESS`
+abbrev pub station_in : List (List ℕ) → Option CommandLine
+station_in (settings ∷ archive ∷ address ∷ []) = Some (station settings archive address)
+station_in words = None
+
+-- `SETTINGS SCHEDULE ADDRESS TURNS`, with 1 to 1,000,000 turns
+abbrev pub console_in : List (List ℕ) → Option CommandLine
+console_in (settings ∷ schedule ∷ address ∷ turns ∷ []) =
+    option_map (console settings schedule address) (number_within 1 1000000 turns)
+console_in words = None
+
+-- `SEED N`, a number below 2^31, and 1 to 5,000
+unfoldable pub make_in : List (List ℕ) → Option CommandLine
+make_in (seed ∷ count ∷ []) = do
+  number ← number_within 0 (2 ^ 31 - 1) seed
+  records ← number_within 1 5000 count
+  Some (make number records)
+make_in words = None
+
 -- the command that the words spell, and none where they are outside the table
 abbrev pub command_of : List (List ℕ) → Option CommandLine
 command_of [] = None
@@ -57,6 +81,9 @@ command_of (command ∷ words) =
     else if bytes_eq command (codes "report") then report_in words
     else if bytes_eq command (codes "replay") then replay_in words
     else if bytes_eq command (codes "copy") then copy_in words
+    else if bytes_eq command (codes "station") then station_in words
+    else if bytes_eq command (codes "console") then console_in words
+    else if bytes_eq command (codes "make") then make_in words
     else None
 
 -- a command that was read, with the texts that it lends
@@ -67,6 +94,9 @@ command_read (read.Task address asked) = task address.now asked
 command_read (read.Report archive wanted) = report archive.now wanted
 command_read (read.Replay settings schedule) = replay settings.now schedule.now
 command_read (read.Copy from to) = copy from.now to.now
+command_read (read.Station settings archive address) = station settings.now archive.now address.now
+command_read (read.Console settings schedule address turns) = console settings.now schedule.now address.now turns
+command_read (read.Make seed records) = make seed records
 
 -- the same where one was read
 abbrev pub line_of : Option Command → Option CommandLine

@@ -20,4 +20,7 @@ pub mod Judged
 pub mod JudgedSchedule
 pub mod JudgedRead
 pub mod ReplayRun
+pub mod StationRun
+pub mod ConsoleRun
+pub mod MakeRun
 pub mod Run

@@ -1,8 +1,8 @@
--- Which tasks can be asked of a console.
-use Rattle.std.specs.Prelude.{◌≡◌, ◌≤◌, true, length}
+-- Which tasks can be asked of a console, and which runs can be made.
+use Rattle.std.specs.Prelude.{◌≡◌, ◌<◌, ◌≤◌, ◌^◌, true, length}
 use Rattle.console_tasks.specs.Memory.{AreWithin}
 use Rattle.station_base.specs.ClockTime.{can_be_shown}
-use Rattle.station_top.specs.Command.{CommandLine, pages, corrected_pages, task, report, replay, copy}
+use Rattle.station_top.specs.Command.{CommandLine, task, make}
 use Rattle.station_top.specs.declared.task.Task.{Task}
 use Rattle.station_top.specs.declared.task.Task.TheVariants.{Packets, ReadMemory, WriteMemory}
 use Rattle.station_top.specs.declared.task.Task.TheVariants.{ReadClock, SetClock, SetPeriod, Kind}
@@ -17,11 +17,8 @@ CanBeMade (SetClock time) = can_be_shown time ≡ true
 CanBeMade (SetPeriod minutes) = Unit {0}
 CanBeMade Kind = Unit {0}
 
--- the command's task, if it is one, can be asked
+-- the command's task, if it is one, can be asked, and its run can be made
 abbrev pub IsPossible : CommandLine → Type 0
-IsPossible (pages file) = Unit {0}
-IsPossible (corrected_pages settings file) = Unit {0}
 IsPossible (task address asked) = CanBeMade asked
-IsPossible (report archive wanted) = Unit {0}
-IsPossible (replay settings schedule) = Unit {0}
-IsPossible (copy from to) = Unit {0}
+IsPossible (make seed records) = (seed < 2 ^ 31) × (1 ≤ records) × (records ≤ 5000)
+IsPossible other = Unit {0}

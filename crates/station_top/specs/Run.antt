@@ -14,14 +14,17 @@ use Rattle.station_io.specs.declared.files.TextRead.TheVariants as reads
 use Rattle.station_top.specs.declared.status.Status.{Status}
 use Rattle.station_top.specs.declared.status.Status.TheVariants as ends
 use Rattle.station_top.specs.declared.task.Task.{Task}
-use Rattle.station_top.specs.Command.{CommandLine, pages, corrected_pages, task, report, replay, copy}
+use Rattle.station_top.specs.Command.{CommandLine, pages, corrected_pages, task, report, replay, copy, station, console, make}
+use Rattle.station_top.specs.ConsoleRun.{ServesFiles}
 use Rattle.station_top.specs.CopyRun.{CopiesOn, TellArchives}
 use Rattle.station_top.specs.GoodFile.{IsGoodFile}
 use Rattle.station_top.specs.Judged.{Judged, SettlesFirst, refused, accepted, read_fault, too_long}
 use Rattle.station_top.specs.Output.{Output, EndsWith, no_memory}
 use Rattle.station_top.specs.Listing.{listing}
+use Rattle.station_top.specs.MakeRun.{MakesRun}
 use Rattle.station_top.specs.ReplayRun.{HasGoodFiles, ReplaysFiles}
 use Rattle.station_top.specs.ReportRun.{ReportsOn, TellsArchive}
+use Rattle.station_top.specs.StationRun.{CatchesUp, ShowsCaughtUp}
 use Rattle.station_top.specs.Style.{RowStyle, short, corrected}
 use Rattle.station_top.specs.TaskRun.{CallsFor, exchanges_of}
 
@@ -65,21 +68,38 @@ PrintsCorrected shelf outlet settings name old out new out' result =
     SettlesFirst shelf settings old (λ judged middle. GoesOn shelf outlet judged name middle out new out' result)
 
 -- what each command does: one that prints pages or replays a schedule touches no link and no disk, a task no file and
--- no disk, a report no file, no link and no second disk, and a copy no file and no link
+-- no disk, a report no file, no link and no second disk, a copy no file and no link, a round no second disk, one that
+-- serves a console no disk, and a run that is made nothing but the sink
 abbrev pub Performs : {F S L D : Type 0} → Shelf F → Outlet S → Traffic L → Medium D → CommandLine
     → F → S → L → D → D → F → S → L → D → D → ℕ → Type 0
 Performs shelf outlet traffic medium (pages file) old out link disk second new out' link' disk' second' result =
     (link' ≡ link) × AtRest disk second disk' second' × PrintsFile shelf outlet short file old out new out' result
-Performs shelf outlet traffic medium (corrected_pages settings file) old out link disk second new out' link' disk' second' result =
-    (link' ≡ link) × AtRest disk second disk' second' × PrintsCorrected shelf outlet settings file old out new out' result
+Performs shelf outlet traffic medium (corrected_pages settings file)
+    old out link disk second new out' link' disk' second' result =
+    (link' ≡ link) × AtRest disk second disk' second'
+    × PrintsCorrected shelf outlet settings file old out new out' result
 Performs shelf outlet traffic medium (task address asked) old out link disk second new out' link' disk' second' result =
     (new ≡ old) × AtRest disk second disk' second' × CallsFor traffic outlet address asked link out link' out' result
-Performs shelf outlet traffic medium (report archive wanted) old out link disk second new out' link' disk' second' result =
-    (new ≡ old) × (link' ≡ link) × (second' ≡ second) × ReportsOn medium outlet archive wanted disk out disk' out' result
-Performs shelf outlet traffic medium (replay settings schedule) old out link disk second new out' link' disk' second' result =
-    (link' ≡ link) × AtRest disk second disk' second' × ReplaysFiles shelf outlet settings schedule old out new out' result
+Performs shelf outlet traffic medium (report archive wanted)
+    old out link disk second new out' link' disk' second' result =
+    (new ≡ old) × (link' ≡ link) × (second' ≡ second)
+    × ReportsOn medium outlet archive wanted disk out disk' out' result
+Performs shelf outlet traffic medium (replay settings schedule)
+    old out link disk second new out' link' disk' second' result =
+    (link' ≡ link) × AtRest disk second disk' second'
+    × ReplaysFiles shelf outlet settings schedule old out new out' result
 Performs shelf outlet traffic medium (copy from to) old out link disk second new out' link' disk' second' result =
     (new ≡ old) × (link' ≡ link) × CopiesOn medium outlet from to disk second out disk' second' out' result
+Performs shelf outlet traffic medium (station settings archive address)
+    old out link disk second new out' link' disk' second' result =
+    (second' ≡ second)
+    × CatchesUp shelf traffic medium outlet settings archive address old link disk out new link' disk' out' result
+Performs shelf outlet traffic medium (console settings schedule address turns)
+    old out link disk second new out' link' disk' second' result =
+    AtRest disk second disk' second'
+    × ServesFiles shelf traffic outlet settings schedule address turns old link out new link' out' result
+Performs shelf outlet traffic medium (make seed records) old out link disk second new out' link' disk' second' result =
+    (new ≡ old) × (link' ≡ link) × AtRest disk second disk' second' × MakesRun outlet seed records out out' result
 
 -- a text of settings that is not too long and is accepted
 abbrev pub IsAccepted : List ℕ → Type 0
@@ -90,28 +110,23 @@ abbrev pub HasGoodInput : {F : Type 0} → Shelf F → CommandLine → F → Typ
 HasGoodInput shelf (pages file) files = IsSomeAnd (shelf.held files file) IsGoodFile
 HasGoodInput shelf (corrected_pages settings file) files =
     IsSomeAnd (shelf.held files settings) IsAccepted × IsSomeAnd (shelf.held files file) IsGoodFile
-HasGoodInput shelf (task address asked) files = ⊥
-HasGoodInput shelf (report archive wanted) files = ⊥
-HasGoodInput shelf (replay settings schedule) files = ⊥
-HasGoodInput shelf (copy from to) files = ⊥
+HasGoodInput shelf other files = ⊥
 
 -- the command is a replay, and both files are told and good
 abbrev pub HasSchedule : {F : Type 0} → Shelf F → CommandLine → F → Type 0
-HasSchedule shelf (pages file) files = ⊥
-HasSchedule shelf (corrected_pages settings file) files = ⊥
-HasSchedule shelf (task address asked) files = ⊥
-HasSchedule shelf (report archive wanted) files = ⊥
 HasSchedule shelf (replay settings schedule) files = HasGoodFiles shelf settings schedule files
-HasSchedule shelf (copy from to) files = ⊥
+HasSchedule shelf other files = ⊥
+
+-- the command serves a console, and both files are told and good
+abbrev pub HasConsole : {F : Type 0} → Shelf F → CommandLine → F → Type 0
+HasConsole shelf (console settings schedule address turns) files = HasGoodFiles shelf settings schedule files
+HasConsole shelf other files = ⊥
 
 -- the command is a report, over a disk that tells an archive, or a copy over two that tell archives
 abbrev pub HasArchive : {D : Type 0} → Medium D → CommandLine → D → D → Type 0
-HasArchive medium (pages file) disk second = ⊥
-HasArchive medium (corrected_pages settings file) disk second = ⊥
-HasArchive medium (task address asked) disk second = ⊥
 HasArchive medium (report archive wanted) disk second = TellsArchive medium disk
-HasArchive medium (replay settings schedule) disk second = ⊥
 HasArchive medium (copy from to) disk second = TellArchives medium disk second
+HasArchive medium other disk second = ⊥
 
 -- What a link gained is told, and is the talk of the task that is done.
 pub record ShowsDone {L : Type 0} (traffic : Traffic L) (asked : Task) (old new : L) : Type 0 where
@@ -123,21 +138,24 @@ pub record ShowsDone {L : Type 0} (traffic : Traffic L) (asked : Task) (old new 
 
 -- the command is a task, and what the link gained shows that it is done
 abbrev pub IsShownDone : {L : Type 0} → Traffic L → CommandLine → L → L → Type 0
-IsShownDone traffic (pages file) old new = ⊥
-IsShownDone traffic (corrected_pages settings file) old new = ⊥
 IsShownDone traffic (task address asked) old new = ShowsDone traffic asked old new
-IsShownDone traffic (report archive wanted) old new = ⊥
-IsShownDone traffic (replay settings schedule) old new = ⊥
-IsShownDone traffic (copy from to) old new = ⊥
+IsShownDone traffic other old new = ⊥
+
+-- the command is a round, its settings are told and accepted, and archive and talk show that the round is done
+abbrev pub IsShownCaughtUp : {F L D : Type 0} → Shelf F → Traffic L → Medium D → CommandLine → F → D → L → L → Type 0
+IsShownCaughtUp shelf traffic medium (station settings archive address) files disk old new =
+    IsSomeAnd (shelf.held files settings) IsAccepted × ShowsCaughtUp traffic medium disk old new
+IsShownCaughtUp shelf traffic medium other files disk old new = ⊥
 
 -- the command is a task
 abbrev pub IsTask : CommandLine → Type 0
-IsTask (pages file) = ⊥
-IsTask (corrected_pages settings file) = ⊥
 IsTask (task address asked) = Unit {0}
-IsTask (report archive wanted) = ⊥
-IsTask (replay settings schedule) = ⊥
-IsTask (copy from to) = ⊥
+IsTask other = ⊥
+
+-- the command makes a schedule
+abbrev pub IsMake : CommandLine → Type 0
+IsMake (make seed records) = Unit {0}
+IsMake other = ⊥
 
 -- The command was done, unless a read fault, a write fault or want of memory kept it from that.
 abbrev pub IsDoneOrHindered : Status → Type 0

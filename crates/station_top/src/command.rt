@@ -1,9 +1,14 @@
 ghost use Rattle.std.specs.Prelude.{◌≡◌, IfSome};
 
+use crate::numbers::read_within;
 use crate::report_words::read_wanted;
 use crate::task::Task;
 use crate::task_words::read_task;
 use crate::wanted::Wanted;
+use made_run::MOST_MADE;
+
+// The greatest number that a schedule is made from.
+const MOST_SEED: u64 = (1 << 31) - 1;
 
 /// What the words of the command line ask for.
 #[derive(Debug, Drop)]
@@ -45,6 +50,33 @@ pub enum Command<'a> {
         /// The name of the archive that is written.
         to: &'a str,
     },
+    /// `station SETTINGS ARCHIVE ADDRESS`: one round of catching up with a console.
+    Station {
+        /// The name of the settings file.
+        settings: &'a str,
+        /// The name of the archive that is written.
+        archive: &'a str,
+        /// Where the console is called.
+        address: &'a str,
+    },
+    /// `console SETTINGS SCHEDULE ADDRESS TURNS`: a new modelled console, served at an address.
+    Console {
+        /// The name of the settings file.
+        settings: &'a str,
+        /// The name of the schedule's file.
+        schedule: &'a str,
+        /// Where a call is waited for.
+        address: &'a str,
+        /// For how many turns it is served, 1 to 1,000,000.
+        turns: u32,
+    },
+    /// `make SEED N`: the counts of the run of a schedule that is made from a number.
+    Make {
+        /// The number.
+        seed: u32,
+        /// How many records are made.
+        records: u32,
+    },
 }
 
 impl<'a> Command<'a> {
@@ -63,12 +95,15 @@ impl<'a> Command<'a> {
             "report" => read_report(more),
             "replay" => read_replay(more),
             "copy" => read_copy(more),
+            "station" => read_station(more),
+            "console" => read_console(more),
+            "make" => read_make(more),
             _ => None,
         }
     }
 }
 
-ghost use Rattle.station_top.specs.Command.{command_read, copy_in, line_of, pages_in, replay_in, report_in, task_in, texts};
+ghost use Rattle.station_top.specs.Command.{command_read, console_in, copy_in, line_of, make_in, pages_in, replay_in, report_in, station_in, task_in, texts};
 ghost use Rattle.station_top.specs.Possible.{IsPossible};
 
 // `FILE`, or `SETTINGS FILE`.
@@ -132,4 +167,53 @@ fn read_copy<'a>(words: &[&'a str]) -> Option<Command<'a>>
         return None;
     }
     Some(Command::Copy { from, to })
+}
+
+// `SETTINGS ARCHIVE ADDRESS`.
+fn read_station<'a>(words: &[&'a str]) -> Option<Command<'a>>
+    ensures command { line_of result ≡ station_in (texts words.now) }
+    ensures possible { IfSome result (λ command. IsPossible (command_read command)) }
+{
+    let [settings, archive, address] = *words else {
+        return None;
+    };
+    Some(Command::Station {
+        settings,
+        archive,
+        address,
+    })
+}
+
+// The most turns for which a console is served.
+const MOST_TURNS: u64 = 1_000_000;
+
+// `SETTINGS SCHEDULE ADDRESS TURNS`.
+fn read_console<'a>(words: &[&'a str]) -> Option<Command<'a>>
+    ensures command { line_of result ≡ console_in (texts words.now) }
+    ensures possible { IfSome result (λ command. IsPossible (command_read command)) }
+{
+    let [settings, schedule, address, turns] = *words else {
+        return None;
+    };
+    let turns = read_within(turns, 1, MOST_TURNS)? as u32;
+    Some(Command::Console {
+        settings,
+        schedule,
+        address,
+        turns,
+    })
+}
+
+// `SEED N`.
+#[tactic(auto, unfolding(crate::specs::Command::make_in))]
+fn read_make<'a>(words: &[&'a str]) -> Option<Command<'a>>
+    ensures command { line_of result ≡ make_in (texts words.now) }
+    ensures possible { IfSome result (λ command. IsPossible (command_read command)) }
+{
+    let [seed, records] = *words else {
+        return None;
+    };
+    let seed = read_within(seed, 0, MOST_SEED)? as u32;
+    let records = read_within(records, 1, u64::from(MOST_MADE))? as u32;
+    Some(Command::Make { seed, records })
 }

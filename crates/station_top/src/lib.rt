@@ -3,16 +3,19 @@
 
 mod asking;
 mod calling;
+mod catching_up;
 mod clock_words;
 mod command;
 mod copying;
 mod judging;
+mod making;
 mod numbers;
 mod pages;
 mod program;
 mod replaying;
 mod report_words;
 mod reporting;
+mod serving;
 mod status;
 mod style;
 mod task;

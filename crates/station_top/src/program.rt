@@ -8,16 +8,19 @@ ghost use Rattle.station_top.specs.GoodFile.{IsGoodFile};
 ghost use Rattle.station_top.specs.Judged.{IsEnding, IsReadFault, MayGoOn};
 ghost use Rattle.station_top.specs.JudgedRead.{judged_of};
 ghost use Rattle.station_top.specs.ReportRun.{WentWell};
-ghost use Rattle.station_top.specs.Run.{FilesStill, GoesOn, HasArchive, HasGoodInput, HasSchedule, IsAccepted, IsDoneOrHindered, IsNoCall, IsShownDone, IsTask, IsUsage, Performs, PrintsCorrected, PrintsFile, output_of};
+ghost use Rattle.station_top.specs.Run.{FilesStill, GoesOn, HasArchive, HasConsole, HasGoodInput, HasSchedule, IsAccepted, IsDoneOrHindered, IsMake, IsNoCall, IsShownCaughtUp, IsShownDone, IsTask, IsUsage, Performs, PrintsCorrected, PrintsFile, output_of};
 ghost use Rattle.station_top.specs.StyleRead.{style_of};
 
 use crate::calling::call_for;
+use crate::catching_up::catch_up;
 use crate::command::Command;
 use crate::copying::copy_files;
 use crate::judging::{Ending, judge};
+use crate::making::make_run;
 use crate::pages::{finish, print_pages};
 use crate::replaying::replay_files;
 use crate::reporting::report;
+use crate::serving::serve_files;
 use crate::status::Status;
 use crate::style::Style;
 use disk_model::Disk;
@@ -36,8 +39,9 @@ pub fn run<F: Files, K: Sink, L: Link, D: Disk>(
     disk: &mut D,
     second: &mut D,
 ) -> u8
-    // No disk has begun more changes than a copy leaves room for.
-    requires { D.medium.moment second.old < 2 ^ 63 }
+    // No disk has begun so many changes that there is no room for those of a round or a copy.
+    requires disk_room { D.medium.moment disk.old < 2 ^ 63 }
+    requires second_room { D.medium.moment second.old < 2 ^ 63 }
 
     // Words outside the table are answered by a line of their own, no file is read, and nothing is connected or attached.
     ensures usage { IfNone (command_of (texts words.now))
@@ -45,8 +49,8 @@ pub fn run<F: Files, K: Sink, L: Link, D: Disk>(
         result) }
 
     // The files that the words name are each read once, in the order of the words, the address that they name is called
-    // once, the archives that they name are each attached once, and what came of that decides what is written and how
-    // the program ends.
+    // once, or waited at once, the archives that they name are each attached once, and what came of that decides what is
+    // written and how the program ends.
     ensures command { IfSome (command_of (texts words.now)) (λ command. Performs F.shelf K.outlet L.traffic D.medium
         command files.old out.old link.old disk.old second.old files.new out.new link.new disk.new second.new result) }
 
@@ -80,9 +84,23 @@ pub fn run<F: Files, K: Sink, L: Link, D: Disk>(
     ensures replayed { IfSome (command_of (texts words.now)) (λ command. HasSchedule F.shelf command files.old
         → (result ≡ 0) ⊎ (result ≡ 5) ⊎ (result ≡ 8) ⊎ (result ≡ 9) ⊎ (result ≡ 12)) }
 
+    // Under good settings a console is served after a good schedule, unless the outside or the memory fails.
+    ensures served { IfSome (command_of (texts words.now)) (λ command. HasConsole F.shelf command files.old
+        → (result ≡ 0) ⊎ (result ≡ 6) ⊎ (result ≡ 8) ⊎ (result ≡ 9) ⊎ (result ≡ 12)) }
+
     // A task that what was said and heard shows as done ends so, unless its line could not be written.
     ensures done { IfSome (command_of (texts words.now)) (λ command.
         IsShownDone L.traffic command link.old link.new → (result ≡ 0) ⊎ (result ≡ 9)) }
+
+    // A round that archive and talk show as done ends so, unless the link, the disk, the files or the sink failed, or
+    // memory was wanting.
+    ensures caught_up { IfSome (command_of (texts words.now)) (λ command.
+        IsShownCaughtUp F.shelf L.traffic D.medium command files.old disk.old link.old link.new
+        → (result ≡ 0) ⊎ (result ≡ 6) ⊎ (result ≡ 7) ⊎ (result ≡ 8) ⊎ (result ≡ 9) ⊎ (result ≡ 12)) }
+
+    // A schedule that is made from a number is run to its end.
+    ensures made { IfSome (command_of (texts words.now)) (λ command. IsMake command
+        → (result ≡ 0) ⊎ (result ≡ 9) ⊎ (result ≡ 12)) }
 {
     let status = match Command::read(words) {
         Some(Command::Pages(file)) => pages(alloc, file, &Style::Short, files, out),
@@ -95,6 +113,22 @@ pub fn run<F: Files, K: Sink, L: Link, D: Disk>(
             replay_files(alloc, settings, schedule, files, out)
         }
         Some(Command::Copy { from, to }) => copy_files(alloc, from, to, disk, second, out),
+        Some(
+            Command::Station {
+                settings,
+                archive,
+                address,
+            },
+        ) => catch_up(alloc, settings, archive, address, files, out, link, disk),
+        Some(
+            Command::Console {
+                settings,
+                schedule,
+                address,
+                turns,
+            },
+        ) => serve_files(alloc, settings, schedule, address, turns, files, out, link),
+        Some(Command::Make { seed, records }) => make_run(alloc, seed, records, out),
         None => finish(b"usage\n", Status::Usage, out),
     };
     status as u8
@@ -193,9 +227,15 @@ mod console_tests;
 #[cfg(test)]
 mod copy_tests;
 #[cfg(test)]
+mod make_tests;
+#[cfg(test)]
 mod replay_tests;
 #[cfg(test)]
 mod report_tests;
+#[cfg(test)]
+mod serving_tests;
+#[cfg(test)]
+mod station_tests;
 #[cfg(test)]
 mod task_tests;
 #[cfg(test)]

@@ -1,11 +1,7 @@
-ghost use Rattle.std.specs.Prelude.{◌≡◌, ◌≢◌, ◌⊎◌, ◌≤◌, ◌+◌, ◌*◌, ℕ, List, IfOk, IsSomeAnd};
+ghost use Rattle.std.specs.Prelude.{◌≡◌, ◌≢◌, ◌⊎◌, ◌≤◌, IfOk, IsSomeAnd};
 ghost use Rattle.causes.specs.Cause.{Cause, Rose};
-ghost use Rattle.eeprom_map.specs.Memory.{new_memory};
-ghost use Rattle.loop_packet.specs.declared.packet.LoopPacket.{LoopPacket};
 ghost use Rattle.schedule_replay.specs.Accepted.{IsAccepted};
-ghost use Rattle.schedule_replay.specs.Replayed.{IsNewDisk, steps_in};
-ghost use Rattle.schedule_replay.specs.Standing.{LineAt};
-ghost use Rattle.station_replay.specs.Replay.{start};
+ghost use Rattle.schedule_replay.specs.Replayed.{steps_in};
 ghost use Rattle.station_top.specs.Judged.{IsEnding, IsReadFault};
 ghost use Rattle.station_top.specs.JudgedRead.{judged_of, schedule_judged};
 ghost use Rattle.station_top.specs.JudgedSchedule.{IsNoFailedCall, IsUnread, MayPlay};
@@ -16,16 +12,11 @@ ghost use Rattle.station_top.specs.Run.{FilesStill, IsNoCall};
 use crate::judging::{Ending, judge, judge_schedule};
 use crate::pages::finish;
 use crate::status::Status;
-use causes::OutOfMemory;
-use console_model::Console;
-use disk_model::{MemDisk, Stopping};
-use eeprom_map::Eeprom;
 use loop_packet::LoopPacket;
-use schedule_replay::{ReplayEnd, replay};
+use schedule_replay::{ReplayEnd, new_disk, new_line, replay};
 use settings_file::Settings;
-use station_base::Period;
 use station_io::{Files, Sink};
-use station_sim::{Schedule, Sim};
+use station_sim::Schedule;
 use std::alloc::Global;
 
 /// Replays the schedule that one file holds under the settings that another holds, which are read first.
@@ -150,47 +141,6 @@ fn replay_anew<K: Sink>(
         ReplayEnd::WriteFault => Status::WriteFault,
         ReplayEnd::OutOfMemory => Status::OutOfMemory,
     }
-}
-
-// A line to a new console of this period, which sends this packet.
-fn new_line(alloc: Global, period: Period, packet: LoopPacket) -> Result<Sim, OutOfMemory>
-    ensures { IfOk result (λ line. LineAt (start (new_memory period) packet) line) }
-{
-    let eeprom = Eeprom::new(alloc, period)?;
-    let console = Console::new(alloc, eeprom, packet)?;
-    Sim::new(alloc, console)
-}
-
-// The bytes of a file that is an archive without rows.
-const EMPTY_BYTES: usize = 177;
-
-// The most bytes of the file that a record can take: its own slot, and thirteen of a day's summary before it.
-const RECORD_BYTES: usize = 14 * 176;
-
-// The changes that the openings, and the batches that are cut short, of 200 lines can make, and those of the last opening.
-const OPENING_CHANGES: usize = 200 * 7 + 3;
-
-// The changes of a batch, which has a record or more.
-const RECORD_CHANGES: usize = 4;
-
-// The most bytes that these openings and batches can write.
-const OPENING_BYTES: usize = 2_500_000;
-
-// The most bytes that a record can have written: those of the file, and the gate of its batch.
-const RECORD_WRITES: usize = RECORD_BYTES + 1;
-
-// An empty disk with room for a run of so many records.
-fn new_disk(alloc: Global, records: u32) -> Result<Stopping<MemDisk>, OutOfMemory>
-    ensures { IfOk result (λ disk. (eeprom : List ℕ) (packet : LoopPacket) → IsNewDisk records eeprom packet disk) }
-{
-    let records = records as usize;
-    let disk = MemDisk::new(
-        alloc,
-        EMPTY_BYTES + RECORD_BYTES * records,
-        OPENING_CHANGES + RECORD_CHANGES * records,
-        OPENING_BYTES + RECORD_WRITES * records,
-    )?;
-    Ok(Stopping::new(disk))
 }
 
 #[cfg(test)]

@@ -1,4 +1,4 @@
-ghost use Rattle.std.specs.Prelude.{◌≡◌, ◌+◌, ◌<◌, ◌≤◌, ◌++◌};
+ghost use Rattle.std.specs.Prelude.{◌≡◌, ◌+◌, ◌<◌, ◌≤◌, ◌++◌, decimal, length};
 ghost use Rattle.arrayvec.specs.ArrayVec.{array_vec_len};
 ghost use Rattle.station_top.specs.SlotText.{slot_text, place_text, IsReadable, IsUncorrected};
 ghost use Rattle.station_top.specs.StyleRead.{style_of};
@@ -6,6 +6,7 @@ ghost use Rattle.station_top.specs.StyleRead.{style_of};
 use crate::style::Style;
 use archive_record::RecordRead;
 use arrayvec::ArrayVec;
+use itoa::Buffer;
 use station_base::{LINE_ROOM, push_bytes, push_number};
 use vantage_frames::SLOTS;
 
@@ -63,4 +64,17 @@ fn push_place(text: &mut Text, page: u32, place: u8)
     push_number(text, page);
     push_bytes(text, b" place ");
     push_number(text, u32::from(place));
+}
+
+// The most digits of a number of 64 bits.
+const DIGITS: usize = 20;
+
+/// Appends a name and a number.
+pub fn push_count(text: &mut Text, name: &[u8], count: u64)
+    requires { array_vec_len text.old + length name.now + DIGITS ≤ ROOM }
+    ensures text { text.new.items ≡ text.old.items ++ name.now ++ decimal count }
+    ensures length { array_vec_len text.new ≤ array_vec_len text.old + length name.now + DIGITS }
+{
+    push_bytes(text, name);
+    push_bytes(text, Buffer::new().format(count).as_bytes());
 }

@@ -121,6 +121,7 @@ fn done<D: Disk>(
     let mut files = MemFiles::new(Vec::new(alloc), Vec::new(alloc));
     let mut sink = MemSink::new(alloc, ROOM)?;
     let mut link = ScriptLink::new(alloc, Vec::new(alloc))?;
+    assert!(rt; disk.moment() < MOST_CHANGES);
     assert!(rt; second.moment() < MOST_CHANGES);
     let status = run(alloc, words, &mut files, &mut sink, &mut link, disk, second);
     Ok((status, Vec::from_slice(alloc, sink.bytes())?))

@@ -31,6 +31,9 @@ const LINE: usize = 87;
 // More bytes than a report of these has.
 const ROOM: usize = 20_000;
 
+// More changes than any disk of these tests begins.
+const MOST_CHANGES: u64 = 10;
+
 const DAY: &str = "2024-07-01";
 
 // The row slot of 2024-07-01 00:05 with 65.0 degrees outside, and of the five fields that always have a value 0, up to
@@ -125,6 +128,7 @@ fn holding(rt: &impl Abort, alloc: Global, bytes: &[u8]) -> Result<MemDisk, Fail
 
 // How the words end over a disk, with a sink of that capacity, and what they write.
 fn reported(
+    rt: &impl Abort,
     alloc: Global,
     words: &[&str],
     disk: &mut MemDisk,
@@ -134,6 +138,7 @@ fn reported(
     let mut sink = MemSink::new(alloc, capacity)?;
     let mut link = ScriptLink::new(alloc, Vec::new(alloc))?;
     let mut second = MemDisk::new(alloc, 0, 0, 0)?;
+    assert!(rt; disk.moment() < MOST_CHANGES);
     let status = run(
         alloc,
         words,
@@ -156,7 +161,7 @@ fn expect(
     text: &str,
 ) -> Result<(), Fail> {
     let mut disk = holding(rt, alloc, bytes)?;
-    let (ended, written) = reported(alloc, words, &mut disk, ROOM)?;
+    let (ended, written) = reported(rt, alloc, words, &mut disk, ROOM)?;
     assert_eq!(rt; (ended, written.as_slice()), (status, text.as_bytes()));
     Ok(())
 }
@@ -200,7 +205,7 @@ fn an_archive_that_is_refused_is_named(rt: HostRuntime) -> Result<(), Fail> {
 fn refuse(rt: &impl Abort, alloc: Global, words: &[&str]) -> Result<(), Fail> {
     let mut disk = MemDisk::new(alloc, 0, 0, 0)?;
     disk.fail_at(1);
-    let (status, text) = reported(alloc, words, &mut disk, 100)?;
+    let (status, text) = reported(rt, alloc, words, &mut disk, 100)?;
     assert_eq!(rt; (status, text.as_slice()), (1, b"usage\n".as_slice()));
     assert!(rt; disk.attach("a", false) == Disked::Failed);
     Ok(())
@@ -236,7 +241,7 @@ fn cut_at(
     let mut disk = holding(rt, alloc, bytes)?;
     disk.fail_at(call);
     let words = ["report", "a", kind, DAY, DAY];
-    let (status, text) = reported(alloc, &words, &mut disk, ROOM)?;
+    let (status, text) = reported(rt, alloc, &words, &mut disk, ROOM)?;
     if status == 0 {
         assert_eq!(rt; text.as_slice(), lines);
         return Ok(None);
@@ -297,7 +302,7 @@ fn fill(
             continue;
         }
         let mut disk = holding(rt, alloc, bytes)?;
-        let (status, text) = reported(alloc, &words, &mut disk, end)?;
+        let (status, text) = reported(rt, alloc, &words, &mut disk, end)?;
         assert_eq!(rt; status, 9, "{kind}, at {end}");
         assert!(rt; lines.starts_with(&text), "{kind}, at {end}");
     }
@@ -321,7 +326,7 @@ fn a_sink_that_ends_within_a_line_takes_a_front(rt: HostRuntime) -> Result<(), F
     let mut disk = holding(&rt, alloc, &two)?;
     disk.fail_at(1);
     let words = ["report", "a", "days", DAY, DAY];
-    let (status, text) = reported(alloc, &words, &mut disk, 10)?;
+    let (status, text) = reported(&rt, alloc, &words, &mut disk, 10)?;
     assert_eq!(rt; status, 9);
     assert!(rt; "disk fault\n".as_bytes().starts_with(&text));
     Ok(())

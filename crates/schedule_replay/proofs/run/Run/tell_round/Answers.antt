@@ -16,11 +16,12 @@ returns g c = record {
       let stands : StandsFor c.book.result.now r.rows = subst (λ (b : Book). StandsFor b r.rows) (sym c.book.ensures) (told.goes_on still).stands.stands_for in
       let long = c.len.ensures.rows r.rows stands in
       let tells = line_tells (stop_set c.args.stop) c.args.played.now _ r r.end ends told.tells refl number refl refl refl refl (sym c.acked.ensures) (λ z. sym long) c.args.self.now.written written in (
-        told_on settings openings (stop_set c.args.stop) c.args.session c.args.played.now c.args.disk.now c.write_round.new.disk r a c.args.self.now.written c.args.self.now.rounds c.len.result told c.write_round.ensures.disk still (long ∙ ap length (sym told.rows)),
-        c.in_ok-write_round.ensures.text r tells (λ z. (settings, told.goes_on z)),
+        told_on settings openings (stop_set c.args.stop) c.args.session c.args.played.now c.args.disk.now c.round.new.disk r a c.args.self.now.written c.args.self.now.rounds c.len.result told c.round.ensures.disk still (long ∙ ap length (sym told.rows)),
+        c.in_ok-round.ensures.tells r tells (λ z. (settings, told.goes_on z)),
       );
   err = tt;
-  limits = ap (λ (s : StoppingState). s.inner.limits) c.write_round.ensures.disk.state;
+  limits = ap (λ (s : StoppingState). s.inner.limits) c.round.ensures.disk.state;
+  moment = c.round.ensures.disk.stays.at;
   rounds = refl;
   cause = search rules;
   still = search rules;

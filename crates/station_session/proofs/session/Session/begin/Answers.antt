@@ -8,11 +8,11 @@ pub returns-in-Done : goal.returns-in-Done
 returns-in-Done c =
     let r = c.new-round in
     let fresh = sym c.is_stale.ensures ∙ c.if-is_stale.false in
-    let at = subst (λ (x : Option CivilMinute). RoundAt x _ _ r.result) c.last.ensures.last (round_begun c.last.result r.result r.ensures.shows r.ensures.more) in
+    let at = subst (λ (x : Option CivilMinute). RoundAt x _ _ r.result) c.last.ensures.last (round_begun c.last.result r.result r.ensures.shows r.ensures.more r.ensures.troubles) in
     record {
       begins = record {
         is_begun = (
-          fits_begun _ r.result _ at (c.room.ensures.stays.stale ∙ fresh) c.attempts-report.ensures c.tally-report.ensures c.requires.new.marks c.in-Done.ensures.spare c.requires.new.room,
+          fits_begun _ r.result _ at (c.room.ensures.stays.stale ∙ fresh) c.attempts-report.ensures c.tally-report.ensures (c.requires.new.troubles ∙ sym r.ensures.troubles) c.requires.new.marks c.in-Done.ensures.spare c.requires.new.room,
           at,
           omega (arith, r.ensures.left, r.ensures.more),
         );

@@ -1,9 +1,11 @@
-use Rattle.std.proofs.Common.{◌-◌, vec_len, vec_capacity, refl, arith}
+use Rattle.std.proofs.Common.{◌-◌, List, length, vec_len, vec_capacity, refl, ap, arith}
 use Rattle.weather_book.specs.Book.{spare}
+use Rattle.dmpaft_driver.specs.declared.outcome.Trouble.{Trouble}
 use Rattle.station_session.specs.Attempts.{stamp_behind}
 use Rattle.station_session.specs.RoundAt.{tally_of}
 use Rattle.station_session.specs.Turning.{desk}
 use Rattle.station_session.proofs.OneTurn.{turned, takes, fits_then, room_then, goes_on, answers, leaves}
+use Rattle.station_session.proofs.Rounds.{few_troubles}
 use Rattle.station_session.proofs.SoFar.{suits, pump_stands, room_least, few_then}
 use Rattle.station_session.proofs.session.Session.turn.Goals as goal
 
@@ -29,38 +31,43 @@ go_on-turn-requires-clause-skipped g c =
     let few = few_then m.at refl (c.step-end.ensures.steps (tally_of m.last m.at.tries) (stamp_behind m.last m.at.tries) m.at.state m.at.shows) in
     omega (arith, few.1)
 
+pub go_on-turn-requires-clause-room : goal.go_on-turn-requires-clause-room
+go_on-turn-requires-clause-room g c =
+    let at = c.requires.fits.marked.at in
+    omega (arith, few_troubles at.tries, at.few, ap (λ (x : List Trouble). length x) at.troubles)
+
 pub returns-clause-takes : goal.returns-clause-takes
 returns-clause-takes g c last talk kept r =
-    takes (turned g.L.Link.traffic g.D.Disk.medium _ _ c.step-end.result c.go_on-turn.result (record { pump = c.step-end.new.pump; more = c.args.round.now.more }) c.last.result c.requires.fits c.step-end.ensures.steps refl c.last.ensures.last
-    c.go_on-turn.ensures.goes c.attempts-report.ensures c.tally-report.ensures c.step-end.ensures.capacity refl refl) r
+    takes (turned g.L.Link.traffic g.D.Disk.medium _ _ c.step-end.result c.go_on-turn.result (record { pump = c.step-end.new.pump; more = c.args.round.now.more; troubles = c.args.round.now.troubles }) c.last.result c.requires.fits c.step-end.ensures.steps refl refl c.last.ensures.last
+    c.go_on-turn.ensures.goes c.attempts-report.ensures c.tally-report.ensures c.troubles-report.ensures c.step-end.ensures.capacity refl refl) r
 
 pub returns-clause-fits : goal.returns-clause-fits
 returns-clause-fits g c =
-    fits_then (turned g.L.Link.traffic g.D.Disk.medium _ _ c.step-end.result c.go_on-turn.result (record { pump = c.step-end.new.pump; more = c.args.round.now.more }) c.last.result c.requires.fits c.step-end.ensures.steps refl c.last.ensures.last
-    c.go_on-turn.ensures.goes c.attempts-report.ensures c.tally-report.ensures c.step-end.ensures.capacity refl refl)
+    fits_then (turned g.L.Link.traffic g.D.Disk.medium _ _ c.step-end.result c.go_on-turn.result (record { pump = c.step-end.new.pump; more = c.args.round.now.more; troubles = c.args.round.now.troubles }) c.last.result c.requires.fits c.step-end.ensures.steps refl refl c.last.ensures.last
+    c.go_on-turn.ensures.goes c.attempts-report.ensures c.tally-report.ensures c.troubles-report.ensures c.step-end.ensures.capacity refl refl)
 
 pub returns-clause-room : goal.returns-clause-room
 returns-clause-room g c more =
     room_then (turned g.L.Link.traffic g.D.Disk.medium (desk c.args.self.now c.args.link.now c.args.disk.now c.args.round.now c.args.report.now)
     (desk (record { book = c.step-end.new.book; settings = c.args.self.now.settings }) c.step-end.new.link c.step-end.new.disk c.go_on-turn.new.self
-    (record { rows_before = c.args.report.now.rows_before; rows_after = c.len-report.result; attempts = c.attempts-report.result; tally = c.tally-report.result; marks = c.step-end.new.marks }))
-    c.step-end.result c.go_on-turn.result (record { pump = c.step-end.new.pump; more = c.args.round.now.more }) c.last.result c.requires.fits c.step-end.ensures.steps refl c.last.ensures.last
-    c.go_on-turn.ensures.goes c.attempts-report.ensures c.tally-report.ensures c.step-end.ensures.capacity refl refl) more c.requires.room
+    (record { rows_before = c.args.report.now.rows_before; rows_after = c.len-report.result; attempts = c.attempts-report.result; tally = c.tally-report.result; marks = c.step-end.new.marks; troubles = c.troubles-report.result }))
+    c.step-end.result c.go_on-turn.result (record { pump = c.step-end.new.pump; more = c.args.round.now.more; troubles = c.args.round.now.troubles }) c.last.result c.requires.fits c.step-end.ensures.steps refl refl c.last.ensures.last
+    c.go_on-turn.ensures.goes c.attempts-report.ensures c.tally-report.ensures c.troubles-report.ensures c.step-end.ensures.capacity refl refl) more c.requires.room
 
 pub returns-clause-goes_on : goal.returns-clause-goes_on
 returns-clause-goes_on g c began talk kept u =
-    goes_on (turned g.L.Link.traffic g.D.Disk.medium _ _ c.step-end.result c.go_on-turn.result (record { pump = c.step-end.new.pump; more = c.args.round.now.more }) c.last.result c.requires.fits c.step-end.ensures.steps refl c.last.ensures.last
-    c.go_on-turn.ensures.goes c.attempts-report.ensures c.tally-report.ensures c.step-end.ensures.capacity refl refl)
+    goes_on (turned g.L.Link.traffic g.D.Disk.medium _ _ c.step-end.result c.go_on-turn.result (record { pump = c.step-end.new.pump; more = c.args.round.now.more; troubles = c.args.round.now.troubles }) c.last.result c.requires.fits c.step-end.ensures.steps refl refl c.last.ensures.last
+    c.go_on-turn.ensures.goes c.attempts-report.ensures c.tally-report.ensures c.troubles-report.ensures c.step-end.ensures.capacity refl refl)
     c.len-report.ensures.len c.step-end.ensures.fault c.step-end.ensures.shortage began talk kept u
 
 pub returns-clause-answers : goal.returns-clause-answers
 returns-clause-answers g c =
-    answers (turned g.L.Link.traffic g.D.Disk.medium _ _ c.step-end.result c.go_on-turn.result (record { pump = c.step-end.new.pump; more = c.args.round.now.more }) c.last.result c.requires.fits c.step-end.ensures.steps refl c.last.ensures.last
-    c.go_on-turn.ensures.goes c.attempts-report.ensures c.tally-report.ensures c.step-end.ensures.capacity refl refl)
+    answers (turned g.L.Link.traffic g.D.Disk.medium _ _ c.step-end.result c.go_on-turn.result (record { pump = c.step-end.new.pump; more = c.args.round.now.more; troubles = c.args.round.now.troubles }) c.last.result c.requires.fits c.step-end.ensures.steps refl refl c.last.ensures.last
+    c.go_on-turn.ensures.goes c.attempts-report.ensures c.tally-report.ensures c.troubles-report.ensures c.step-end.ensures.capacity refl refl)
     c.step-end.ensures.fault c.step-end.ensures.shortage
 
 pub returns-clause-leaves : goal.returns-clause-leaves
 returns-clause-leaves g c =
-    leaves (turned g.L.Link.traffic g.D.Disk.medium _ _ c.step-end.result c.go_on-turn.result (record { pump = c.step-end.new.pump; more = c.args.round.now.more }) c.last.result c.requires.fits c.step-end.ensures.steps refl c.last.ensures.last
-    c.go_on-turn.ensures.goes c.attempts-report.ensures c.tally-report.ensures c.step-end.ensures.capacity refl refl)
+    leaves (turned g.L.Link.traffic g.D.Disk.medium _ _ c.step-end.result c.go_on-turn.result (record { pump = c.step-end.new.pump; more = c.args.round.now.more; troubles = c.args.round.now.troubles }) c.last.result c.requires.fits c.step-end.ensures.steps refl refl c.last.ensures.last
+    c.go_on-turn.ensures.goes c.attempts-report.ensures c.tally-report.ensures c.troubles-report.ensures c.step-end.ensures.capacity refl refl)
     c.len-report.ensures.len

@@ -1,0 +1,4 @@
+pub mod Replies
+pub mod Serving
+pub mod Runs
+pub mod Ready

@@ -1,0 +1,36 @@
+ghost use Rattle.console_model.specs.Console as model;
+ghost use Rattle.console_model.specs.Standing.{StandsFor};
+ghost use Rattle.console_server.specs.Ready.{made_ready, ticked};
+
+use crate::run::run_falls_due;
+use console_model::Console;
+use station_base::Period;
+use station_sim::Step;
+
+/// Takes the steps of a schedule of this period before its first round: records fall due, and ticks pass.
+///
+/// An opening is passed over, and the records of a round do not fall due. What the console says to a tick is dropped.
+pub fn make_ready(console: &mut Console, steps: &[Step], period: Period)
+    ensures { (k : model.Console) → StandsFor console.old k → StandsFor console.new (made_ready period steps.now k) }
+{
+    for step in steps {
+        match step {
+            Step::Due(rec) => {
+                let _ = console.due(*rec);
+            }
+            Step::Run { first, count } => run_falls_due(console, first, *count, period),
+            Step::Idle(ticks) => pass_ticks(console, *ticks),
+            Step::Open(_) => {}
+            Step::Round { .. } => return,
+        }
+    }
+}
+
+// So many ticks pass.
+fn pass_ticks(console: &mut Console, ticks: u8)
+    ensures { (k : model.Console) → StandsFor console.old k → StandsFor console.new (ticked ticks k) }
+{
+    for _ in 0..ticks {
+        let _ = console.tick();
+    }
+}

@@ -1,0 +1,173 @@
+-- How many bytes an attempt hears and says.
+use Rattle.std.proofs.Common.{◌≡◌, ℕ, zero, suc, ◌+◌, ◌-◌, ◌*◌, ◌≤◌, ◌⊎◌, true, false, inl, inr, List, [], ◌∷◌, ◌++◌, length, refl, sym, subst, arith, Option}
+use Rattle.station_base.specs.CivilMinute.{CivilMinute}
+use Rattle.serial_link.specs.Talk.{message}
+use Rattle.serial_link.specs.declared.talk.TalkItem.{TalkItem}
+use Rattle.serial_link.specs.declared.talk.TalkItem.TheVariants.{Said}
+use Rattle.vantage_frames.specs.StampFrame.{stamp_frame_of}
+use Rattle.vantage_frames.specs.Words.{frame_of_words}
+use Rattle.wake_retry.specs.Parts.{heard}
+use Rattle.wake_retry.specs.Bounds.{IsBounded}
+use Rattle.wake_retry.proofs.Bounding.{bounded_joins, bounded_within, bounded_front, message_bounded, said_first, bounds_settling, bounds_answer, bounds_wake}
+use Rattle.dmpaft_driver.specs.declared.outcome.DumpEnd.{DumpEnd}
+use Rattle.dmpaft_driver.specs.declared.outcome.DumpEnd.TheVariants as dump_end
+use Rattle.dmpaft_driver.specs.declared.outcome.Trouble.{Trouble}
+use Rattle.dmpaft_driver.specs.declared.outcome.Trouble.TheVariants.{Asleep, NoAck}
+use Rattle.dmpaft_driver.specs.Header.{IsHeader, IsNoHeader, first_of}
+use Rattle.dmpaft_driver.specs.Attempt.{Attempt, Takes, Misses, AskFloods, Pages, Heads, Requests, End, esc, last_said, dmpaft}
+use Rattle.dmpaft_driver.specs.Bounds.{AttemptsAreBounded}
+use Rattle.dmpaft_driver.specs.Outcome.{Ended, IsCutAfter}
+use Rattle.dmpaft_driver.specs.Page.{next_said}
+
+-- so many askings for a page, with a settling between two: as much is heard as by so many askings and settlings, less a settling
+abbrev AreAskings : ℕ → List TalkItem → Type 0
+AreAskings left talk = IsBounded (65803 * left - 65536) left talk
+
+-- the last asking
+last_asking : (left b : ℕ) (talk t rest : List TalkItem) → talk ≡ Said b true ∷ t ++ rest → IsBounded 267 0 t → rest ≡ [] → AreAskings (suc left) talk
+last_asking left b talk t rest is answer none =
+    subst (λ (x : List TalkItem). AreAskings (suc left) x) (sym is)
+    (bounded_within 267 1 (65803 * suc left - 65536) (suc left) (Said b true ∷ t ++ rest) (omega arith) (omega arith)
+    (subst (λ (x : List TalkItem). IsBounded 267 1 (Said b true ∷ t ++ x)) (sym none)
+    (said_first 267 0 b (t ++ []) (bounded_joins 267 0 0 0 t [] answer (record { hears = omega arith; says = omega arith })))))
+
+-- an asking, a settling, and other askings
+next_asking : (left b : ℕ) (talk t rest s more : List TalkItem) → talk ≡ Said b true ∷ t ++ rest → IsBounded 267 0 t → rest ≡ s ++ more → IsBounded 65536 0 s → 1 ≤ left → AreAskings left more → AreAskings (suc left) talk
+next_asking left b talk t rest s more is answer split settled some others =
+    subst (λ (x : List TalkItem). AreAskings (suc left) x) (sym is)
+    (subst (λ (x : List TalkItem). AreAskings (suc left) (Said b true ∷ t ++ x)) (sym split)
+    (bounded_within (267 + (65536 + (65803 * left - 65536))) (0 + (0 + left) + 1) (65803 * suc left - 65536) (suc left) (Said b true ∷ t ++ (s ++ more)) (omega (arith, some)) (omega arith)
+    (said_first (267 + (65536 + (65803 * left - 65536))) (0 + (0 + left)) b (t ++ (s ++ more))
+    (bounded_joins 267 0 (65536 + (65803 * left - 65536)) (0 + left) t (s ++ more) answer
+    (bounded_joins 65536 0 (65803 * left - 65536) left s more settled others)))))
+
+takes : (left k b : ℕ) (talk : List TalkItem) (bytes : List ℕ) → Takes left k b talk bytes → (1 ≤ left) × AreAskings left talk
+takes zero k b talk bytes x = absurd x
+takes (suc left) k b talk bytes (t, rest, is, w, inl (page, none, same)) = (omega arith, last_asking left b talk t rest is (bounds_answer 3 267 t w) none)
+takes (suc left) k b talk bytes (t, rest, is, w, inr (other, near, (s, more, split, still, x))) =
+    let y = takes left k (next_said k (heard t)) more bytes x in
+    (omega arith, next_asking left b talk t rest s more is (bounds_answer 3 267 t w) split ((bounds_settling 6).still s still) y.0 y.1)
+
+misses : (left k b : ℕ) (talk : List TalkItem) (trouble : Trouble) → Misses left k b talk trouble → (1 ≤ left) × AreAskings left talk
+misses zero k b talk trouble x = absurd x
+misses (suc left) k b talk trouble (t, rest, is, w, other, inl (ahead, none, e)) = (omega arith, last_asking left b talk t rest is (bounds_answer 3 267 t w) none)
+misses (suc left) k b talk trouble (t, rest, is, w, other, inr (inl (near, last, none, e))) = (omega arith, last_asking left b talk t rest is (bounds_answer 3 267 t w) none)
+misses (suc left) k b talk trouble (t, rest, is, w, other, inr (inr (near, (s, more, split, still, x)))) =
+    let y = misses left k (next_said k (heard t)) more trouble x in
+    (omega arith, next_asking left b talk t rest s more is (bounds_answer 3 267 t w) split ((bounds_settling 6).still s still) y.0 y.1)
+
+-- a settling that floods, after an asking that is not the last
+flooded_asking : (left b : ℕ) (talk t rest : List TalkItem) → talk ≡ Said b true ∷ t ++ rest → IsBounded 267 0 t → IsBounded 65536 0 rest → 1 ≤ left → AreAskings (suc left) talk
+flooded_asking left b talk t rest is answer flood some =
+    subst (λ (x : List TalkItem). AreAskings (suc left) x) (sym is)
+    (bounded_within (267 + 65536) (0 + 0 + 1) (65803 * suc left - 65536) (suc left) (Said b true ∷ t ++ rest) (omega (arith, some)) (omega arith)
+    (said_first (267 + 65536) (0 + 0) b (t ++ rest) (bounded_joins 267 0 65536 0 t rest answer flood)))
+
+some_left : (left : ℕ) → (left ≡ 0 → ⊥) → 1 ≤ left
+some_left zero ne = absurd (ne refl)
+some_left (suc left) ne = omega arith
+
+ask_floods : (left k b : ℕ) (talk : List TalkItem) → AskFloods left k b talk → (1 ≤ left) × AreAskings left talk
+ask_floods zero k b talk x = absurd x
+ask_floods (suc left) k b talk (t, rest, is, w, other, near, inl (some, flood)) =
+    (omega arith, flooded_asking left b talk t rest is (bounds_answer 3 267 t w) ((bounds_settling 6).floods rest flood) (some_left left some))
+ask_floods (suc left) k b talk (t, rest, is, w, other, near, inr (s, more, split, still, x)) =
+    let y = ask_floods left k (next_said k (heard t)) more x in
+    (omega arith, next_asking left b talk t rest s more is (bounds_answer 3 267 t w) split ((bounds_settling 6).still s still) y.0 y.1)
+
+-- two parts, with the bounds of both
+parts : (h k i j : ℕ) (talk s t : List TalkItem) → talk ≡ s ++ t → IsBounded h k s → IsBounded i j t → IsBounded (h + i) (k + j) talk
+parts h k i j talk s t is one two = subst (λ (x : List TalkItem). IsBounded (h + i) (k + j) x) (sym is) (bounded_joins h k i j s t one two)
+
+esc_bounded : (talk : List TalkItem) → talk ≡ esc → IsBounded 0 1 talk
+esc_bounded talk is = subst (λ (x : List TalkItem). IsBounded 0 1 x) (sym is) (record { hears = omega arith; says = omega arith })
+
+last_bounded : (k : ℕ) → IsBounded 0 1 (last_said k)
+last_bounded zero = record { hears = omega arith; says = omega arith }
+last_bounded (suc k) = record { hears = omega arith; says = omega arith }
+
+none_bounded : (talk : List TalkItem) → talk ≡ [] → IsBounded 0 0 talk
+none_bounded talk is = subst (λ (x : List TalkItem). IsBounded 0 0 x) (sym is) (record { hears = omega arith; says = omega arith })
+
+-- so many pages, each asked for four times, and the byte that ends the attempt
+abbrev ArePages : ℕ → List TalkItem → Type 0
+ArePages left talk = IsBounded (197676 * left) (4 * left + 1) talk
+
+pages : (left k : ℕ) (talk : List TalkItem) (taken : List (List ℕ)) (end : End) → Pages left k talk taken end → ArePages left talk
+pages zero k talk taken end (is, none, e) =
+    bounded_within 0 1 (197676 * 0) (4 * 0 + 1) talk (omega arith) (omega arith) (subst (λ (x : List TalkItem). IsBounded 0 1 x) (sym is) (last_bounded k))
+pages (suc left) k talk taken end (inl (t, rest, bytes, more, is, x, f, inl y)) =
+    bounded_within (197676 + 197676 * left) (4 + (4 * left + 1)) (197676 * suc left) (4 * suc left + 1) talk (omega arith) (omega arith)
+    (parts 197676 4 (197676 * left) (4 * left + 1) talk t rest is (takes 4 k 6 t bytes x).1 (pages left (k + 1) rest more end y))
+pages (suc left) k talk taken end (inl (t, rest, bytes, more, is, x, f, inr (none, g, e))) =
+    bounded_within (197676 + 0) (4 + 0) (197676 * suc left) (4 * suc left + 1) talk (omega arith) (omega arith)
+    (parts 197676 4 0 0 talk t rest is (takes 4 k 6 t bytes x).1 (none_bounded rest none))
+pages (suc left) k talk taken end (inr (inl (t, trouble, is, x, f, e))) =
+    bounded_within (197676 + 0) (4 + 1) (197676 * suc left) (4 * suc left + 1) talk (omega arith) (omega arith)
+    (parts 197676 4 0 1 talk t esc is (misses 4 k 6 t trouble x).1 (esc_bounded esc refl))
+pages (suc left) k talk taken end (inr (inr (x, f, e))) =
+    bounded_within 197676 4 (197676 * suc left) (4 * suc left + 1) talk (omega arith) (omega arith) (ask_floods 4 k 6 talk x).1
+
+module _ (frame : List ℕ) (place : ℕ) (taken : List (List ℕ)) (end : End) where
+  heads : (talk : List TalkItem) → length frame ≡ 6 → Heads frame talk place taken end → IsBounded 101407795 2059 talk
+  heads talk six (t, rest, is, w, x) =
+      bounded_within (0 + (7 + 101407788)) (length frame + (0 + 2053)) 101407795 2059 talk (omega arith) (omega (arith, six))
+      (parts 0 (length frame) (7 + 101407788) (0 + 2053) talk (message frame) (t ++ rest) is (message_bounded frame)
+      (bounded_joins 7 0 101407788 2053 t rest (bounds_answer 3 7 t w) (behind x)))
+    where
+      behind : ((n : ℕ) × IsHeader (heard t) n place × Pages n 0 rest taken end) ⊎ ((trouble : Trouble) × IsNoHeader (heard t) trouble × (rest ≡ esc) × (taken ≡ []) × (end ≡ End.Failed trouble)) → IsBounded 101407788 2053 rest
+      behind (inl (n, h, y)) = bounded_within (197676 * n) (4 * n + 1) 101407788 2053 rest (omega (arith, h.possible.0)) (omega (arith, h.possible.0)) (pages n 0 rest taken end y)
+      behind (inr (trouble, h, e, f, g)) = bounded_within 0 1 101407788 2053 rest (omega arith) (omega arith) (esc_bounded rest e)
+
+  called : IsBounded 0 7 (message dmpaft)
+  unfolding dmpaft
+  called = message_bounded dmpaft
+
+  requests : (talk : List TalkItem) → length frame ≡ 6 → Requests frame talk place taken end → IsBounded 101407796 2066 talk
+  requests talk six (t, rest, is, w, x) =
+      bounded_within (0 + (1 + 101407795)) (7 + (0 + 2059)) 101407796 2066 talk (omega arith) (omega arith)
+      (parts 0 7 (1 + 101407795) (0 + 2059) talk (message dmpaft) (t ++ rest) is called
+      (bounded_joins 1 0 101407795 2059 t rest (bounds_answer 3 1 t w) (behind x)))
+    where
+      behind : ((heard t ≡ 6 ∷ []) × Heads frame rest place taken end) ⊎ ((heard t ≡ 6 ∷ [] → ⊥) × (rest ≡ esc) × (taken ≡ []) × (end ≡ End.Failed (NoAck (first_of (heard t))))) → IsBounded 101407795 2059 rest
+      behind (inl (h, y)) = heads rest six y
+      behind (inr (h, e, f, g)) = bounded_within 0 1 101407795 2059 rest (omega arith) (omega arith) (esc_bounded rest e)
+
+  attempt : (talk : List TalkItem) → length frame ≡ 6 → Attempt frame talk place taken end → IsBounded 101669940 2069 talk
+  attempt talk six (inl (s, t, rest, awake, is, still, wakes, x)) =
+      bounded_within (65536 + (65536 * 3 + 101407796)) (0 + (3 + 2066)) 101669940 2069 talk (omega arith) (omega arith)
+      (parts 65536 0 (65536 * 3 + 101407796) (3 + 2066) talk s (t ++ rest) is ((bounds_settling 6).still s still)
+      (bounded_joins (65536 * 3) 3 101407796 2066 t rest ((bounds_wake 3).ends t awake wakes) (behind x)))
+    where
+      behind : ((awake ≡ true) × Requests frame rest place taken end) ⊎ ((awake ≡ false) × (rest ≡ esc) × (taken ≡ []) × (end ≡ End.Failed Asleep)) → IsBounded 101407796 2066 rest
+      behind (inl (h, y)) = requests rest six y
+      behind (inr (h, e, f, g)) = bounded_within 0 1 101407796 2066 rest (omega arith) (omega arith) (esc_bounded rest e)
+  attempt talk six (inr (inl (flood, f, e))) =
+      bounded_within 65536 0 101669940 2069 talk (omega arith) (omega arith) ((bounds_settling 6).floods talk flood)
+  attempt talk six (inr (inr (s, t, is, still, floods, f, e))) =
+      bounded_within (65536 + 65536 * 3) (0 + 3) 101669940 2069 talk (omega arith) (omega arith)
+      (parts 65536 0 (65536 * 3) 3 talk s t is ((bounds_settling 6).still s still) ((bounds_wake 3).floods t floods))
+
+frame_six : (after : Option CivilMinute) → length (stamp_frame_of after) ≡ 6
+unfolding frame_of_words
+frame_six after = refl
+
+module _ (after : Option CivilMinute) (place : ℕ) (talk : List TalkItem) (taken : List (List ℕ)) where
+  whole : (end : End) → Attempt (stamp_frame_of after) talk place taken end → IsBounded 101669940 2069 talk
+  whole end x = attempt (stamp_frame_of after) place taken end talk (frame_six after) x
+
+  cut : IsCutAfter (λ t pages e. Attempt (stamp_frame_of after) t place pages e) talk taken → IsBounded 101669940 2069 talk
+  cut x = bounded_front 101669940 2069 talk x.rest (attempt (stamp_frame_of after) place taken x.end (talk ++ x.rest) (frame_six after) x.whole)
+
+  ended : (end : DumpEnd) → Ended (λ t pages e. Attempt (stamp_frame_of after) t place pages e) end talk taken → IsBounded 101669940 2069 talk
+  ended dump_end.Whole x = whole End.Whole x
+  ended (dump_end.Failed trouble) x = whole (End.Failed trouble) x
+  ended dump_end.Full x = whole End.Refused x
+  ended dump_end.Stale x = whole End.Refused x
+  ended dump_end.DiskFault x = whole End.Refused x
+  ended dump_end.Flood x = whole End.Flooded x
+  ended dump_end.LinkFault x = cut x
+  ended dump_end.OutOfMemory x = cut x
+
+pub attempts_are_bounded : AttemptsAreBounded
+attempts_are_bounded after talk place taken end x = ended after place talk taken end x.ends

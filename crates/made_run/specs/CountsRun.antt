@@ -1,0 +1,27 @@
+-- What the counts of a made run are.
+use Rattle.std.specs.Prelude.{◌≡◌, ℕ, List}
+use Rattle.eeprom_map.specs.Memory.{new_memory}
+use Rattle.loop_packet.specs.Blank.{IsBlank}
+use Rattle.loop_packet.specs.declared.packet.LoopPacket.{LoopPacket}
+use Rattle.settings_file.specs.StationSettings.{plain_settings}
+use Rattle.station_sim.specs.declared.schedule.step.Step as code_step
+use Rattle.station_sim.specs.ScheduleSteps.{steps_seen}
+use Rattle.station_replay.specs.Kept.{Kept}
+use Rattle.station_replay.specs.Replay.{IsWhole, Item, start}
+use Rattle.station_replay.specs.Schedule.{records}
+use Rattle.schedule_replay.specs.Counting.{counted, no_counts}
+use Rattle.schedule_replay.specs.declared.counts.Counts.{Counts}
+use Rattle.schedule_replay.specs.Steps.{steps_for}
+use Rattle.made_run.specs.Made.{made_steps}
+
+-- They count items that are the run of the steps made from the seed, over a new console and a new archive, with plain
+-- settings. All is kept of these items, and no delivery was unseen.
+pub record CountsRun (seed count : ℕ) (counts : Counts) : Type 0 where
+  pub steps : List code_step.Step
+  pub made : steps_seen 5 steps ≡ made_steps seed count
+  pub packet : LoopPacket
+  pub blank : IsBlank packet
+  pub items : List Item
+  pub whole : IsWhole plain_settings (start (new_memory 5) packet) (steps_for 5 steps) items
+  pub kept : Kept plain_settings (records (steps_for 5 steps)) items
+  pub counts_are : counts ≡ counted no_counts items

@@ -1,0 +1,4 @@
+pub mod CountsRun
+pub mod Draws
+pub mod Made
+pub mod MakeEnd

@@ -1,0 +1,14 @@
+//! Makes a schedule from a number, and runs it to counts.
+#![tactic(auto)]
+
+mod draws;
+mod making;
+mod record;
+mod round;
+mod schedule;
+
+pub use making::{MakeEnd, make};
+pub use schedule::MOST_MADE;
+
+#[cfg(test)]
+mod tests;

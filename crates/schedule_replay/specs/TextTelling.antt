@@ -1,0 +1,64 @@
+-- The items of a run as text in a sink.
+use Rattle.std.specs.Prelude.{◌≡◌, ℕ, List, [], ◌∷◌, ◌++◌, Some, None}
+use Rattle.std.proofs.Common.{refl, sym, ap, subst, ◌∙◌, append-nil, append_assoc}
+use Rattle.std.specs.declared.option.Option.{Option}
+use Rattle.std.specs.Io.KnownBytes.{Appends}
+use Rattle.causes.specs.Written.{WritesPart}
+use Rattle.station_io.specs.Sink.{Outlet}
+use Rattle.station_replay.specs.Replay.{Item}
+use Rattle.station_replay.specs.Texts.{text, text_of}
+use Rattle.schedule_replay.specs.Telling.{Telling}
+
+pub appends_none : (o : Option (List ℕ)) → Appends o o []
+appends_none None = tt
+appends_none (Some xs) = sym (append-nil xs)
+
+pub appends_join : (a b c : Option (List ℕ)) (s t : List ℕ) → Appends a b s → Appends b c t → Appends a c (s ++ t)
+appends_join None b c s t one two = tt
+appends_join (Some x) None c s t one two = absurd one
+appends_join (Some x) (Some y) None s t one two = absurd two
+appends_join (Some x) (Some y) (Some z) s t one two = two ∙ ap (λ l. l ++ t) one ∙ append_assoc x s t
+
+-- nothing is a front of everything
+pub part_none : (o : Option (List ℕ)) (t : List ℕ) → WritesPart o o t
+part_none o t = record { left = t; leaves = record { written = []; appended = appends_none o; whole = refl } }
+
+pub part_first : (a b : Option (List ℕ)) (s t : List ℕ) → WritesPart a b s → WritesPart a b (s ++ t)
+part_first a b s t p = record {
+  left = p.left ++ t;
+  leaves = record {
+    written = p.leaves.written;
+    appended = p.leaves.appended;
+    whole = sym (append_assoc p.leaves.written p.left t) ∙ ap (λ l. l ++ t) p.leaves.whole;
+  };
+}
+
+pub part_later : (a b c : Option (List ℕ)) (s t : List ℕ) → Appends a b s → WritesPart b c t → WritesPart a c (s ++ t)
+part_later a b c s t one two = record {
+  left = two.left;
+  leaves = record {
+    written = s ++ two.leaves.written;
+    appended = appends_join a b c s two.leaves.written one two.leaves.appended;
+    whole = append_assoc s two.leaves.written two.left ∙ ap (λ l. s ++ l) two.leaves.whole;
+  };
+}
+
+pub text_join : (xs ys : List Item) → text (xs ++ ys) ≡ text xs ++ text ys
+text_join [] ys = refl
+text_join (x ∷ xs) ys = ap (λ z. text_of x ++ z) (text_join xs ys) ∙ sym (append_assoc (text_of x) (text xs) (text ys))
+
+-- what sinks are told is the text of the items
+abbrev pub text_telling : {K : Type 0} → Outlet K → Telling K
+text_telling outlet = record {
+  tells = λ a items b. Appends (outlet.taken a) (outlet.taken b) (text items);
+  breaks_off = λ a items b. WritesPart (outlet.taken a) (outlet.taken b) (text items);
+  faults = outlet.faults;
+  tells_none = λ a. appends_none (outlet.taken a);
+  tells_joins = λ a b c xs ys one two. subst (Appends (outlet.taken a) (outlet.taken c)) (sym (text_join xs ys))
+      (appends_join (outlet.taken a) (outlet.taken b) (outlet.taken c) (text xs) (text ys) one two);
+  breaks_none = λ a items. part_none (outlet.taken a) (text items);
+  breaks_first = λ a b xs ys one. subst (WritesPart (outlet.taken a) (outlet.taken b)) (sym (text_join xs ys))
+      (part_first (outlet.taken a) (outlet.taken b) (text xs) (text ys) one);
+  breaks_later = λ a b c xs ys one two. subst (WritesPart (outlet.taken a) (outlet.taken c)) (sym (text_join xs ys))
+      (part_later (outlet.taken a) (outlet.taken b) (outlet.taken c) (text xs) (text ys) one two);
+}

@@ -1,0 +1,22 @@
+-- What the attempts of a round met that failed.
+use Rattle.std.specs.Prelude.{List, [], ◌∷◌, ◌++◌}
+use Rattle.dmpaft_driver.specs.declared.outcome.DumpEnd.{DumpEnd}
+use Rattle.dmpaft_driver.specs.declared.outcome.DumpEnd.TheVariants as dump_end
+use Rattle.dmpaft_driver.specs.declared.outcome.Trouble.{Trouble}
+use Rattle.station_session.specs.Attempts.{Tried}
+
+-- the trouble of an attempt that ended so, if it failed
+abbrev pub trouble_of : DumpEnd → List Trouble
+trouble_of (dump_end.Failed trouble) = trouble ∷ []
+trouble_of dump_end.Whole = []
+trouble_of dump_end.Full = []
+trouble_of dump_end.Stale = []
+trouble_of dump_end.DiskFault = []
+trouble_of dump_end.Flood = []
+trouble_of dump_end.LinkFault = []
+trouble_of dump_end.OutOfMemory = []
+
+-- the troubles of those attempts that failed, in order
+abbrev pub troubles_of : List Tried → List Trouble
+troubles_of [] = []
+troubles_of (t ∷ ts) = trouble_of t.end ++ troubles_of ts
