@@ -1,33 +1,21 @@
-ghost use Rattle.std.specs.Prelude.{◌≡◌, ◌≢◌, ◌⊎◌, ◌<◌, ◌≤◌, ◌^◌, List, ℕ, length, IfSome, IfNone, IsSomeAnd};
-ghost use Rattle.causes.specs.Cause.{Cause, Rose};
-ghost use Rattle.station_io.specs.Files.{most_bytes};
-ghost use Rattle.station_top.specs.CopyRun.{RoseOnOne};
-ghost use Rattle.station_top.specs.Output.{Finishes, code};
-ghost use Rattle.station_top.specs.Command.{command_of, texts};
-ghost use Rattle.station_top.specs.GoodFile.{IsGoodFile};
-ghost use Rattle.station_top.specs.Judged.{IsEnding, IsReadFault, MayGoOn};
-ghost use Rattle.station_top.specs.JudgedRead.{judged_of};
-ghost use Rattle.station_top.specs.ReportRun.{WentWell};
-ghost use Rattle.station_top.specs.Run.{FilesStill, GoesOn, HasArchive, HasConsole, HasGoodInput, HasSchedule, IsAccepted, IsDoneOrHindered, IsMake, IsNoCall, IsShownCaughtUp, IsShownDone, IsTask, IsUsage, Performs, PrintsCorrected, PrintsFile, output_of};
-ghost use Rattle.station_top.specs.StyleRead.{style_of};
+ghost use Rattle.std.specs.Prelude.{◌≡◌, ◌≢◌, ◌⊎◌, ◌<◌, ◌≤◌, ◌^◌, IfSome, IfNone};
+ghost use Rattle.causes.specs.Cause.{Cause};
+ghost use Rattle.archive_commands.specs.CopyRun.{RoseOnOne};
+ghost use Rattle.archive_commands.specs.ReportRun.{WentWell};
+ghost use Rattle.command_words.specs.Command.{command_of, texts};
+ghost use Rattle.station_top.specs.Run.{HasArchive, HasConsole, HasGoodInput, HasSchedule, IsMake, IsShownCaughtUp, IsShownDone, IsTask, IsUsage, Performs};
 
-use crate::calling::call_for;
-use crate::catching_up::catch_up;
-use crate::command::Command;
-use crate::copying::copy_files;
-use crate::judging::{Ending, judge};
-use crate::making::make_run;
-use crate::pages::{finish, print_pages};
-use crate::replaying::replay_files;
-use crate::reporting::report;
-use crate::serving::serve_files;
-use crate::status::Status;
-use crate::style::Style;
+use archive_commands::{copy_files, report};
+use command_words::Command;
 use disk_model::Disk;
+use model_commands::{make_run, replay_files, serve_files};
+use page_commands::{corrected_pages, print_file};
+use run_output::{Status, finish};
 use serial_link::Link;
-use settings_file::Settings;
-use station_io::{Files, Sink, TextRead};
+use station_command::catch_up;
+use station_io::{Files, Sink};
 use std::alloc::Global;
+use task_command::call_for;
 
 /// Does what the words say, and answers the status with which the program ends.
 pub fn run<F: Files, K: Sink, L: Link, D: Disk>(
@@ -103,7 +91,7 @@ pub fn run<F: Files, K: Sink, L: Link, D: Disk>(
         → (result ≡ 0) ⊎ (result ≡ 9) ⊎ (result ≡ 12)) }
 {
     let status = match Command::read(words) {
-        Some(Command::Pages(file)) => pages(alloc, file, &Style::Short, files, out),
+        Some(Command::Pages(file)) => print_file(alloc, file, files, out),
         Some(Command::CorrectedPages { settings, file }) => {
             corrected_pages(alloc, settings, file, files, out)
         }
@@ -113,113 +101,12 @@ pub fn run<F: Files, K: Sink, L: Link, D: Disk>(
             replay_files(alloc, settings, schedule, files, out)
         }
         Some(Command::Copy { from, to }) => copy_files(alloc, from, to, disk, second, out),
-        Some(
-            Command::Station {
-                settings,
-                archive,
-                address,
-            },
-        ) => catch_up(alloc, settings, archive, address, files, out, link, disk),
-        Some(
-            Command::Console {
-                settings,
-                schedule,
-                address,
-                turns,
-            },
-        ) => serve_files(alloc, settings, schedule, address, turns, files, out, link),
+        Some(Command::Station(names)) => catch_up(alloc, &names, files, out, link, disk),
+        Some(Command::Console(names)) => serve_files(alloc, &names, files, out, link),
         Some(Command::Make { seed, records }) => make_run(alloc, seed, records, out),
         None => finish(b"usage\n", Status::Usage, out),
     };
     status as u8
-}
-
-// Prints the pages of the file, with each row corrected by the settings.
-fn corrected_pages<F: Files, K: Sink>(
-    alloc: Global,
-    settings: &str,
-    file: &str,
-    files: &mut F,
-    out: &mut K,
-) -> Status
-    ensures pages { PrintsCorrected F.shelf K.outlet settings.now file.now files.old out.old files.new out.new (code result) }
-    ensures read_fault { Cause (F.shelf.faults files.old) (F.shelf.faults files.new) (result ≡ Status.ReadFault) }
-    ensures no_call { IsNoCall result }
-    ensures write_fault { Cause (K.outlet.faults out.old) (K.outlet.faults out.new) (result ≡ Status.WriteFault) }
-    ensures still { FilesStill F.shelf result files.old files.new }
-    ensures sink_still { result ≢ Status.WriteFault → K.outlet.faults out.new ≡ K.outlet.faults out.old }
-    ensures complete { IsSomeAnd (F.shelf.held files.old settings.now) IsAccepted
-        → IsSomeAnd (F.shelf.held files.old file.now) IsGoodFile → IsDoneOrHindered result }
-{
-    let mut text = Vec::new(alloc);
-    let read = files.text(alloc, settings, &mut text);
-    go_on(alloc, judge(alloc, read, &text), file, files, out)
-}
-
-// Prints the pages of the file with each row corrected by the settings, where these were accepted.
-fn go_on<F: Files, K: Sink>(
-    alloc: Global,
-    judged: Result<Settings, Ending>,
-    file: &str,
-    files: &mut F,
-    out: &mut K,
-) -> Status
-    requires { IsEnding (judged_of judged) }
-    ensures goes_on { GoesOn F.shelf K.outlet (judged_of judged) file.now files.old out.old files.new out.new (code result) }
-    ensures read_fault { result ≡ Status.ReadFault
-        → IsReadFault (judged_of judged) ⊎ Rose (F.shelf.faults files.old) (F.shelf.faults files.new) }
-    ensures reported { IsReadFault (judged_of judged) → (result ≡ Status.ReadFault) ⊎ (result ≡ Status.WriteFault) }
-    ensures never_falls { F.shelf.faults files.old ≤ F.shelf.faults files.new }
-    ensures no_call { IsNoCall result }
-    ensures write_fault { Cause (K.outlet.faults out.old) (K.outlet.faults out.new) (result ≡ Status.WriteFault) }
-    ensures still { FilesStill F.shelf result files.old files.new }
-    ensures sink_still { result ≢ Status.WriteFault → K.outlet.faults out.new ≡ K.outlet.faults out.old }
-    ensures complete { MayGoOn (judged_of judged) → IsSomeAnd (F.shelf.held files.old file.now) IsGoodFile
-        → IsDoneOrHindered result }
-{
-    match judged {
-        Ok(settings) => pages(alloc, file, &Style::Corrected(&settings), files, out),
-        Err(ending) => finish(&ending.line, ending.status, out),
-    }
-}
-
-// Prints the pages of the file.
-fn pages<F: Files, K: Sink>(
-    alloc: Global,
-    name: &str,
-    style: &Style<'_>,
-    files: &mut F,
-    out: &mut K,
-) -> Status
-    ensures pages { PrintsFile F.shelf K.outlet (style_of style.now) name.now files.old out.old files.new out.new (code result) }
-    ensures read_fault { Cause (F.shelf.faults files.old) (F.shelf.faults files.new) (result ≡ Status.ReadFault) }
-    ensures no_call { IsNoCall result }
-    ensures write_fault { Cause (K.outlet.faults out.old) (K.outlet.faults out.new) (result ≡ Status.WriteFault) }
-    ensures still { FilesStill F.shelf result files.old files.new }
-    ensures sink_still { result ≢ Status.WriteFault → K.outlet.faults out.new ≡ K.outlet.faults out.old }
-    ensures complete { IsSomeAnd (F.shelf.held files.old name.now) IsGoodFile → IsDoneOrHindered result }
-{
-    let mut bytes = Vec::new(alloc);
-    let read = files.text(alloc, name, &mut bytes);
-    print_reading(read, &bytes, style, out)
-}
-
-// Writes what came of the reading of a file.
-fn print_reading<K: Sink>(read: TextRead, bytes: &[u8], style: &Style<'_>, out: &mut K) -> Status
-    requires { length bytes.now ≤ most_bytes }
-    ensures ends { Finishes (K.outlet.taken out.old) (K.outlet.taken out.new) (output_of (style_of style.now) read bytes.now) result }
-    ensures read_fault { result ≡ Status.ReadFault → read ≡ TextRead.Failed }
-    ensures reported { read ≡ TextRead.Failed → (result ≡ Status.ReadFault) ⊎ (result ≡ Status.WriteFault) }
-    ensures no_call { IsNoCall result }
-    ensures write_fault { Cause (K.outlet.faults out.old) (K.outlet.faults out.new) (result ≡ Status.WriteFault) }
-    ensures sink_still { result ≢ Status.WriteFault → K.outlet.faults out.new ≡ K.outlet.faults out.old }
-{
-    match read {
-        TextRead::Done => print_pages(bytes, style, out),
-        TextRead::TooLong => finish(b"file too long\n", Status::TooLong, out),
-        TextRead::Failed => finish(b"read fault\n", Status::ReadFault, out),
-        TextRead::OutOfMemory => Status::OutOfMemory,
-    }
 }
 
 #[cfg(test)]

@@ -1,9 +1,9 @@
 use Rattle.std.proofs.Common.{◌≡◌, Some, refl, rules}
-use Rattle.station_top.specs.Command.{command_of, console, corrected_pages, station, texts}
-use Rattle.station_top.specs.ConsoleRun.{IsServedOrHindered}
-use Rattle.station_top.specs.Run.{IsDoneOrHindered}
-use Rattle.station_top.proofs.CaughtUp.{IsSettled, caught_up}
-use Rattle.station_top.proofs.Reports.{none_well}
+use Rattle.command_words.specs.Command.{command_of, console, console_names, corrected_pages, station, station_names, texts}
+use Rattle.model_commands.specs.ConsoleRun.{IsServedOrHindered}
+use Rattle.page_commands.specs.PageRun.{IsDoneOrHindered}
+use Rattle.station_command.proofs.CaughtUp.{IsSettled, caught_up}
+use Rattle.archive_commands.proofs.Reports.{none_well}
 use Rattle.station_top.proofs.program.run.Goals as goal
 
 pub returns-in-Some-CorrectedPages-clause-complete : goal.returns-in-Some-CorrectedPages-clause-complete
@@ -19,14 +19,14 @@ returns-in-Some-Station-clause-second_well g c disk write = none_well g.D.Disk.m
 
 pub returns-in-Some-Station-clause-caught_up : goal.returns-in-Some-Station-clause-caught_up
 returns-in-Some-Station-clause-caught_up g c =
-    let asked = c.in-Some-Station in
-    let is : command_of (texts c.args.words.now) ≡ Some (station asked.settings.now asked.archive.now asked.address.now) = search rules in
+    let names = c.in-Some-Station.names in
+    let is : command_of (texts c.args.words.now) ≡ Some (station (station_names names)) = search rules in
     rw is (λ shown.
     let settled : IsSettled c.catch_up-status.result = caught_up g.F.Files.shelf g.L.Link.traffic g.D.Disk.medium g.K.Sink.outlet
-    asked.settings.now asked.archive.now asked.address.now _ _ _ _ _ _ _ _ _ c.catch_up-status.ensures.station shown.0 shown.1 in search rules)
+    (station_names names) _ _ _ _ _ _ _ _ _ c.catch_up-status.ensures.station shown.0 shown.1 in search rules)
 
 pub returns-in-Some-Console-clause-served : goal.returns-in-Some-Console-clause-served
 returns-in-Some-Console-clause-served g c =
-    let words = c.in-Some-Console in
-    let is : command_of (texts c.args.words.now) ≡ Some (console words.settings.now words.schedule.now words.address.now words.turns) = search rules in
+    let names = c.in-Some-Console.names in
+    let is : command_of (texts c.args.words.now) ≡ Some (console (console_names names)) = search rules in
     rw is (λ good. let done : IsServedOrHindered c.serve_files-status.result = c.serve_files-status.ensures.complete good in search rules)

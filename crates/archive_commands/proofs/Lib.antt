@@ -1,0 +1,2 @@
+pub mod CopyEnds
+pub mod Reports

@@ -1,0 +1,2 @@
+pub mod CopyRun
+pub mod ReportRun

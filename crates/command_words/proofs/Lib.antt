@@ -1,0 +1,3 @@
+pub mod DayWords
+pub mod Digits
+pub mod Pairs

@@ -1,0 +1,40 @@
+-- The words that name a second of a console's clock.
+use Rattle.std.specs.Prelude.{ℕ, ◌==◌, ◌&&◌, Bool, if◌then◌else◌, List, length, take, drop, slice_index, None}
+use Rattle.std.specs.declared.option.Option.{Option}
+use Rattle.station_base.specs.ClockTime.{can_be_shown}
+use Rattle.station_base.specs.declared.clock.ClockTime.{ClockTime}
+use Rattle.vantage_frames.specs.LineReading.{only_if}
+use Rattle.vantage_frames.specs.Numeral.{number_in}
+use Rattle.command_words.specs.Then.{◌>>=◌}
+
+-- YYYY-MM-DD: the bytes at the fifth and eighth place are `-`
+abbrev pub has_form_of_date : List ℕ → Bool
+has_form_of_date word = length word == 10 && slice_index word 4 == 45 && slice_index word 7 == 45
+
+-- HH:MM:SS: the bytes at the third and sixth place are `:`
+abbrev pub has_form_of_time : List ℕ → Bool
+has_form_of_time word = length word == 8 && slice_index word 2 == 58 && slice_index word 5 == 58
+
+-- so many decimal digits of a word, from a place on
+abbrev pub part_of : ℕ → ℕ → List ℕ → Option ℕ
+part_of place count word = number_in 10 count (take count (drop place word))
+
+-- the second, where the calendar has it and its year is 1900 to 2155
+abbrev pub civil_only : ClockTime → Option ClockTime
+civil_only time = only_if (can_be_shown time) time
+
+-- the second that the parts of a date and of a time name
+abbrev pub second_named : List ℕ → List ℕ → Option ClockTime
+second_named date time = do
+  year ← part_of 0 4 date
+  month ← part_of 5 2 date
+  day ← part_of 8 2 date
+  hour ← part_of 0 2 time
+  minute ← part_of 3 2 time
+  second ← part_of 6 2 time
+  civil_only (record { year = year; month = month; day = day; hour = hour; minute = minute; second = second })
+
+-- YYYY-MM-DD and HH:MM:SS
+unfoldable pub second_at : List ℕ → List ℕ → Option ClockTime
+second_at date time =
+    if has_form_of_date date && has_form_of_time time then second_named date time else None

@@ -1,0 +1,135 @@
+-- What the words of the command line ask for.
+use Rattle.std.specs.Prelude.{ℕ, ◌-◌, ◌^◌, if◌then◌else◌, List, [], ◌∷◌, map, bytes_eq, codes, Some, None, option_map}
+use Rattle.std.specs.Borrow.{Bor}
+use Rattle.std.specs.declared.option.Option.{Option}
+use Rattle.command_words.specs.Numbers.{number_within}
+use Rattle.command_words.specs.ReportWords.{wanted_in}
+use Rattle.command_words.specs.TaskWords.{task_of}
+use Rattle.command_words.specs.Then.{◌>>=◌}
+use Rattle.command_words.specs.declared.command.Command.{Command}
+use Rattle.command_words.specs.declared.command.Command.TheVariants as read
+use Rattle.command_words.specs.declared.task.Task.{Task}
+use Rattle.command_words.specs.declared.wanted.Wanted.{Wanted}
+use Rattle.command_words.specs.declared.words.ConsoleWords.{ConsoleWords}
+use Rattle.command_words.specs.declared.words.StationWords.{StationWords}
+
+-- what the words of `station` name
+pub record StationNames : Type 0 where
+  pub settings : List ℕ
+  pub archive : List ℕ
+  pub address : List ℕ
+
+-- what the words of `console` name, and for how many turns it is served
+pub record ConsoleNames : Type 0 where
+  pub settings : List ℕ
+  pub schedule : List ℕ
+  pub address : List ℕ
+  pub turns : ℕ
+
+-- a command, with the names that its words give
+pub data CommandLine : Type 0 where
+  pages : List ℕ → CommandLine
+  corrected_pages : List ℕ → List ℕ → CommandLine
+  task : List ℕ → Task → CommandLine
+  report : List ℕ → Wanted → CommandLine
+  replay : List ℕ → List ℕ → CommandLine
+  copy : List ℕ → List ℕ → CommandLine
+  station : StationNames → CommandLine
+  console : ConsoleNames → CommandLine
+  make : ℕ → ℕ → CommandLine
+
+-- the words, each as its bytes
+abbrev pub texts : List (Bor (List ℕ)) → List (List ℕ)
+texts words = map (λ word. word.now) words
+
+-- `FILE` or `SETTINGS FILE`
+abbrev pub pages_in : List (List ℕ) → Option CommandLine
+pages_in (file ∷ []) = Some (pages file)
+pages_in (settings ∷ file ∷ []) = Some (corrected_pages settings file)
+pages_in words = None
+
+-- `ADDRESS` and a task
+abbrev pub task_in : List (List ℕ) → Option CommandLine
+task_in [] = None
+task_in (address ∷ words) = option_map (task address) (task_of words)
+
+-- `ARCHIVE KIND FIRST LAST`
+abbrev pub report_in : List (List ℕ) → Option CommandLine
+report_in (archive ∷ kind ∷ first ∷ last ∷ []) = option_map (report archive) (wanted_in kind first last)
+report_in words = None
+
+-- `SETTINGS SCHEDULE`
+abbrev pub replay_in : List (List ℕ) → Option CommandLine
+replay_in (settings ∷ schedule ∷ []) = Some (replay settings schedule)
+replay_in words = None
+
+-- `OLD NEW`, two names that differ
+abbrev pub copy_in : List (List ℕ) → Option CommandLine
+copy_in (from ∷ to ∷ []) = if bytes_eq from to then None else Some (copy from to)
+copy_in words = None
+
+-- `SETTINGS ARCHIVE ADDRESS`
+abbrev pub station_in : List (List ℕ) → Option CommandLine
+station_in (settings ∷ archive ∷ address ∷ []) =
+    Some (station (record { settings = settings; archive = archive; address = address }))
+station_in words = None
+
+-- `SETTINGS SCHEDULE ADDRESS TURNS`, with 1 to 1,000,000 turns
+abbrev pub console_in : List (List ℕ) → Option CommandLine
+console_in (settings ∷ schedule ∷ address ∷ turns ∷ []) =
+    option_map
+    (λ turns. console (record { settings = settings; schedule = schedule; address = address; turns = turns }))
+    (number_within 1 1000000 turns)
+console_in words = None
+
+-- `SEED N`, a number below 2^31, and 1 to 5,000
+unfoldable pub make_in : List (List ℕ) → Option CommandLine
+make_in (seed ∷ count ∷ []) = do
+  number ← number_within 0 (2 ^ 31 - 1) seed
+  records ← number_within 1 5000 count
+  Some (make number records)
+make_in words = None
+
+-- the command that the words spell, and none where they are outside the table
+abbrev pub command_of : List (List ℕ) → Option CommandLine
+command_of [] = None
+command_of (command ∷ words) =
+    if bytes_eq command (codes "pages") then pages_in words
+    else if bytes_eq command (codes "task") then task_in words
+    else if bytes_eq command (codes "report") then report_in words
+    else if bytes_eq command (codes "replay") then replay_in words
+    else if bytes_eq command (codes "copy") then copy_in words
+    else if bytes_eq command (codes "station") then station_in words
+    else if bytes_eq command (codes "console") then console_in words
+    else if bytes_eq command (codes "make") then make_in words
+    else None
+
+-- the names that were read, without their loan
+abbrev pub station_names : StationWords → StationNames
+station_names words =
+    record { settings = words.settings.now; archive = words.archive.now; address = words.address.now }
+
+abbrev pub console_names : ConsoleWords → ConsoleNames
+console_names words =
+    record {
+      settings = words.settings.now;
+      schedule = words.schedule.now;
+      address = words.address.now;
+      turns = words.turns;
+    }
+
+-- a command that was read, with the texts that it lends
+abbrev pub command_read : Command → CommandLine
+command_read (read.Pages file) = pages file.now
+command_read (read.CorrectedPages settings file) = corrected_pages settings.now file.now
+command_read (read.Task address asked) = task address.now asked
+command_read (read.Report archive wanted) = report archive.now wanted
+command_read (read.Replay settings schedule) = replay settings.now schedule.now
+command_read (read.Copy from to) = copy from.now to.now
+command_read (read.Station words) = station (station_names words)
+command_read (read.Console words) = console (console_names words)
+command_read (read.Make seed records) = make seed records
+
+-- the same where one was read
+abbrev pub line_of : Option Command → Option CommandLine
+line_of command = option_map command_read command

@@ -1,0 +1,206 @@
+ghost use Rattle.std.specs.Prelude.{◌≡◌, IfSome};
+
+use crate::numbers::read_within;
+use crate::report_words::read_wanted;
+use crate::task::Task;
+use crate::task_words::read_task;
+use crate::wanted::Wanted;
+use crate::words::{ConsoleWords, StationWords};
+
+// The greatest number that a schedule is made from.
+const MOST_SEED: u64 = (1 << 31) - 1;
+
+// The most records that are made.
+const MOST_RECORDS: u64 = 5_000;
+
+/// What the words of the command line ask for.
+#[derive(Debug, Drop)]
+pub enum Command<'a> {
+    /// `pages FILE`: stamp and outside temperature of each record of a file of pages.
+    Pages(&'a str),
+    /// `pages SETTINGS FILE`: the row of each record, corrected by the settings.
+    CorrectedPages {
+        /// The name of the settings file.
+        settings: &'a str,
+        /// The name of the file of pages.
+        file: &'a str,
+    },
+    /// `task ADDRESS ..`: one task of a console.
+    Task {
+        /// Where the console is called.
+        address: &'a str,
+        /// What is asked of it.
+        task: Task,
+    },
+    /// `report ARCHIVE KIND FIRST LAST`: lines of an archive.
+    Report {
+        /// The name of the archive's file.
+        archive: &'a str,
+        /// Which lines, and of which days.
+        wanted: Wanted,
+    },
+    /// `replay SETTINGS SCHEDULE`: the run of a schedule over a modelled console, its line and its archive.
+    Replay {
+        /// The name of the settings file.
+        settings: &'a str,
+        /// The name of the schedule's file.
+        schedule: &'a str,
+    },
+    /// `copy OLD NEW`: the rows of the one archive, added to the other one, which has another name.
+    Copy {
+        /// The name of the archive that is read.
+        from: &'a str,
+        /// The name of the archive that is written.
+        to: &'a str,
+    },
+    /// `station SETTINGS ARCHIVE ADDRESS`: one round of catching up with a console.
+    Station(StationWords<'a>),
+    /// `console SETTINGS SCHEDULE ADDRESS TURNS`: a new modelled console, served at an address.
+    Console(ConsoleWords<'a>),
+    /// `make SEED N`: the counts of the run of a schedule that is made from a number.
+    Make {
+        /// The number.
+        seed: u32,
+        /// How many records are made.
+        records: u32,
+    },
+}
+
+impl<'a> Command<'a> {
+    ghost use Rattle.command_words.specs.Command.{command_of, command_read, line_of, texts};
+    ghost use Rattle.command_words.specs.Possible.{IsPossible};
+
+    /// The command that the words spell. Words outside the table spell none.
+    pub fn read(words: &[&'a str]) -> Option<Self>
+        ensures command { line_of result ≡ command_of (texts words.now) }
+        ensures possible { IfSome result (λ command. IsPossible (command_read command)) }
+    {
+        let (command, more) = words.split_first()?;
+        match *command {
+            "pages" => read_pages(more),
+            "task" => read_call(more),
+            "report" => read_report(more),
+            "replay" => read_replay(more),
+            "copy" => read_copy(more),
+            "station" => read_station(more),
+            "console" => read_console(more),
+            "make" => read_make(more),
+            _ => None,
+        }
+    }
+}
+
+ghost use Rattle.command_words.specs.Command.{command_read, console_in, copy_in, line_of, make_in, pages_in, replay_in, report_in, station_in, task_in, texts};
+ghost use Rattle.command_words.specs.Possible.{IsPossible};
+
+// `FILE`, or `SETTINGS FILE`.
+fn read_pages<'a>(words: &[&'a str]) -> Option<Command<'a>>
+    ensures command { line_of result ≡ pages_in (texts words.now) }
+    ensures possible { IfSome result (λ command. IsPossible (command_read command)) }
+{
+    match *words {
+        [file] => Some(Command::Pages(file)),
+        [settings, file] => Some(Command::CorrectedPages { settings, file }),
+        _ => None,
+    }
+}
+
+// `ADDRESS` and a task.
+fn read_call<'a>(words: &[&'a str]) -> Option<Command<'a>>
+    ensures command { line_of result ≡ task_in (texts words.now) }
+    ensures possible { IfSome result (λ command. IsPossible (command_read command)) }
+{
+    let (address, more) = words.split_first()?;
+    Some(Command::Task {
+        address,
+        task: read_task(more)?,
+    })
+}
+
+// `ARCHIVE KIND FIRST LAST`.
+fn read_report<'a>(words: &[&'a str]) -> Option<Command<'a>>
+    ensures command { line_of result ≡ report_in (texts words.now) }
+    ensures possible { IfSome result (λ command. IsPossible (command_read command)) }
+{
+    let [archive, kind, first, last] = *words else {
+        return None;
+    };
+    Some(Command::Report {
+        archive,
+        wanted: read_wanted(kind, first, last)?,
+    })
+}
+
+// `SETTINGS SCHEDULE`.
+fn read_replay<'a>(words: &[&'a str]) -> Option<Command<'a>>
+    ensures command { line_of result ≡ replay_in (texts words.now) }
+    ensures possible { IfSome result (λ command. IsPossible (command_read command)) }
+{
+    let [settings, schedule] = *words else {
+        return None;
+    };
+    Some(Command::Replay { settings, schedule })
+}
+
+// `OLD NEW`, two names that differ.
+fn read_copy<'a>(words: &[&'a str]) -> Option<Command<'a>>
+    ensures command { line_of result ≡ copy_in (texts words.now) }
+    ensures possible { IfSome result (λ command. IsPossible (command_read command)) }
+{
+    let [from, to] = *words else {
+        return None;
+    };
+    if from == to {
+        return None;
+    }
+    Some(Command::Copy { from, to })
+}
+
+// `SETTINGS ARCHIVE ADDRESS`.
+fn read_station<'a>(words: &[&'a str]) -> Option<Command<'a>>
+    ensures command { line_of result ≡ station_in (texts words.now) }
+    ensures possible { IfSome result (λ command. IsPossible (command_read command)) }
+{
+    let [settings, archive, address] = *words else {
+        return None;
+    };
+    Some(Command::Station(StationWords {
+        settings,
+        archive,
+        address,
+    }))
+}
+
+// The most turns for which a console is served.
+const MOST_TURNS: u64 = 1_000_000;
+
+// `SETTINGS SCHEDULE ADDRESS TURNS`.
+fn read_console<'a>(words: &[&'a str]) -> Option<Command<'a>>
+    ensures command { line_of result ≡ console_in (texts words.now) }
+    ensures possible { IfSome result (λ command. IsPossible (command_read command)) }
+{
+    let [settings, schedule, address, turns] = *words else {
+        return None;
+    };
+    let turns = read_within(turns, 1, MOST_TURNS)? as u32;
+    Some(Command::Console(ConsoleWords {
+        settings,
+        schedule,
+        address,
+        turns,
+    }))
+}
+
+// `SEED N`.
+#[tactic(auto, unfolding(crate::specs::Command::make_in))]
+fn read_make<'a>(words: &[&'a str]) -> Option<Command<'a>>
+    ensures command { line_of result ≡ make_in (texts words.now) }
+    ensures possible { IfSome result (λ command. IsPossible (command_read command)) }
+{
+    let [seed, records] = *words else {
+        return None;
+    };
+    let seed = read_within(seed, 0, MOST_SEED)? as u32;
+    let records = read_within(records, 1, MOST_RECORDS)? as u32;
+    Some(Command::Make { seed, records })
+}

@@ -1,0 +1,3 @@
+pub mod Playable
+pub mod Readied
+pub mod Replays

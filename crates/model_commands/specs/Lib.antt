@@ -1,0 +1,5 @@
+pub mod ConsoleRun
+pub mod JudgedRead
+pub mod JudgedSchedule
+pub mod MakeRun
+pub mod ReplayRun

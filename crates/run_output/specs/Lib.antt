@@ -1,0 +1,4 @@
+pub mod Judged
+pub mod JudgedRead
+pub mod MemoryText
+pub mod Output

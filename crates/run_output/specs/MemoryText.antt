@@ -1,0 +1,12 @@
+-- The line of the bytes of a memory.
+use Rattle.std.specs.Prelude.{ℕ, ◌/◌, ◌%◌, false, List, [], ◌∷◌, ◌++◌, codes}
+use Rattle.std.specs.Fmt.{digit_glyph}
+use Rattle.std.specs.List.{flat_map}
+
+-- two hexadecimal digits in lower case
+abbrev pub byte_text : ℕ → List ℕ
+byte_text byte = digit_glyph false (byte / 16) ∷ digit_glyph false (byte % 16) ∷ []
+
+-- two for each byte
+abbrev pub bytes_line : List ℕ → List ℕ
+bytes_line bytes = flat_map byte_text bytes ++ codes "\n"

@@ -1,0 +1,4 @@
+pub mod CaughtUp
+pub mod OneRound
+pub mod RoundTexts
+pub mod Rounds

@@ -1,0 +1,4 @@
+pub mod Answering
+pub mod Joins
+pub mod PacketLines
+pub mod TaskEnds

@@ -1,0 +1,2 @@
+pub mod TaskRun
+pub mod TaskText

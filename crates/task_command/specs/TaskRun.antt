@@ -1,0 +1,92 @@
+-- What a run does that makes one task of a console: its one connect, the talk of the task, and what is written.
+use Rattle.std.specs.Prelude.{ℕ, ◌≡◌, List, ◌++◌, Some, codes, decimal}
+use Rattle.console_tasks.specs.TaskTalk.{DoesTask, HasEnd, TaskTalk}
+use Rattle.console_tasks.specs.Exchange.{Exchange}
+use Rattle.console_tasks.specs.Tasks.{looping, reading_memory, writing_memory, asking_time, setting_time, setting_period, asking_kind}
+use Rattle.console_tasks.specs.declared.end.TaskEnd.{TaskEnd}
+use Rattle.console_tasks.specs.declared.end.TaskEnd.TheVariants as task_end
+use Rattle.serial_link.specs.Link.{Dials}
+use Rattle.serial_link.specs.Traffic.{Traffic}
+use Rattle.serial_link.specs.declared.link.Connected.{Connected}
+use Rattle.serial_link.specs.declared.link.Connected.TheVariants as connected
+use Rattle.serial_link.specs.declared.link.Side.TheVariants.{Call}
+use Rattle.serial_link.specs.declared.talk.TalkItem.{TalkItem}
+use Rattle.station_base.specs.NumberText.{number_text}
+use Rattle.station_io.specs.Sink.{Outlet}
+use Rattle.run_output.specs.declared.status.Status.TheVariants as ends
+use Rattle.command_words.specs.declared.task.Task.{Task}
+use Rattle.command_words.specs.declared.task.Task.TheVariants.{Packets, ReadMemory, WriteMemory, ReadClock, SetClock, SetPeriod, Kind}
+use Rattle.run_output.specs.Output.{Output, EndsWith, link_fault, no_memory}
+use Rattle.task_command.specs.TaskText.{text_of}
+
+-- the exchanges of a task
+abbrev pub exchanges_of : Task → List Exchange
+exchanges_of (Packets count) = looping count
+exchanges_of (ReadMemory at count) = reading_memory at count
+exchanges_of (WriteMemory at bytes) = writing_memory at bytes.items
+exchanges_of ReadClock = asking_time
+exchanges_of (SetClock time) = setting_time time
+exchanges_of (SetPeriod minutes) = setting_period minutes
+exchanges_of Kind = asking_kind
+
+-- the line of a byte that reads otherwise than it was written
+abbrev pub difference_line : ℕ → ℕ → ℕ → List ℕ
+difference_line at sent read =
+    codes "task differs at " ++ number_text at ++ codes " sent " ++ number_text sent
+    ++ codes " read " ++ number_text read ++ codes "\n"
+
+-- a line that tells a trouble
+abbrev pub trouble : List ℕ → Output
+trouble line = record { text = line; status = ends.Trouble }
+
+-- what is written at the end of a task, by what is written where it is done
+abbrev pub output_at : List ℕ → TaskEnd → Output
+output_at text task_end.Done = record { text = text; status = ends.Done }
+output_at text task_end.Asleep = trouble (codes "task asleep\n")
+output_at text (task_end.Refused byte) = trouble (codes "task refused " ++ number_text byte ++ codes "\n")
+output_at text (task_end.Short count) = trouble (codes "task short " ++ decimal count ++ codes "\n")
+output_at text task_end.BadCheck = trouble (codes "task bad check\n")
+output_at text task_end.BadValue = trouble (codes "task bad value\n")
+output_at text (task_end.Differs at sent read) = trouble (difference_line at sent read)
+output_at text task_end.Flood = record { text = codes "flood\n"; status = ends.Flood }
+output_at text task_end.LinkFault = link_fault
+output_at text task_end.OutOfMemory = no_memory
+
+-- The link gained the talk of a task that ended so, and where it is done these lines are what its answers give.
+pub record Gives {L : Type 0} (traffic : Traffic L) (task : Task) (old : L) (end : TaskEnd) (lines : List ℕ)
+    (new : L) : Type 0 where
+  pub answers : List (List ℕ)
+  pub talks : DoesTask traffic old (exchanges_of task) answers end new
+  pub given : end ≡ task_end.Done → lines ≡ text_of task answers
+
+-- What the link gained is the talk of the task, and what its answers give, or the one trouble that it shows, is
+-- written.
+pub record MakesTask {L S : Type 0} (traffic : Traffic L) (outlet : Outlet S) (task : Task)
+    (old : L) (out : S) (new : L) (out' : S) (result : ℕ) : Type 0 where
+  pub end : TaskEnd
+  pub answers : List (List ℕ)
+  pub talks : DoesTask traffic old (exchanges_of task) answers end new
+  pub written : EndsWith outlet (output_at (text_of task answers) end) out out' result
+
+-- over a link that could not be connected nothing is done, and over one that could be the task is made
+abbrev pub GoesOver : {L S : Type 0} → Traffic L → Outlet S → Connected → Task → L → S → L → S → ℕ → Type 0
+GoesOver traffic outlet connected.Failed task old out new out' result =
+    (new ≡ old) × EndsWith outlet link_fault out out' result
+GoesOver traffic outlet connected.Done task old out new out' result =
+    MakesTask traffic outlet task old out new out' result
+
+-- The link was connected once, to call the address, and then the task was made over it once.
+pub record CallsFor {L S : Type 0} (traffic : Traffic L) (outlet : Outlet S) (address : List ℕ) (task : Task)
+    (old : L) (out : S) (new : L) (out' : S) (result : ℕ) : Type 0 where
+  pub answer : Connected
+  pub middle : L
+  pub dials : Dials traffic old Call address answer middle
+  pub goes_over : GoesOver traffic outlet answer task middle out new out' result
+
+-- What a link gained is told, and is the talk of the task that is done.
+pub record ShowsDone {L : Type 0} (traffic : Traffic L) (asked : Task) (old new : L) : Type 0 where
+  pub before : List TalkItem
+  pub gained : List TalkItem
+  pub told : traffic.talk old ≡ Some before
+  pub grown : traffic.talk new ≡ Some (before ++ gained)
+  pub done : HasEnd (TaskTalk (exchanges_of asked)) task_end.Done gained
