@@ -185,7 +185,8 @@ talks_at (stage.Ended end) = false
 abbrev pub Allows : Option CivilMinute → Pump → Action → Type 0
 Allows after pump (action.Say words) = (words.items ≡ said_at after pump.stage) × (0 < length words.items)
 Allows after pump (action.Listen n) = (1 ≤ n) × (n ≤ room_of pump) × (n ≤ 267)
-Allows after pump (action.Keep rows) = (keeps_at pump.stage ≡ true) × (rows.items ≡ pump.batch.items)
+Allows after pump (action.Keep rows) = (keeps_at pump.stage ≡ true) × (rows.now ≡ pump.batch.items)
+    × (length rows.now ≤ 5)
 Allows after pump (action.Ended end) = pump.stage ≡ stage.Ended end
 
 -- An action is that of where the attempt stands.
@@ -194,7 +195,7 @@ Tells after s (action.Say words) = (part : Part) × (s ≡ begun after part) × 
 Tells after s (action.Listen n) = (part : Part) × (bytes : List ℕ) × (run : ℕ) × (s ≡ Hearing part bytes run)
     × (length bytes + n ≤ most part)
 Tells after s (action.Keep rows) = (more : ℕ) × (place : ℕ) × (taken : List (List ℕ)) × (page : List ℕ)
-    × (s ≡ Keeping more place taken page) × (rows.items ≡ batch_of after place taken page)
+    × (s ≡ Keeping more place taken page) × (rows.now ≡ batch_of after place taken page)
     × (batch_of after place taken page ≢ [])
 Tells after s (action.Ended end) = (place : ℕ) × (taken : List (List ℕ)) × (s ≡ Over place taken end)
 

@@ -1,4 +1,5 @@
 use crate::header::ANSWER_SIZE;
+use crate::message::LONGEST;
 use crate::phase::FLOOD;
 use crate::pump::{REPEATS, WAKES};
 use vantage_frames::{MOST_PAGES, PAGE_SIZE, STAMP_FRAME_SIZE};
@@ -12,13 +13,10 @@ const ASKINGS: usize = (1 + REPEATS as usize) * MOST_PAGES as usize;
 // The most settlings: one first, one after each line feed, and one before each asking that is a repeat.
 const SETTLINGS: usize = 1 + TRIES + REPEATS as usize * MOST_PAGES as usize;
 
-// How many bytes `DMPAFT` and its line feed are.
-const CALL_SIZE: usize = 7;
-
 /// The most bytes that an attempt hears: 1,543 settlings of 65,536 bytes, one byte that answers `DMPAFT`, seven that
 /// answer the stamp frame, and 2,052 askings for pages of 267 bytes.
 pub const MOST_HEARD: usize = SETTLINGS * FLOOD + 1 + ANSWER_SIZE + ASKINGS * PAGE_SIZE;
 
 /// The most bytes that an attempt says: three line feeds, `DMPAFT` and a line feed, the stamp frame, 2,052 askings for
 /// pages, and the byte that ends it.
-pub const MOST_SAID: usize = TRIES + CALL_SIZE + STAMP_FRAME_SIZE + ASKINGS + 1;
+pub const MOST_SAID: usize = TRIES + LONGEST + STAMP_FRAME_SIZE + ASKINGS + 1;

@@ -41,7 +41,7 @@ pub fn turn<L: Link, K: Keeper>(pump: &mut Pump, link: &mut L, keeper: &mut K) -
         },
         Action::Listen(most) => listen(pump, link, most),
         Action::Keep(rows) => {
-            let answer = keeper.keep(rows.as_slice());
+            let answer = keeper.keep(rows);
             pump.kept(answer);
             None
         }

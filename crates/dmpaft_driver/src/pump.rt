@@ -9,7 +9,7 @@ use crate::action::Action;
 use crate::batch::{MOST_RECORDS, gather};
 use crate::header::{Extent, read_answer};
 use crate::keeper::Kept;
-use crate::message::{copy_of, fill, message_of, tail_after};
+use crate::message::{LONGEST, fill, message_of, tail_after};
 use crate::outcome::{Tally, Trouble};
 use crate::page_judge::{Judged, judge_page};
 use crate::phase::Phase;
@@ -123,7 +123,7 @@ impl Pump {
     }
 
     /// What is to be done next.
-    pub fn action(&self) -> Action
+    pub fn action(&self) -> Action<'_>
         ensures allows { (start : Tally) (after : Option CivilMinute) (s : State) → Shows start after s self.now
             → Allows after self.now result }
         ensures tells { (start : Tally) (after : Option CivilMinute) (s : State) → Shows start after s self.now
@@ -132,14 +132,14 @@ impl Pump {
         match self.stage {
             Stage::Saying(phase) => Action::Say(self.words(phase)),
             Stage::Hearing(phase) => Action::Listen(self.room(phase)),
-            Stage::Keeping { .. } => Action::Keep(copy_of(&self.batch)),
+            Stage::Keeping { .. } => Action::Keep(self.batch.as_slice()),
             Stage::Ended(end) => Action::Ended(end),
         }
     }
 
     // The words of a part.
     #[tactic(auto, unfolding(crate::specs::Attempt::dmpaft))]
-    fn words(&self, phase: Phase) -> ArrayVec<u8, 64>
+    fn words(&self, phase: Phase) -> ArrayVec<u8, LONGEST>
         ensures words { result.items ≡ words_of self.now.after phase }
         ensures some { Speaks phase → 0 < length result.items }
     {

@@ -79,8 +79,7 @@ pub returns-in-Keep-clause-turns : goal.returns-in-Keep-clause-turns
 returns-in-Keep-clause-turns g c = λ start after s h.
     let tells = c.in-Keep.ensures.tells start after s h in
     let answer = c.keep-answer.result in
-    let rows = c.as_slice-in-Keep.ensures.value ∙ tells.5 in
-    let given : delivery c.as_slice-in-Keep.result.now answer ∷ [] ≡ gives after s (answer ∷ []) = ap (λ (y : List (List ℕ)). delivery y answer ∷ []) rows ∙ ap (λ (y : State). gives after y (answer ∷ [])) (sym tells.4) in
+    let given : delivery c.in-Keep.rows.now answer ∷ [] ≡ gives after s (answer ∷ []) = ap (λ (y : List (List ℕ)). delivery y answer ∷ []) tells.5 ∙ ap (λ (y : State). gives after y (answer ∷ [])) (sym tells.4) in
     record {
       said = [];
       answers = answer ∷ [];
