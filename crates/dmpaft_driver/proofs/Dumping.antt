@@ -193,7 +193,7 @@ kept_few k a place taken = omega (arith, answered_size k (batches a place taken)
 
 -- the keeper can take the batch
 pub suits_at : (st : Stage) (start : Tally) (a : Option CivilMinute) (s : State) (pump : Pump) → ShowsAt st start a s pump → keeps_at st ≡ true
-    → (o b : Option CivilMinute) → o ≡ last_kept (handed a s) b → IsWithin b a → (room0 room : ℕ) → 513 ≤ room0 → room0 ≤ room + length (handed a s) → Rises stamp_in o pump.batch.items × (1 ≤ room)
+    → (o b : Option CivilMinute) → o ≡ last_kept (handed a s) b → IsWithin b a → (room0 room : ℕ) → 513 ≤ room0 → room0 ≤ room + length (handed a s) → Rises stamp_in o pump.batch × (1 ≤ room)
 suits_at (stage.Saying q) start a s pump h k o b e w room0 room m l = cc
 suits_at (stage.Hearing q) start a s pump h k o b e w room0 room m l = cc
 suits_at (stage.Ended end) start a s pump h k o b e w room0 room m l = cc

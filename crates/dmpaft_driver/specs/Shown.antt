@@ -57,7 +57,7 @@ pub record Gathered (start : Tally) (after : Option CivilMinute) (place : ℕ) (
   pub few : start.pages < 2 ^ 31
   pub rare : start.skipped < 2 ^ 31
   pub missed : skips ≡ skipped (slots (next_place place taken) page)
-  pub batch : pump.batch.items ≡ batch_of after place taken page
+  pub batch : pump.batch ≡ batch_of after place taken page
 
 -- of the bytes heard the last two, or all
 abbrev pub HasHeard : Bool → List ℕ → Pump → Type 0
@@ -118,7 +118,7 @@ pub record IsKeeping (start : Tally) (after : Option CivilMinute) (more : ℕ) (
   pub page : List ℕ
   pub is : s ≡ Keeping more place taken page
   pub counts : Counts start after place (taken ++ page ∷ []) (all_kept after place taken) pump
-  pub batch : pump.batch.items ≡ batch_of after place taken page
+  pub batch : pump.batch ≡ batch_of after place taken page
   pub some : batch_of after place taken page ≢ []
   pub fits : length taken + more < 513
 
@@ -185,7 +185,7 @@ talks_at (stage.Ended end) = false
 abbrev pub Allows : Option CivilMinute → Pump → Action → Type 0
 Allows after pump (action.Say words) = (words.items ≡ said_at after pump.stage) × (0 < length words.items)
 Allows after pump (action.Listen n) = (1 ≤ n) × (n ≤ room_of pump) × (n ≤ 267)
-Allows after pump (action.Keep rows) = (keeps_at pump.stage ≡ true) × (rows.now ≡ pump.batch.items)
+Allows after pump (action.Keep rows) = (keeps_at pump.stage ≡ true) × (rows.now ≡ pump.batch)
     × (length rows.now ≤ 5)
 Allows after pump (action.Ended end) = pump.stage ≡ stage.Ended end
 

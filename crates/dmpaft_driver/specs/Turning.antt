@@ -23,7 +23,7 @@ use Rattle.dmpaft_driver.specs.Standing.{HasTaken, CanEnd, gives}
 
 -- the keeper can take the batch, if there is one now
 abbrev pub Suits : Option CivilMinute → ℕ → Pump → Type 0
-Suits last room pump = keeps_at pump.stage ≡ true → Rises stamp_in last pump.batch.items × (1 ≤ room)
+Suits last room pump = keeps_at pump.stage ≡ true → Rises stamp_in last pump.batch × (1 ≤ room)
 
 -- the end of a dump whose pump ends so
 abbrev pub dump_end_of : PumpEnd → DumpEnd

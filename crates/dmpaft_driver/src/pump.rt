@@ -6,7 +6,7 @@ ghost use Rattle.serial_link.specs.declared.talk.TalkItem.TheVariants.{Heard, Qu
 ghost use Rattle.serial_link.specs.Talk.{message};
 
 use crate::action::Action;
-use crate::batch::{MOST_RECORDS, gather};
+use crate::batch::{Batch, gather};
 use crate::header::{Extent, read_answer};
 use crate::keeper::Kept;
 use crate::message::{LONGEST, fill, message_of, tail_after};
@@ -16,7 +16,6 @@ use crate::phase::Phase;
 use crate::pump_end::PumpEnd;
 use crate::signal::{ACK, ESC, NAK};
 use crate::stage::{Stage, stage_after};
-use archive_record::Rec52;
 use arrayvec::ArrayVec;
 use station_base::Stamp;
 use vantage_frames::{PAGE_SIZE, stamp_frame};
@@ -54,7 +53,7 @@ pub struct Pump {
     // The last two bytes heard.
     tail: [u8; 2],
     answer: [u8; PAGE_SIZE],
-    batch: ArrayVec<Rec52, MOST_RECORDS>,
+    batch: Batch,
 }
 
 impl Pump {
@@ -100,7 +99,7 @@ impl Pump {
             run: 0,
             tail: [0; 2],
             answer: [0; PAGE_SIZE],
-            batch: ArrayVec::new(),
+            batch: Batch::new(),
         }
     }
 
@@ -132,7 +131,7 @@ impl Pump {
         match self.stage {
             Stage::Saying(phase) => Action::Say(self.words(phase)),
             Stage::Hearing(phase) => Action::Listen(self.room(phase)),
-            Stage::Keeping { .. } => Action::Keep(self.batch.as_slice()),
+            Stage::Keeping { .. } => Action::Keep(self.batch.records()),
             Stage::Ended(end) => Action::Ended(end),
         }
     }
@@ -420,7 +419,7 @@ impl Pump {
     fn hand(&mut self, more: u16)
         ensures shows { (start : Tally) (after : Option CivilMinute) (place : ℕ) (taken : List (List ℕ)) (page : List ℕ)
             → Counts start after place (taken ++ page ∷ []) (all_kept after place taken) self.old
-            → self.old.batch.items ≡ batch_of after place taken page → length taken + more < 513
+            → self.old.batch ≡ batch_of after place taken page → length taken + more < 513
             → Shows start after (at after (batched more place taken page (batch_of after place taken page))) self.new }
         ensures left { left_of self.new ≤ 1600000 * more + 2001 }
     {

@@ -7,13 +7,13 @@ use Rattle.dmpaft_driver.proofs.pump.Pump.hand.Goals as goal
 
 pub returns-then-is_empty-clause-shows : goal.returns-then-is_empty-clause-shows
 returns-then-is_empty-clause-shows c = λ start after place taken page h b l.
-    let e : batch_of after place taken page ≡ [] = sym b ∙ none_in c.args.self.now.batch.items (sym c.is_empty.ensures ∙ c.if-is_empty.true) in
+    let e : batch_of after place taken page ≡ [] = sym b ∙ none_in c.args.self.now.batch (sym c.is_empty.ensures ∙ c.if-is_empty.true) in
     subst (λ (y : List (List ℕ)). Shows start after (at after (batched c.args.more place taken page y)) c.go_on.new.self) (sym e)
     (c.go_on.ensures.shows start after place (taken ++ page ∷ []) (subst (λ (y : List Delivery). Counts start after place (taken ++ page ∷ []) y c.args.self.now) (sym (kept_none after place taken page e)) h) (omega (arith, l, length-append taken (page ∷ []))))
 
 pub returns-else-is_empty-clause-shows : goal.returns-else-is_empty-clause-shows
 returns-else-is_empty-clause-shows c = λ start after place taken page h b l.
-    let ne : batch_of after place taken page ≢ [] = λ z. some_in c.args.self.now.batch.items (sym c.is_empty.ensures ∙ c.if-is_empty.false) (b ∙ z) in
+    let ne : batch_of after place taken page ≢ [] = λ z. some_in c.args.self.now.batch (sym c.is_empty.ensures ∙ c.if-is_empty.false) (b ∙ z) in
     record {
       place = place;
       taken = taken;
