@@ -1,7 +1,8 @@
 #!/usr/bin/env bash
 # Measures the driver of a dump by a proved program over a link in memory that keeps the bytes of 512 pages, beside the
-# driver as it was before it became a machine that is stepped, over the same crates below. The two take turns, and the
-# medians of the processor's time differ by what is repeated. It prints the time of one page for each. It is no test.
+# driver as it was before it became a machine that is stepped, over the crates of its own commit. It counts the
+# instructions by callgrind, and the two take turns at the processor's time, whose medians differ by what is repeated.
+# It prints both for one page of each, and needs valgrind. It is no test.
 set -eu
 cd "$(dirname "$0")/.."
 . bench/measure.sh
@@ -154,15 +155,18 @@ PROOF
     (cd "$copy/crates/measure" && rt run -- >/dev/null)
 }
 
-copy_crates driver_before "$CRATES"
-find "$copy/crates/dmpaft_driver" -mindepth 1 -maxdepth 1 ! -name out -exec rm -r {} +
-git archive "$BEFORE" crates/dmpaft_driver | tar -C "$copy" -x
+tree=$(mktemp -d)
+trap 'rm -r "$tree"' EXIT
+git archive "$BEFORE" crates crates.txt | tar -C "$tree" -x
+copy_crates driver_before "$CRATES" "$tree"
 build
 copy_crates driver "$CRATES"
 build
 PYTHONPATH=bench:tools python3 - out/bench/driver_before out/bench/driver <<'MEASURE'
 import binascii
+import re
 import statistics
+import subprocess
 import sys
 from datetime import datetime, timedelta
 
@@ -172,6 +176,7 @@ import runs
 PAGES = 512
 TURNS = 5
 MORE = 1_000
+COUNTED = 10
 before, now = (f'{folder}/crates/measure/out/measure' for folder in sys.argv[1:])
 first = datetime(2024, 1, 1)
 slots = [make_pages.slot(f'{first + timedelta(minutes=n):%Y-%m-%d %H:%M} outTemp=650') for n in range(5 * PAGES)]
@@ -189,6 +194,12 @@ def seconds(program, times):
     return of.user + of.system
 
 
+def instructions(program, times):
+    words = ['valgrind', '--tool=callgrind', '--callgrind-out-file=/dev/null', program, path] + ['again'] * times
+    of = subprocess.run(words, capture_output=True, text=True, check=True)
+    return int(re.search(r'Collected : (\d+)', of.stderr)[1])
+
+
 taken = {program: {1: [], 1 + MORE: []} for program in (before, now)}
 for turn in range(TURNS):
     for program, of in taken.items():
@@ -196,5 +207,6 @@ for turn in range(TURNS):
             all_seconds.append(seconds(program, times))
 for name, program in ('before', before), ('now', now):
     once, more = (statistics.median(of) for of in taken[program].values())
-    print(f'{name}: {(more - once) / MORE / PAGES * 1e6:.2f} us for a page')
+    counted = instructions(program, 1 + COUNTED) - instructions(program, 1)
+    print(f'{name}: {counted / COUNTED / PAGES:.0f} instructions, {(more - once) / MORE / PAGES * 1e6:.2f} us for a page')
 MEASURE

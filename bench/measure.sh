@@ -2,17 +2,18 @@
 
 # Copies the crates to out/bench/NAME, with a crate `measure` over the crates named that takes the place of
 # `station_replay` and of those that stand on it, and sets `copy` to that folder. Of an earlier copy only what was proved
-# stays.
+# stays. With a third word the crates are those of that folder.
 copy_crates() {
+    local from=${3:-.}
     copy=out/bench/$1
     mkdir -p "$copy/crates/measure"
     find "$copy"/crates/* -mindepth 1 -maxdepth 1 ! -name out -exec rm -r {} +
     mkdir "$copy/crates/measure/src"
     cp HANDLES "$copy"
-    sed -e "s/^station_replay:.*/measure: $2/" -e '/^[a-z_]*:.* station_replay\b/d' -e '/^station_program:/d' crates.txt >"$copy/crates.txt"
+    sed -e "s/^station_replay:.*/measure: $2/" -e '/^[a-z_]*:.* station_replay\b/d' -e '/^station_program:/d' "$from/crates.txt" >"$copy/crates.txt"
     local name
     for name in $(sed -n 's/^\([a-z_]*\):.*/\1/p' "$copy/crates.txt"); do
-        [ "$name" = measure ] || tar -C crates --exclude=out -c "$name" | tar -C "$copy/crates" -x
+        [ "$name" = measure ] || tar -C "$from/crates" --exclude=out -c "$name" | tar -C "$copy/crates" -x
     done
 }
 
