@@ -7,7 +7,8 @@ use Rattle.weather_book.specs.Stands.{HasRows}
 use Rattle.archive_copy.specs.declared.adding.BatchEnd.{BatchEnd}
 use Rattle.archive_copy.specs.declared.adding.BatchEnd.TheVariants as batch
 use Rattle.archive_copy.specs.declared.end.CopyEnd.{CopyEnd}
-use Rattle.archive_copy.specs.declared.end.CopyEnd.TheVariants.{Done, FromDamaged, NotPrefix, FromFault, ToFault, OutOfMemory}
+use Rattle.archive_copy.specs.declared.end.CopyEnd.TheVariants.{Done, FromDamaged, NotPrefix}
+use Rattle.archive_copy.specs.declared.end.CopyEnd.TheVariants.{FromFault, ToFault, OutOfMemory}
 
 -- how many batches so many rows are: five each, and the last with what is left
 abbrev pub batches : ℕ → ℕ
@@ -46,8 +47,8 @@ IsOfAdding ToFault count = Unit {0}
 IsOfAdding OutOfMemory count = Unit {0}
 IsOfAdding other count = ⊥
 
--- How far the moment comes: a recovery makes three changes where it makes the file anew, and else one; each batch takes four.
--- (A copy that stops says less.)
+-- How far the moment comes: a recovery makes three changes where it makes the file anew, and else one; each batch takes
+-- four. (A copy that stops says less.)
 abbrev pub Moves : CopyEnd → ℕ → ℕ → List ℕ → Type 0
 Moves (Done n) old new to =
     (mine : List Row) × (opened : ℕ) × (rows_of to ≡ holds mine) × MovedToWrite old opened to

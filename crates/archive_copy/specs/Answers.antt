@@ -8,7 +8,9 @@ use Rattle.disk_model.specs.Medium.{Medium}
 use Rattle.weather_book.specs.Stands.{NowHasRows, ReadsRows}
 use Rattle.weather_book.specs.Rows.{rows_of, holds, not_archive, damaged}
 use Rattle.archive_copy.specs.declared.end.CopyEnd.{CopyEnd}
-use Rattle.archive_copy.specs.declared.end.CopyEnd.TheVariants.{Done, FromNotArchive, FromDamaged, Full, ToNotArchive, ToOldVersion, ToDamaged, NotPrefix, FromFault, ToFault, OutOfMemory}
+use Rattle.archive_copy.specs.declared.end.CopyEnd.TheVariants.{Done, FromNotArchive, FromDamaged, Full}
+use Rattle.archive_copy.specs.declared.end.CopyEnd.TheVariants.{ToNotArchive, ToOldVersion, ToDamaged}
+use Rattle.archive_copy.specs.declared.end.CopyEnd.TheVariants.{NotPrefix, FromFault, ToFault, OutOfMemory}
 use Rattle.archive_copy.specs.Comparing.{IsFirstUnlike}
 
 -- the file has these rows, which are not too many to be copied
@@ -48,8 +50,8 @@ EndsWith ToFault mine theirs = Unit {0}
 EndsWith OutOfMemory mine theirs = Unit {0}
 EndsWith other mine theirs = ⊥
 
--- Why a copy ended so, in this order: the first file refuses, it has too many rows, the second file refuses, or what its
--- rows are. A fault, or want of memory, says nothing of the files.
+-- Why a copy ended so, in this order: the first file refuses, it has too many rows, the second file refuses, or what
+-- its rows are. A fault, or want of memory, says nothing of the files.
 abbrev pub Answers : CopyEnd → List ℕ → List ℕ → Type 0
 Answers (FromNotArchive bytes) from to = RefusesFrom (FromNotArchive bytes) from
 Answers (FromDamaged place) from to = RefusesFrom (FromDamaged place) from

@@ -1,5 +1,6 @@
 -- The calls of a copy on each of its disks.
-use Rattle.std.specs.Prelude.{◌≡◌, ℕ, zero, suc, ◌+◌, ◌-◌, ◌*◌, ◌<◌, ◌≤◌, Bool, true, false, List, [], ◌∷◌, ◌++◌, length, take, Ok, Err}
+use Rattle.std.specs.Prelude.{◌≡◌, ℕ, zero, suc, ◌+◌, ◌-◌, ◌*◌, ◌<◌, ◌≤◌, Bool, true}
+use Rattle.std.specs.Prelude.{false, List, [], ◌∷◌, ◌++◌, length, take, Ok, Err}
 use Rattle.std.specs.declared.result.Result.{Result}
 use Rattle.disk_model.specs.Medium.{Medium}
 use Rattle.disk_model.specs.Calls.{DiskCall}
@@ -62,8 +63,8 @@ abbrev pub to_opened_failed : Result Book CopyEnd → Bool
 to_opened_failed (Ok book) = false
 to_opened_failed (Err end) = is_to_fault end
 
--- Calls that change nothing led from the one disk to the other. Each read ends within the length that was measured last, and
--- whether one of the calls failed is told.
+-- Calls that change nothing led from the one disk to the other. Each read ends within the length that was measured
+-- last, and whether one of the calls failed is told.
 pub record OnlyReads {D : Type 0} (medium : Medium D) (failed : Bool) (old new : D) : Type 0 where
   pub calls : List DiskCall
   pub by : medium.went old calls new
@@ -101,20 +102,22 @@ AreBatches [] = Unit {0}
 AreBatches (batch ∷ []) = (1 ≤ length batch) × (length batch ≤ 5)
 AreBatches (batch ∷ next ∷ more) = (length batch ≡ 5) × AreBatches (next ∷ more)
 
--- Changes alone led from the one disk to the other: those for batches behind these rows, in order and up to the first that
--- failed; whether one did is told. The rows of the batches are as is said.
+-- Changes alone led from the one disk to the other: those for batches behind these rows, in order and up to the first
+-- that failed; whether one did is told. The rows of the batches are as is said.
 pub record AddsBatches {D : Type 0} (medium : Medium D) (mine : List Row) (failed : Bool) (are : List Row → Type 0)
     (old new : D) : Type 0 where
   pub batches : List (List Row)
   pub sizes : AreBatches batches
   pub begun : medium.moment old ≤ medium.moment new
-  pub by : medium.went old (up_to (take (medium.moment new - medium.moment old) (changes_for mine batches)) (last_answer failed)) new
-  pub fails : any_failed (up_to (take (medium.moment new - medium.moment old) (changes_for mine batches)) (last_answer failed)) ≡ failed
+  pub by : medium.went old
+      (up_to (take (medium.moment new - medium.moment old) (changes_for mine batches)) (last_answer failed)) new
+  pub fails : any_failed
+      (up_to (take (medium.moment new - medium.moment old) (changes_for mine batches)) (last_answer failed)) ≡ failed
   pub rows_are : are (rows_in batches)
 
--- The calls on the disk to copy to. The changes are those of a recovery, and then those for batches behind the rows that it
--- found, each in order and up to the first that failed. The rows are as is said where a batch was begun. Each read ends
--- within the length that was measured last, and whether a call failed is told.
+-- The calls on the disk to copy to. The changes are those of a recovery, and then those for batches behind the rows
+-- that it found, each in order and up to the first that failed. The rows are as is said where a batch was begun. Each
+-- read ends within the length that was measured last, and whether a call failed is told.
 pub record ToCalls {D : Type 0} (medium : Medium D) (failed : Bool) (are : List Row → List Row → Type 0) (old new : D)
     : Type 0 where
   pub calls : List DiskCall
@@ -125,8 +128,8 @@ pub record ToCalls {D : Type 0} (medium : Medium D) (failed : Bool) (are : List 
   pub batches : List (List Row)
   pub sizes : AreBatches batches
   pub begun : medium.moment old + opening ≤ medium.moment new
-  pub changes_are : changes calls ≡ up_to (take opening recovery_changes) opened
-      ++ up_to (take (medium.moment new - (medium.moment old + opening)) (changes_for mine batches)) (last_answer failed)
+  pub changes_are : changes calls ≡ up_to (take opening recovery_changes) opened ++ up_to
+      (take (medium.moment new - (medium.moment old + opening)) (changes_for mine batches)) (last_answer failed)
   pub rows_are : 0 < length batches → are mine (rows_in batches)
   pub fits : reads_fit 0 calls
   pub fails : any_failed calls ≡ failed

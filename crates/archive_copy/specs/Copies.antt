@@ -16,17 +16,19 @@ use Rattle.archive_copy.specs.declared.end.CopyEnd.TheVariants.{Done, FromFault,
 -- the changes are those of one recovery and of added batches, which are the next rows of the file to copy from
 abbrev pub AddsNext : {D E : Type 0} → Medium D → Medium E → CopyEnd → D → E → E → Type 0
 AddsNext one other end from to to' = ToCalls other (is_to_fault end) (λ mine next. WhereTold (one.seen from) (λ theirs.
-    WhereTold (other.seen to) (λ old. (rows_of old ≡ holds mine) × IsFrontOf next (next_rows (rows_of theirs) mine)))) to to'
+    WhereTold (other.seen to) (λ old.
+    (rows_of old ≡ holds mine) × IsFrontOf next (next_rows (rows_of theirs) mine)))) to to'
 
--- where each image at the start has some rows, each image since then has these, and then none or more of the next rows of
--- the file to copy from
+-- where each image at the start has some rows, each image since then has these, and then none or more of the next rows
+-- of the file to copy from
 abbrev pub LeavesNext : {D E : Type 0} → Medium D → Medium E → CopyEnd → D → E → E → Type 0
-LeavesNext one other end from to to' = WhereTold (one.seen from) (λ theirs. WhereTold (other.seen to) (λ _. (mine : List Row)
-    → NowHasRows other to mine → LeavesOnly other (HasSome mine (to_add end (rows_of theirs) mine)) to to'))
+LeavesNext one other end from to to' = WhereTold (one.seen from) (λ theirs. WhereTold (other.seen to) (λ _.
+    (mine : List Row) → NowHasRows other to mine
+    → LeavesOnly other (HasSome mine (to_add end (rows_of theirs) mine)) to to'))
 
 -- A copy of the archive on the one disk to the other one ended so.
-pub record Copies {D E : Type 0} (one : Medium D) (other : Medium E) (end : CopyEnd) (from : D) (to : E) (from' : D) (to' : E)
-    : Type 0 where
+pub record Copies {D E : Type 0} (one : Medium D) (other : Medium E) (end : CopyEnd) (from : D) (to : E)
+    (from' : D) (to' : E) : Type 0 where
   pub answers : WhereTold (one.seen from) (λ theirs. WhereTold (other.seen to) (Answers end theirs))
   pub from_stays : Stays one from from'
   pub from_fault : Faults one from from' (end ≡ FromFault)
@@ -34,7 +36,8 @@ pub record Copies {D E : Type 0} (one : Medium D) (other : Medium E) (end : Copy
   pub begun : Begins other 838867 to to'
   pub from_went : OnlyReads one (is_from_fault end) from from'
   pub to_went : AddsNext one other end from to to'
-  pub moved : WhereTold (one.seen from) (λ _. WhereTold (other.seen to) (Moves end (other.moment to) (other.moment to')))
+  pub moved : WhereTold (one.seen from) (λ _. WhereTold (other.seen to)
+      (Moves end (other.moment to) (other.moment to')))
   pub untouched : OnFromRefused end (to' ≡ to)
   pub undamaged : OnFromDamaged end (WhereTold (one.seen from) (λ _. WhereTold (other.seen to) (λ _. to' ≡ to)))
   pub images : LeavesNext one other end from to to'

@@ -4,7 +4,9 @@ use Rattle.std.specs.declared.result.Result.{Result}
 use Rattle.station_base.specs.declared.row.Row.{Row}
 use Rattle.weather_book.specs.declared.book.Book.{Book}
 use Rattle.archive_copy.specs.declared.end.CopyEnd.{CopyEnd}
-use Rattle.archive_copy.specs.declared.end.CopyEnd.TheVariants.{FromNotArchive, FromDamaged, Full, ToNotArchive, ToOldVersion, ToDamaged, FromFault, ToFault, OutOfMemory}
+use Rattle.archive_copy.specs.declared.end.CopyEnd.TheVariants.{FromNotArchive, FromDamaged, Full}
+use Rattle.archive_copy.specs.declared.end.CopyEnd.TheVariants.{ToNotArchive, ToOldVersion, ToDamaged}
+use Rattle.archive_copy.specs.declared.end.CopyEnd.TheVariants.{FromFault, ToFault, OutOfMemory}
 use Rattle.archive_copy.specs.Answers.{CanBeCopied, CanBeAddedTo, RefusesFrom, RefusesTo}
 
 -- the file can be copied, or why not

@@ -1,5 +1,6 @@
 -- Where a field stands in a record, and what its number tells.
-use Rattle.std.specs.Prelude.{ℕ, ℤ, ◌≢◌, ◌+◌, ◌≤◌, ◌==◌, Bool, false, int_le, not, ◌&&◌, if◌then◌else◌, IsSome, is_some, List, Some, None}
+use Rattle.std.specs.Prelude.{ℕ, ℤ, ◌≢◌, ◌+◌, ◌≤◌, ◌==◌, Bool, false, int_le, not}
+use Rattle.std.specs.Prelude.{◌&&◌, if◌then◌else◌, IsSome, is_some, List, Some, None}
 use Rattle.std.specs.Ordering.{int_eq}
 use Rattle.std.specs.Option.{ForSome}
 use Rattle.std.specs.declared.option.Option.{Option}

@@ -5,7 +5,8 @@ use Rattle.std.specs.declared.option.Option.{Option}
 use Rattle.station_base.specs.CivilMinute.{CivilMinute}
 use Rattle.station_base.specs.Stamp.{stamp_of_words}
 use Rattle.archive_record.specs.declared.record_read.RecordRead.{RecordRead}
-use Rattle.archive_record.specs.declared.record_read.RecordRead.TheVariants.{Row as ReadRow, Empty, OtherRevision, BadStamp}
+use Rattle.archive_record.specs.declared.record_read.RecordRead.TheVariants.{Row as ReadRow, Empty}
+use Rattle.archive_record.specs.declared.record_read.RecordRead.TheVariants.{OtherRevision, BadStamp}
 use Rattle.archive_record.specs.Kind.{word_at}
 use Rattle.archive_record.specs.Place.{value_in}
 use Rattle.archive_record.specs.Table.{places}
@@ -25,7 +26,8 @@ values_in bytes = map (value_in bytes) places
 -- a record of revision B, whose words may name no stamp
 abbrev pub dated : List ℕ → ℕ → Option CivilMinute → RecordRead
 dated bytes interval None = BadStamp (word_at bytes 0) (word_at bytes 2)
-dated bytes interval (Some stamp) = ReadRow (record { stamp = stamp; interval = interval; values = values_in bytes; limited = 0 })
+dated bytes interval (Some stamp) =
+    ReadRow (record { stamp = stamp; interval = interval; values = values_in bytes; limited = 0 })
 
 -- what the 52 bytes of a slot say, where records are written at that interval (Davis serial manual)
 unfoldable pub reading : List ℕ → ℕ → RecordRead

@@ -6,7 +6,8 @@ use Rattle.station_base.specs.declared.row.Row.{Row}
 use Rattle.station_base.specs.CivilMinute.{first_minute}
 use Rattle.archive_record.specs.Table.{places}
 use Rattle.archive_record.specs.declared.record_read.RecordRead.{RecordRead}
-use Rattle.archive_record.specs.declared.record_read.RecordRead.TheVariants.{Row as ReadRow, Empty, OtherRevision, BadStamp}
+use Rattle.archive_record.specs.declared.record_read.RecordRead.TheVariants.{Row as ReadRow, Empty}
+use Rattle.archive_record.specs.declared.record_read.RecordRead.TheVariants.{OtherRevision, BadStamp}
 use Rattle.archive_record.specs.Reading.{reading}
 
 abbrev pub IsRow : RecordRead → Type 0

@@ -1,7 +1,8 @@
 -- The history of a console's archive: every record put since it was last emptied, each as its 52 bytes.
 -- The size of the archive is the Davis manual's. That a record is put only where its stamp exceeds the newest, and that
 -- newer is told by the words of a stamp, is this project's profile.
-use Rattle.std.specs.Prelude.{ℕ, ◌-◌, ◌<◌, ◌≤◌, Bool, List, length, take, drop, slice_index_or, filter, option_and_then, IfSome, IsSomeAnd}
+use Rattle.std.specs.Prelude.{ℕ, ◌-◌, ◌<◌, ◌≤◌, Bool, List, length, take, drop}
+use Rattle.std.specs.Prelude.{slice_index_or, filter, option_and_then, IfSome, IsSomeAnd}
 use Rattle.std.specs.declared.option.Option.{Option}
 use Rattle.circular_buffer.specs.Buffer.{last_item}
 use Rattle.station_base.specs.CivilMinute.{CivilMinute, minute_of}

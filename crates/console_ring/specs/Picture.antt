@@ -1,7 +1,8 @@
 -- What the archive's 2,560 slots, 512 pages of five, show of a history, and the pages of a dump (Davis serial manual,
 -- "Download Protocol"). That a dump goes on to the last record, over the end of the ring into its first page again, is
 -- this project's profile.
-use Rattle.std.specs.Prelude.{ℕ, ◌≡◌, ◌<◌, ◌≤◌, zero, suc, ◌+◌, ◌-◌, ◌*◌, ◌/◌, ◌%◌, List, [], ◌∷◌, ◌++◌, length, replicate, if◌then◌else◌, nat_lt, slice_get, position, Some, None}
+use Rattle.std.specs.Prelude.{ℕ, ◌≡◌, ◌<◌, ◌≤◌, zero, suc, ◌+◌, ◌-◌, ◌*◌, ◌/◌, ◌%◌, List, [], ◌∷◌, ◌++◌}
+use Rattle.std.specs.Prelude.{length, replicate, if◌then◌else◌, nat_lt, slice_get, position, Some, None}
 use Rattle.std.specs.declared.option.Option.{Option}
 use Rattle.crc_ccitt.specs.Check.{sealed}
 use Rattle.console_ring.specs.declared.plan.Plan.{Plan}

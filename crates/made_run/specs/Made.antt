@@ -1,5 +1,6 @@
 -- The schedule that is made from a number. A record is told by what its bytes read as. (This project's own.)
-use Rattle.std.specs.Prelude.{ℕ, zero, suc, ℤ, pos, ◌-ℤ◌, ◌+◌, ◌*◌, ◌%◌, ◌==◌, ◌||◌, Bool, true, false, if◌then◌else◌, List, [], ◌∷◌, ◌++◌, slice_set, Some, None, codes}
+use Rattle.std.specs.Prelude.{ℕ, zero, suc, ℤ, pos, ◌-ℤ◌, ◌+◌, ◌*◌, ◌%◌, ◌==◌, ◌||◌, Bool, true}
+use Rattle.std.specs.Prelude.{false, if◌then◌else◌, List, [], ◌∷◌, ◌++◌, slice_set, Some, None, codes}
 use Rattle.std.specs.declared.option.Option.{Option}
 use Rattle.station_base.specs.CivilMinute.{CivilMinute, minute_of}
 use Rattle.station_base.specs.Fields.{field_named}

@@ -1,6 +1,7 @@
 -- What becomes of a row before it is kept: each value is calibrated, and then held against its limits (the order of
 -- WeeWX's services StdCalibrate and StdQC).
-use Rattle.std.specs.Prelude.{ℕ, ℤ, ◌+◌, ◌+ℤ◌, ◌*ℤ◌, ◌*◌, ◌≡◌, int_le, ◌&&◌, not, is_some, Bool, true, if◌then◌else◌, List, [], ◌∷◌, Option, Some, None}
+use Rattle.std.specs.Prelude.{ℕ, ℤ, ◌+◌, ◌+ℤ◌, ◌*ℤ◌, ◌*◌, ◌≡◌, int_le, ◌&&◌, not, is_some}
+use Rattle.std.specs.Prelude.{Bool, true, if◌then◌else◌, List, [], ◌∷◌, Option, Some, None}
 use Rattle.std.specs.Int.{int_div_euclid}
 use Rattle.std.specs.Option.{option_map_or}
 use Rattle.station_base.specs.RowLine.{IsValueWithin}

@@ -1,6 +1,7 @@
 -- What the key `change` means: tables in the order of the file, each with `from` and what it changes (this project's
 -- profile).
-use Rattle.std.specs.Prelude.{ℕ, nat_lt, ◌++◌, List, [], ◌∷◌, length, Option, Some, None, Result, Ok, Err, if◌then◌else◌, bytes_eq, codes}
+use Rattle.std.specs.Prelude.{ℕ, nat_lt, ◌++◌, List, [], ◌∷◌, length, Option, Some}
+use Rattle.std.specs.Prelude.{None, Result, Ok, Err, if◌then◌else◌, bytes_eq, codes}
 use Rattle.toml.specs.Data.{Data}
 use Rattle.station_base.specs.CivilMinute.{CivilMinute}
 use Rattle.station_base.specs.LastStamp.{exceeds}

@@ -5,7 +5,9 @@ use Rattle.station_base.specs.NumberText.{number_text}
 use Rattle.settings_file.specs.declared.fault.Section.{Section}
 use Rattle.settings_file.specs.declared.fault.Section.TheVariants as section
 use Rattle.settings_file.specs.declared.fault.SettingsFault.{SettingsFault}
-use Rattle.settings_file.specs.declared.fault.SettingsFault.TheVariants.{Syntax, UnknownKey, BadNumber, LimitsCrossed, BadPeriod, TooManyChanges, BadFrom, ChangeOrder, CrossedInChange, OutOfMemory}
+use Rattle.settings_file.specs.declared.fault.SettingsFault.TheVariants.{Syntax, UnknownKey, BadNumber, LimitsCrossed}
+use Rattle.settings_file.specs.declared.fault.SettingsFault.TheVariants.{BadPeriod, TooManyChanges, BadFrom}
+use Rattle.settings_file.specs.declared.fault.SettingsFault.TheVariants.{ChangeOrder, CrossedInChange, OutOfMemory}
 
 -- change n, from 0
 abbrev pub change_name : ℕ → List ℕ

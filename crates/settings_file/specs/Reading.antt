@@ -1,5 +1,6 @@
 -- What a settings file says: its settings, or the first fault (this project's profile, over TOML 1.1).
-use Rattle.std.specs.Prelude.{pos, unsigned_abs, List, ℕ, Option, Some, None, Result, Ok, Err, if◌then◌else◌, bytes_eq, codes}
+use Rattle.std.specs.Prelude.{pos, unsigned_abs, List, ℕ, Option, Some, None}
+use Rattle.std.specs.Prelude.{Result, Ok, Err, if◌then◌else◌, bytes_eq, codes}
 use Rattle.std.specs.Str.{is_utf8}
 use Rattle.toml.specs.Data.{Members}
 use Rattle.toml.specs.Parse.{parse_document}

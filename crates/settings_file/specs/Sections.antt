@@ -1,6 +1,7 @@
 -- What the keys of the two sections mean: a field's name, and in the table of a field its numbers (this project's
 -- profile).
-use Rattle.std.specs.Prelude.{ℤ, pos, neg_ℤ, int_lt, List, ℕ, Bool, false, Option, Some, None, Result, Ok, Err, if◌then◌else◌, bytes_eq, codes, slice_set}
+use Rattle.std.specs.Prelude.{ℤ, pos, neg_ℤ, int_lt, List, ℕ, Bool, false, Option, Some, None}
+use Rattle.std.specs.Prelude.{Result, Ok, Err, if◌then◌else◌, bytes_eq, codes, slice_set}
 use Rattle.settings_file.specs.declared.calibration.Calibration.{Calibration}
 use Rattle.settings_file.specs.declared.limits.Limits.{Limits}
 use Rattle.settings_file.specs.declared.fault.SettingsFault.{SettingsFault}

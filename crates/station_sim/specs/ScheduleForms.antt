@@ -1,5 +1,6 @@
 -- The forms of a schedule's lines, each with its first word.
-use Rattle.std.specs.Prelude.{ℕ, ℤ, ◌≤◌, Bool, true, false, not, if◌then◌else◌, List, [], ◌∷◌, map, replicate, slice_index_or, slice_set, Some, None, Result, Ok, Err, option_map, codes}
+use Rattle.std.specs.Prelude.{ℕ, ℤ, ◌≤◌, Bool, true, false, not, if◌then◌else◌, List, [], ◌∷◌, map, replicate}
+use Rattle.std.specs.Prelude.{slice_index_or, slice_set, Some, None, Result, Ok, Err, option_map, codes}
 use Rattle.std.specs.declared.option.Option.{Option}
 use Rattle.std.specs.Str.{bytes_eq}
 use Rattle.station_base.specs.Fields.{field_named}
@@ -8,9 +9,11 @@ use Rattle.archive_record.specs.Table.{places}
 use Rattle.vantage_frames.specs.LineReading.{only_if}
 use Rattle.station_sim.specs.Then.{◌>>=◌}
 use Rattle.station_sim.specs.declared.schedule.form.Form.{Form}
-use Rattle.station_sim.specs.declared.schedule.form.Form.TheVariants.{Due, Run, Idle, Open, Round, Host, Reply, Late, Mid, Stop}
+use Rattle.station_sim.specs.declared.schedule.form.Form.TheVariants.{Due, Run, Idle, Open, Round}
+use Rattle.station_sim.specs.declared.schedule.form.Form.TheVariants.{Host, Reply, Late, Mid, Stop}
 use Rattle.station_sim.specs.declared.schedule.form.Told.{Told}
-use Rattle.station_sim.specs.ScheduleWords.{number_of, number_within, count_of, Named, named_in, date_of, clock_of, minute_at, fate_of}
+use Rattle.station_sim.specs.ScheduleWords.{number_of, number_within, count_of, Named}
+use Rattle.station_sim.specs.ScheduleWords.{named_in, date_of, clock_of, minute_at, fate_of}
 
 -- no field is named
 abbrev pub none_taken : List Bool

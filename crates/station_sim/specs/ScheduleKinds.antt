@@ -1,12 +1,14 @@
 -- The kinds of fault that a line of a form can have, each by itself, and the least that applies.
-use Rattle.std.specs.Prelude.{ℕ, ℤ, ◌+◌, ◌-◌, ◌*◌, Bool, true, false, nat_le, nat_lt, not, ◌||◌, if◌then◌else◌, List, [], ◌∷◌, ◌++◌, length, Some, None, is_some}
+use Rattle.std.specs.Prelude.{ℕ, ℤ, ◌+◌, ◌-◌, ◌*◌, Bool, true, false, nat_le, nat_lt, not, ◌||◌}
+use Rattle.std.specs.Prelude.{if◌then◌else◌, List, [], ◌∷◌, ◌++◌, length, Some, None, is_some}
 use Rattle.std.specs.declared.option.Option.{Option}
 use Rattle.std.specs.List.{list_any}
 use Rattle.station_base.specs.CivilMinute.{CivilMinute, minute_of, last_minute}
 use Rattle.archive_record.specs.Table.{places}
 use Rattle.archive_record.specs.Writing.{can_hold_all}
 use Rattle.station_sim.specs.declared.schedule.form.Form.{Form}
-use Rattle.station_sim.specs.declared.schedule.form.Form.TheVariants.{Due, Run, Idle, Open, Round, Host, Reply, Late, Mid, Stop}
+use Rattle.station_sim.specs.declared.schedule.form.Form.TheVariants.{Due, Run, Idle, Open, Round}
+use Rattle.station_sim.specs.declared.schedule.form.Form.TheVariants.{Host, Reply, Late, Mid, Stop}
 use Rattle.station_sim.specs.declared.schedule.form.Told.{Told}
 use Rattle.station_sim.specs.declared.schedule.turn.Turn.{Turn}
 use Rattle.station_sim.specs.declared.schedule.turn.Turn.TheVariants.{Neither, Opening, InRound}

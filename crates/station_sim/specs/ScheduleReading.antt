@@ -2,12 +2,14 @@
 use Rattle.std.specs.Prelude.{ℕ, ◌+◌, ◌==◌, not, if◌then◌else◌, List, [], ◌∷◌, ◌++◌, Some, None, Result, Ok, Err}
 use Rattle.std.specs.declared.option.Option.{Option}
 use Rattle.station_sim.specs.declared.schedule.form.Form.{Form}
-use Rattle.station_sim.specs.declared.schedule.form.Form.TheVariants.{Due, Run, Idle, Open, Round, Host, Reply, Late, Mid, Stop}
+use Rattle.station_sim.specs.declared.schedule.form.Form.TheVariants.{Due, Run, Idle, Open, Round}
+use Rattle.station_sim.specs.declared.schedule.form.Form.TheVariants.{Host, Reply, Late, Mid, Stop}
 use Rattle.station_sim.specs.declared.schedule.turn.Turn.{Turn}
 use Rattle.station_sim.specs.declared.schedule.turn.Turn.TheVariants.{Opening, InRound}
 use Rattle.station_sim.specs.SchedulePieces.{lines_of, words_of, is_silent, is_all_plain}
 use Rattle.station_sim.specs.ScheduleForms.{form_of}
-use Rattle.station_sim.specs.ScheduleSteps.{Step, DueStep, RunStep, IdleStep, Said, nothing_said, no_details, steps_said, record_told, last_minute_of}
+use Rattle.station_sim.specs.ScheduleSteps.{Step, DueStep, RunStep, IdleStep, Said, nothing_said}
+use Rattle.station_sim.specs.ScheduleSteps.{no_details, steps_said, record_told, last_minute_of}
 use Rattle.station_sim.specs.Lists.{with_entry}
 use Rattle.station_sim.specs.ScheduleKinds.{kinds, least}
 

@@ -2,7 +2,9 @@
 use Rattle.std.specs.Prelude.{ℕ, ◌+◌, ◌/◌, ◌%◌, ◌≤◌, true, nat_lt, if◌then◌else◌, List, [], ◌∷◌, ◌++◌, codes}
 use Rattle.std.specs.Fmt.{decimal, digit_glyph}
 use Rattle.vantage_frames.specs.declared.command.Command.{Command}
-use Rattle.vantage_frames.specs.declared.command.Command.TheVariants.{Test, Kind, LoopFor, DumpAfter, EepromRead, EepromWrite, EepromAll, TimeGet, TimeSet, SetPeriod, ClearLog}
+use Rattle.vantage_frames.specs.declared.command.Command.TheVariants.{Test, Kind, LoopFor, DumpAfter}
+use Rattle.vantage_frames.specs.declared.command.Command.TheVariants.{EepromRead, EepromWrite, EepromAll}
+use Rattle.vantage_frames.specs.declared.command.Command.TheVariants.{TimeGet, TimeSet, SetPeriod, ClearLog}
 
 -- there are bytes, and they lie within the 4,096 of the EEPROM
 abbrev pub AreInEeprom : ℕ → ℕ → Type 0
