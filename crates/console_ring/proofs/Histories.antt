@@ -1,13 +1,18 @@
 -- Histories that grow by a record.
-use Rattle.std.proofs.Common.{◌≡◌, ℕ, ◌+◌, ◌-◌, ◌%◌, ◌<◌, List, [], ◌∷◌, ◌++◌, length, take, drop, get_or, sym, ap, ◌∙◌, arith, length-append, length-drop, below_more, Option, Some, None}
-use Rattle.std.specs.Prelude.{IfSome, IsSomeAnd}
+use Rattle.std.proofs.Common.{◌≡◌, ℕ, ◌+◌, ◌-◌, ◌%◌, ◌<◌, ◌≤◌, List, [], ◌∷◌, ◌++◌, length, take, drop, get_or, refl, sym, ap, ◌∙◌, arith, length-append, length-drop, below_more, Bool, true, false, Option, Some, None}
+use Rattle.std.specs.Prelude.{if◌then◌else◌, nat_lt, slice_get, IfSome}
+use Rattle.std.proofs.lemmas.Bool.{lt-ltb, ltb-true}
+use Rattle.std.proofs.lemmas.Bool.Decides.{nat_tests}
 use Rattle.std.proofs.lemmas.List.{drop-append-le, drop-drop, take-append-le}
 use Rattle.std.proofs.Math.ListN.{get_or-append}
 use Rattle.std.proofs.Math.Seq.{get_or-append_seam, take-append_seam}
-use Rattle.circular_buffer.specs.Buffer.{keep_last}
+use Rattle.circular_buffer.specs.Buffer.{keep_last, last_item}
+use Rattle.circular_buffer.proofs.Places.{slice_get-drop}
 use Rattle.station_base.specs.CivilMinute.{CivilMinute, minute_of}
+use Rattle.station_base.specs.LastStamp.{CanFollow}
 use Rattle.archive_record.specs.Reading.{stamp_in}
 use Rattle.console_ring.specs.History.{retained, newest_of, CanExtend, IsHistory}
+use Rattle.console_ring.specs.Picture.{last_in, slot_of}
 use Rattle.console_ring.specs.Standing.{Kept, StandsFor}
 
 pub retained_push : (history : List (List ℕ)) (bytes : List ℕ) → keep_last 2560 (retained history ++ bytes ∷ []) ≡ retained (history ++ bytes ∷ [])
@@ -20,6 +25,39 @@ retained_push history bytes =
     let gone : ℕ = length (retained history ++ bytes ∷ []) - 2560 in
     let sum : overwritten + gone ≡ length (history ++ bytes ∷ []) - 2560 = omega (arith, long, kept, all) in
     ap (λ xs. drop gone xs) front ∙ drop-drop gone overwritten (history ++ bytes ∷ []) ∙ ap (λ n. drop n (history ++ bytes ∷ [])) sum
+
+-- the last of those that are left is the last of all
+pub last_retained : (history : List (List ℕ)) → last_item (retained history) ≡ last_item history
+last_retained [] = refl
+last_retained (r ∷ rs) =
+    let overwritten : ℕ = length (r ∷ rs) - 2560 in
+    slice_get-drop overwritten (r ∷ rs) (length (retained (r ∷ rs)) - 1) (length (r ∷ rs) - 1) (omega (arith, length-drop overwritten (r ∷ rs)))
+
+-- the item so many behind the last one, where there are more
+abbrev item_behind : Bool → List (List ℕ) → ℕ → Option (List ℕ)
+item_behind more items behind = if more then slice_get items (length items - behind - 1) else None
+
+-- what a ring has so many behind its last record is what was put last in a slot
+pub slot_kept : (records : List (List ℕ)) (next number behind : ℕ) (history : List (List ℕ)) →
+    StandsFor (record { records = records; next_slot = next }) history → number < 2560 → behind ≡ (next + 2560 - 1 - number) % 2560 →
+    item_behind (nat_lt behind (length records)) records behind ≡ slot_of history number
+slot_kept records next number behind history stands small is =
+    ap (λ items. item_behind (nat_lt behind (length items)) items behind) stands.records ∙ by_put (nat_lt number (length history)) refl
+  where
+    by_put : (put : Bool) → nat_lt number (length history) ≡ put →
+        item_behind (nat_lt behind (length (retained history))) (retained history) behind ≡ (if put then slice_get history (last_in (length history) number) else None)
+    by_put true test =
+        let long = length-drop (length history - 2560) history in
+        let put : number < length history = ltb-true number (length history) test in
+        let within : behind < length (retained history) = omega (arith, long, put, stands.next_slot, small, is) in
+        ap (λ more. item_behind more (retained history) behind) (lt-ltb behind (length (retained history)) within)
+        ∙ slice_get-drop (length history - 2560) history (length (retained history) - behind - 1) (last_in (length history) number) (omega (arith, long, put, stands.next_slot, small, is, within))
+    by_put false test =
+        let long = length-drop (length history - 2560) history in
+        let unput : length history ≤ number = grind (arith, nat_tests, test) in
+        let beyond : length (retained history) ≤ behind = omega (arith, long, unput, stands.next_slot, small, is) in
+        let past : nat_lt behind (length (retained history)) ≡ false = grind (arith, nat_tests, beyond) in
+        ap (λ more. item_behind more (retained history) behind) past
 
 moved : (h h2 : List (List ℕ)) (b b2 : List ℕ) → h2 ≡ h → b2 ≡ b → CanExtend h b → CanExtend h2 b2
 moved h h2 b b2 e f follows = rw (e, f) follows
@@ -51,7 +89,7 @@ appended records more next capacity history bytes stands follows size is = recor
 }
 
 followed : (newest of_bytes : Option CivilMinute) (stamp : CivilMinute) → of_bytes ≡ Some stamp → IfSome newest (λ n. minute_of n < minute_of stamp) →
-    IsSomeAnd of_bytes (λ s. IfSome newest (λ n. minute_of n < minute_of s))
+    CanFollow newest of_bytes
 followed newest of_bytes stamp is above = rw is above
 
 above_none : (newest : Option CivilMinute) (stamp : CivilMinute) → newest ≡ None → IfSome newest (λ n. minute_of n < minute_of stamp)

@@ -1,10 +1,11 @@
 -- The records newer than two words are the last of a history.
 use Rattle.std.proofs.Common.{◌≡◌, ℕ, zero, suc, ◌+◌, ◌-◌, ◌<◌, ◌≤◌, Bool, true, false, List, [], ◌∷◌, length, take, drop, get_or, refl, sym, ap, subst, ◌∙◌, arith, length-take, length-drop, Option, Some, None}
-use Rattle.std.specs.Prelude.{if◌then◌else◌, nat_lt, filter, slice_get, option_and_then, IfSome, IsSomeAnd}
+use Rattle.std.specs.Prelude.{if◌then◌else◌, nat_lt, filter, slice_get, option_and_then, IsSomeAnd}
 use Rattle.std.specs.List.{position_or_len}
 use Rattle.std.proofs.lemmas.Bool.Decides.{nat_tests}
 use Rattle.std.proofs.lemmas.List.{drop-drop, get_or-drop}
 use Rattle.station_base.specs.CivilMinute.{CivilMinute, minute_of}
+use Rattle.station_base.specs.LastStamp.{CanFollow}
 use Rattle.station_base.specs.Stamp.{date_word_of, time_word_of, words_exceed}
 use Rattle.station_base.proofs.Civil.{stamp_civil}
 use Rattle.station_base.proofs.WordOrder.{words_exceed_when_later}
@@ -80,12 +81,12 @@ newer_on date time a b m s a_is b_is later is =
     exceed_on date time (word_at a 0) (word_at a 2) (word_at b 0) (word_at b 2) is there
 
 newer_next : (date time : ℕ) (a b : List ℕ) (last next : Option CivilMinute) → stamp_in a ≡ last → stamp_in b ≡ next → IsSomeAnd last (λ s. Unit {0}) →
-    IsSomeAnd next (λ s. IfSome last (λ m. minute_of m < minute_of s)) → is_newer date time a ≡ true → is_newer date time b ≡ true
+    CanFollow last next → is_newer date time a ≡ true → is_newer date time b ≡ true
 newer_next date time a b None next a_is b_is some later is = absurd some
 newer_next date time a b (Some m) None a_is b_is some later is = absurd later
 newer_next date time a b (Some m) (Some s) a_is b_is some later is = newer_on date time a b m s a_is b_is later is
 
-has_stamp : (stamp newest : Option CivilMinute) → IsSomeAnd stamp (λ s. IfSome newest (λ m. minute_of m < minute_of s)) → IsSomeAnd stamp (λ s. Unit {0})
+has_stamp : (stamp newest : Option CivilMinute) → CanFollow newest stamp → IsSomeAnd stamp (λ s. Unit {0})
 has_stamp None newest is = absurd is
 has_stamp (Some s) newest is = tt
 
@@ -97,7 +98,7 @@ newer_goes_on h date time rises i none within is =
     let b = get_or h (suc i) none in
     newer_next date time a b (stamp_in a) (stamp_in b) refl refl
     (has_stamp (stamp_in a) (newest_of (take i h)) (rises i none before))
-    (subst (λ (o : Option CivilMinute). IsSomeAnd (stamp_in b) (λ s. IfSome o (λ m. minute_of m < minute_of s))) (newest_taken h i none before) (rises (suc i) none within))
+    (subst (λ (o : Option CivilMinute). CanFollow o (stamp_in b)) (newest_taken h i none before) (rises (suc i) none within))
     is
 
 upward_retained : (h : List (List ℕ)) (date time : ℕ) → IsHistory h → Upward (is_newer date time) (retained h)

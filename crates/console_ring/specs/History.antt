@@ -2,10 +2,11 @@
 -- The size of the archive is the Davis manual's. That a record is put only where its stamp exceeds the newest, and that
 -- newer is told by the words of a stamp, is this project's profile.
 use Rattle.std.specs.Prelude.{ℕ, ◌-◌, ◌<◌, ◌≤◌, Bool, List, length, take, drop}
-use Rattle.std.specs.Prelude.{slice_index_or, filter, option_and_then, IfSome, IsSomeAnd}
+use Rattle.std.specs.Prelude.{slice_index_or, filter, option_and_then, IsSomeAnd}
 use Rattle.std.specs.declared.option.Option.{Option}
 use Rattle.circular_buffer.specs.Buffer.{last_item}
 use Rattle.station_base.specs.CivilMinute.{CivilMinute, minute_of}
+use Rattle.station_base.specs.LastStamp.{CanFollow}
 use Rattle.station_base.specs.Stamp.{words_exceed}
 use Rattle.archive_record.specs.Kind.{word_at}
 use Rattle.archive_record.specs.Reading.{stamp_in}
@@ -26,10 +27,9 @@ newer date time records = filter (is_newer date time) records
 abbrev pub newest_of : List (List ℕ) → Option CivilMinute
 newest_of history = option_and_then stamp_in (last_item history)
 
--- a record can extend a history: it has a stamp, which exceeds the newest one, if there is one
+-- a record can extend a history: its stamp can follow the newest
 abbrev pub CanExtend : List (List ℕ) → List ℕ → Type 0
-CanExtend history bytes =
-    IsSomeAnd (stamp_in bytes) (λ stamp. IfSome (newest_of history) (λ newest. minute_of newest < minute_of stamp))
+CanExtend history bytes = CanFollow (newest_of history) (stamp_in bytes)
 
 -- its stamp does not exceed this one
 abbrev pub IsNotAfter : CivilMinute → List ℕ → Type 0
