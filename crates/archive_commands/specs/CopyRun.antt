@@ -67,9 +67,10 @@ CopiesFrom medium outlet attach.Failed to disk second out disk' second' out' res
 CopiesFrom medium outlet attach.Done to disk second out disk' second' out' result =
     CopiesTo medium outlet to disk second out disk' second' out' result
 
--- The file of the one name was attached once, without making it, before the one of the other name, and then it was copied.
-pub record CopiesOn {D S : Type 0} (medium : Medium D) (outlet : Outlet S) (from to : List ℕ) (disk second : D) (out : S)
-    (disk' second' : D) (out' : S) (result : ℕ) : Type 0 where
+-- The file of the one name was attached once, without making it, before the one of the other name, and then it was
+-- copied.
+pub record CopiesOn {D S : Type 0} (medium : Medium D) (outlet : Outlet S) (from to : List ℕ)
+    (disk second : D) (out : S) (disk' second' : D) (out' : S) (result : ℕ) : Type 0 where
   pub answer : Disked
   pub middle : D
   pub attaches : Attaches medium disk from false answer middle

@@ -4,7 +4,8 @@ use Rattle.console_tasks.specs.Memory.{AreWithin}
 use Rattle.station_base.specs.ClockTime.{can_be_shown}
 use Rattle.command_words.specs.Command.{CommandLine, task, make}
 use Rattle.command_words.specs.declared.task.Task.{Task}
-use Rattle.command_words.specs.declared.task.Task.TheVariants.{Packets, ReadMemory, WriteMemory, ReadClock, SetClock, SetPeriod, Kind}
+use Rattle.command_words.specs.declared.task.Task.TheVariants.{Packets, ReadMemory, WriteMemory, ReadClock, SetClock}
+use Rattle.command_words.specs.declared.task.Task.TheVariants.{SetPeriod, Kind}
 
 -- its numbers are in their ranges
 abbrev pub CanBeMade : Task → Type 0

@@ -9,7 +9,8 @@ use Rattle.command_words.specs.ClockWords.{second_at}
 use Rattle.command_words.specs.Numbers.{number_within, bytes_of}
 use Rattle.command_words.specs.Then.{◌>>=◌}
 use Rattle.command_words.specs.declared.task.Task.{Task}
-use Rattle.command_words.specs.declared.task.Task.TheVariants.{Packets, ReadMemory, WriteMemory, ReadClock, SetClock, SetPeriod, Kind}
+use Rattle.command_words.specs.declared.task.Task.TheVariants.{Packets, ReadMemory, WriteMemory, ReadClock, SetClock}
+use Rattle.command_words.specs.declared.task.Task.TheVariants.{SetPeriod, Kind}
 
 -- `N`, 1 to 32 packets
 abbrev pub packets_in : List (List ℕ) → Option Task

@@ -16,7 +16,8 @@ use Rattle.dmpaft_driver.specs.declared.action.Action.{Action}
 use Rattle.dmpaft_driver.specs.declared.action.Action.TheVariants as action
 use Rattle.dmpaft_driver.specs.Keeper.{Delivery, last_kept}
 use Rattle.dmpaft_driver.specs.Batch.{slots, newest, skipped, batches, answered, all_skipped, EndsGiving}
-use Rattle.dmpaft_driver.specs.Phases.{part_of, quiets_of, most_of, words_of, span_of, rest_of, settles, Fits, Speaks, Hears}
+use Rattle.dmpaft_driver.specs.Phases.{part_of, quiets_of, most_of, words_of, span_of, rest_of, settles, Fits, Speaks}
+use Rattle.dmpaft_driver.specs.Phases.{Hears}
 use Rattle.dmpaft_driver.specs.Pump.{words as words_in}
 use Rattle.dmpaft_driver.specs.Pump.{Part, State, Hearing, Keeping, Over, begun, most, newest_of, next_place, batch_of}
 

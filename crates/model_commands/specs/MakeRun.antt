@@ -33,8 +33,8 @@ counts_lines records counts = made_line records counts ++ endings_line counts ++
 abbrev pub counts_output : ℕ → Counts → Output
 counts_output records counts = record { text = counts_lines records counts; status = ends.Done }
 
--- Counts were written, and they are those of a whole run, by the rules, of the schedule that is made from the seed. All is
--- kept of that run, and no delivery was unseen.
+-- Counts were written, and they are those of a whole run, by the rules, of the schedule that is made from the seed. All
+-- is kept of that run, and no delivery was unseen.
 pub record TellsCounts {S : Type 0} (outlet : Outlet S) (seed records : ℕ) (out out' : S) (result : ℕ) : Type 0 where
   pub counts : Counts
   pub of_run : CountsRun seed records counts

@@ -1,6 +1,7 @@
 -- What a run does that brings an archive up to date from a console: its one attach, the recovery, its one connect, the
 -- round, and what is written.
-use Rattle.std.specs.Prelude.{ℕ, ◌≡◌, ◌⊎◌, ◌+◌, ◌-◌, false, true, List, [], ◌∷◌, ◌++◌, Option, Some, codes, decimal, length, IsSomeAnd}
+use Rattle.std.specs.Prelude.{ℕ, ◌≡◌, ◌⊎◌, ◌+◌, ◌-◌, false, true, List, [], ◌∷◌, ◌++◌, Option, Some, codes, decimal}
+use Rattle.std.specs.Prelude.{length, IsSomeAnd}
 use Rattle.archive_copy.specs.Answers.{CanBeAddedTo}
 use Rattle.causes.specs.Told.{WhereTold}
 use Rattle.disk_model.specs.Disk.{Attaches, LeavesOnly}

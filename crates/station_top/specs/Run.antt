@@ -5,7 +5,8 @@ use Rattle.serial_link.specs.Traffic.{Traffic}
 use Rattle.station_io.specs.Files.{Shelf}
 use Rattle.station_io.specs.Sink.{Outlet}
 use Rattle.run_output.specs.declared.status.Status.TheVariants as ends
-use Rattle.command_words.specs.Command.{CommandLine, pages, corrected_pages, task, report, replay, copy, station, console, make}
+use Rattle.command_words.specs.Command.{CommandLine, pages, corrected_pages, task, report, replay, copy, station}
+use Rattle.command_words.specs.Command.{console, make}
 use Rattle.model_commands.specs.ConsoleRun.{ServesFiles}
 use Rattle.archive_commands.specs.CopyRun.{CopiesOn, TellArchives}
 use Rattle.page_commands.specs.GoodFile.{IsGoodFile}

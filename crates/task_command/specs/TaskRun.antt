@@ -2,7 +2,8 @@
 use Rattle.std.specs.Prelude.{ℕ, ◌≡◌, List, ◌++◌, Some, codes, decimal}
 use Rattle.console_tasks.specs.TaskTalk.{DoesTask, HasEnd, TaskTalk}
 use Rattle.console_tasks.specs.Exchange.{Exchange}
-use Rattle.console_tasks.specs.Tasks.{looping, reading_memory, writing_memory, asking_time, setting_time, setting_period, asking_kind}
+use Rattle.console_tasks.specs.Tasks.{looping, reading_memory, writing_memory, asking_time, setting_time}
+use Rattle.console_tasks.specs.Tasks.{setting_period, asking_kind}
 use Rattle.console_tasks.specs.declared.end.TaskEnd.{TaskEnd}
 use Rattle.console_tasks.specs.declared.end.TaskEnd.TheVariants as task_end
 use Rattle.serial_link.specs.Link.{Dials}
@@ -15,7 +16,8 @@ use Rattle.station_base.specs.NumberText.{number_text}
 use Rattle.station_io.specs.Sink.{Outlet}
 use Rattle.run_output.specs.declared.status.Status.TheVariants as ends
 use Rattle.command_words.specs.declared.task.Task.{Task}
-use Rattle.command_words.specs.declared.task.Task.TheVariants.{Packets, ReadMemory, WriteMemory, ReadClock, SetClock, SetPeriod, Kind}
+use Rattle.command_words.specs.declared.task.Task.TheVariants.{Packets, ReadMemory, WriteMemory, ReadClock, SetClock}
+use Rattle.command_words.specs.declared.task.Task.TheVariants.{SetPeriod, Kind}
 use Rattle.run_output.specs.Output.{Output, EndsWith, link_fault, no_memory}
 use Rattle.task_command.specs.TaskText.{text_of}
 

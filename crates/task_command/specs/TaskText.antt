@@ -8,7 +8,8 @@ use Rattle.station_base.specs.NumberText.{number_text, signed_text}
 use Rattle.run_output.specs.MemoryText.{bytes_line}
 use Rattle.station_base.specs.declared.clock.ClockTime.{ClockTime}
 use Rattle.command_words.specs.declared.task.Task.{Task}
-use Rattle.command_words.specs.declared.task.Task.TheVariants.{Packets, ReadMemory, WriteMemory, ReadClock, SetClock, SetPeriod, Kind}
+use Rattle.command_words.specs.declared.task.Task.TheVariants.{Packets, ReadMemory, WriteMemory, ReadClock, SetClock}
+use Rattle.command_words.specs.declared.task.Task.TheVariants.{SetPeriod, Kind}
 
 -- barometer, temperature inside and outside, speed and direction of the wind
 unfoldable pub numbers_line : ℕ → ℤ → ℤ → ℕ → ℕ → List ℕ
