@@ -1,3 +1,1 @@
 pub mod DayWords
-pub mod Digits
-pub mod Pairs

@@ -3,9 +3,8 @@ use Rattle.std.specs.Prelude.{ℕ, ◌==◌, ◌&&◌, Bool, if◌then◌else◌
 use Rattle.std.specs.declared.option.Option.{Option}
 use Rattle.station_base.specs.ClockTime.{can_be_shown}
 use Rattle.station_base.specs.declared.clock.ClockTime.{ClockTime}
-use Rattle.vantage_frames.specs.LineReading.{only_if}
-use Rattle.vantage_frames.specs.Numeral.{number_in}
-use Rattle.command_words.specs.Then.{◌>>=◌}
+use Rattle.numerals.specs.Numeral.{number_in}
+use Rattle.numerals.specs.Then.{◌>>=◌, only_if}
 
 -- YYYY-MM-DD: the bytes at the fifth and eighth place are `-`
 abbrev pub has_form_of_date : List ℕ → Bool

@@ -5,7 +5,7 @@ use Rattle.std.specs.declared.option.Option.{Option}
 use Rattle.command_words.specs.Numbers.{number_within}
 use Rattle.command_words.specs.ReportWords.{wanted_in}
 use Rattle.command_words.specs.TaskWords.{task_of}
-use Rattle.command_words.specs.Then.{◌>>=◌}
+use Rattle.numerals.specs.Then.{◌>>=◌}
 use Rattle.command_words.specs.declared.command.Command.{Command}
 use Rattle.command_words.specs.declared.command.Command.TheVariants as read
 use Rattle.command_words.specs.declared.task.Task.{Task}

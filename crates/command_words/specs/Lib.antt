@@ -4,4 +4,3 @@ pub mod Numbers
 pub mod Possible
 pub mod ReportWords
 pub mod TaskWords
-pub mod Then

@@ -4,8 +4,7 @@ use Rattle.std.specs.declared.option.Option.{Option}
 use Rattle.std.specs.Str.{bytes_eq}
 use Rattle.station_base.specs.DayText.{day_text}
 use Rattle.station_base.specs.declared.day.DayNumber.{DayNumber}
-use Rattle.vantage_frames.specs.LineReading.{only_if}
-use Rattle.command_words.specs.Then.{◌>>=◌}
+use Rattle.numerals.specs.Then.{◌>>=◌, only_if}
 use Rattle.command_words.specs.declared.wanted.ReportKind.{ReportKind}
 use Rattle.command_words.specs.declared.wanted.ReportKind.TheVariants.{Rows, Days, Months}
 use Rattle.command_words.specs.declared.wanted.Wanted.{Wanted}

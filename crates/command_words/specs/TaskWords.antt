@@ -3,11 +3,10 @@ use Rattle.std.specs.Prelude.{ℕ, ◌+◌, if◌then◌else◌, nat_le, List, [
 use Rattle.std.specs.declared.option.Option.{Option}
 use Rattle.std.specs.Str.{bytes_eq}
 use Rattle.station_base.specs.Period.{is_period}
-use Rattle.vantage_frames.specs.LineReading.{only_if}
-use Rattle.vantage_frames.specs.Numeral.{number_in}
+use Rattle.numerals.specs.Numeral.{number_in}
 use Rattle.command_words.specs.ClockWords.{second_at}
 use Rattle.command_words.specs.Numbers.{number_within, bytes_of}
-use Rattle.command_words.specs.Then.{◌>>=◌}
+use Rattle.numerals.specs.Then.{◌>>=◌, only_if}
 use Rattle.command_words.specs.declared.task.Task.{Task}
 use Rattle.command_words.specs.declared.task.Task.TheVariants.{Packets, ReadMemory, WriteMemory, ReadClock, SetClock}
 use Rattle.command_words.specs.declared.task.Task.TheVariants.{SetPeriod, Kind}

@@ -2,7 +2,7 @@ ghost use Rattle.std.specs.Prelude.{◌≡◌, ◌<◌, ◌≤◌, ◌+◌, ◌^
 ghost use Rattle.station_base.specs.ClockTime.{can_be_shown};
 ghost use Rattle.command_words.specs.ClockWords.{has_form_of_date, has_form_of_time, part_of, second_at, second_named};
 
-use crate::numbers::{DECIMAL, read_number};
+use numerals::{DECIMAL, read_number};
 use station_base::ClockTime;
 
 /// The second that a date `YYYY-MM-DD` and a time `HH:MM:SS` name, where the calendar has it and its year is 1900

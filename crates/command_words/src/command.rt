@@ -11,7 +11,7 @@ use crate::words::{ConsoleWords, StationWords};
 const MOST_SEED: u64 = (1 << 31) - 1;
 
 // The most records that are made.
-const MOST_RECORDS: u64 = 5_000;
+const MOST_MADE: u64 = 5_000;
 
 /// What the words of the command line ask for.
 #[derive(Debug, Drop)]
@@ -201,6 +201,6 @@ fn read_make<'a>(words: &[&'a str]) -> Option<Command<'a>>
         return None;
     };
     let seed = read_within(seed, 0, MOST_SEED)? as u32;
-    let records = read_within(records, 1, MOST_RECORDS)? as u32;
+    let records = read_within(records, 1, MOST_MADE)? as u32;
     Some(Command::Make { seed, records })
 }

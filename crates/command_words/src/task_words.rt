@@ -1,13 +1,14 @@
 ghost use Rattle.std.specs.Prelude.{◌≡◌, ◌<◌, IfSome};
-ghost use Rattle.vantage_frames.specs.Numeral.{number_in};
+ghost use Rattle.numerals.specs.Numeral.{number_in};
 ghost use Rattle.command_words.specs.Command.{texts};
 ghost use Rattle.command_words.specs.Possible.{CanBeMade};
 ghost use Rattle.command_words.specs.TaskWords.{clock_in, kind_in, memory_in, packets_in, period_in, reading_in, task_of, writing_in};
 
 use crate::clock_words::read_second;
-use crate::numbers::{HEXADECIMAL, read_bytes, read_number, read_within};
+use crate::numbers::read_within;
 use crate::task::{MOST_BYTES, Task};
 use console_tasks::MOST_PACKETS;
+use numerals::{HEXADECIMAL, read_number, read_pairs};
 use station_base::Period;
 
 // The bytes of a console's memory.
@@ -87,7 +88,7 @@ fn read_writing(words: &[&str]) -> Option<Task>
         return None;
     };
     let at = read_place(place)?;
-    let bytes = read_bytes(hex.as_bytes())?;
+    let bytes = read_pairs(hex.as_bytes())?;
     if usize::from(at) + bytes.len() > MEMORY {
         return None;
     }

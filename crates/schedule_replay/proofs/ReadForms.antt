@@ -4,7 +4,9 @@ use Rattle.std.specs.Prelude.{◌&&◌, nat_le, if◌then◌else◌, option_map,
 use Rattle.std.specs.List.{AllByRecursion}
 use Rattle.std.specs.Str.{bytes_eq}
 use Rattle.std.proofs.lemmas.Bool.{and_parts, leb-true}
-use Rattle.station_sim.specs.Then.{◌>>=◌}
+use Rattle.numerals.specs.Numeral.{decimal_within}
+use Rattle.numerals.specs.Then.{◌>>=◌}
+use Rattle.numerals.proofs.Passing.{only_if_some}
 use Rattle.station_sim.specs.declared.fate.Fate.{Fate}
 use Rattle.station_sim.specs.declared.schedule.form.Form.{Form}
 use Rattle.station_sim.specs.declared.schedule.form.Form.TheVariants.{Due, Run, Idle, Open, Round, Host, Reply, Late, Mid, Stop}
@@ -37,19 +39,15 @@ is_form a b counts is = subst CountsFromOne (same_form a b is) counts
 no_form : (form : Form) → ◌≡◌ {A = Option Form} None (Some form) → CountsFromOne form
 no_form form is = absurd (let wrong : ⊥ = cc in wrong)
 
-within_by : (passes : Bool) (n m : ℕ) → (if passes then Some n else None) ≡ Some m → (passes ≡ true) × (n ≡ m)
-within_by true n m is = (refl, cc)
-within_by false n m is = absurd (let wrong : ⊥ = cc in wrong)
-
 least_by : (o : Option ℕ) (m : ℕ) → (o >>= (λ n. if nat_le 1 n && nat_le n 9999999 then Some n else None)) ≡ Some m → 1 ≤ m
 least_by None m is = absurd (let wrong : ⊥ = cc in wrong)
 least_by (Some n) m is =
-    let within = within_by (nat_le 1 n && nat_le n 9999999) n m is in
+    let within = only_if_some (nat_le 1 n && nat_le n 9999999) n m is in
     subst (λ (k : ℕ). 1 ≤ k) within.1 (leb-true 1 n (and_parts (nat_le 1 n) (nat_le n 9999999) within.0).0)
 
 -- what is counted is at least 1
 count_least : (word : List ℕ) (n : ℕ) → count_of word ≡ Some n → 1 ≤ n
-unfolding number_within
+unfolding decimal_within
 count_least word n is = least_by (number_of word) n is
 
 IsMeant : (List (List ℕ) → Option Form) → Type 0

@@ -2,7 +2,7 @@
 use Rattle.std.proofs.Common.{◌≡◌, ℕ, ℤ, Bool, true, false, Option, Some, None, List, ◌∷◌, refl, sym, ap}
 use Rattle.std.specs.Prelude.{slice_index_or, slice_set, if◌then◌else◌}
 use Rattle.station_base.specs.Fields.{field_named}
-use Rattle.station_sim.specs.Then.{◌>>=◌}
+use Rattle.numerals.specs.Then.{◌>>=◌}
 use Rattle.station_sim.specs.ScheduleWords.{Named, named_in}
 use Rattle.station_sim.specs.ScheduleForms.{with_named, all_named, values_in, none_taken, no_values}
 use Rattle.station_sim.specs.ScheduleNaming.{named_on, values_on}

@@ -6,8 +6,7 @@ use Rattle.std.specs.Str.{bytes_eq}
 use Rattle.station_base.specs.Fields.{field_named}
 use Rattle.archive_record.specs.Record.{unmeasured}
 use Rattle.archive_record.specs.Table.{places}
-use Rattle.vantage_frames.specs.LineReading.{only_if}
-use Rattle.station_sim.specs.Then.{◌>>=◌}
+use Rattle.numerals.specs.Then.{◌>>=◌, only_if}
 use Rattle.station_sim.specs.declared.schedule.form.Form.{Form}
 use Rattle.station_sim.specs.declared.schedule.form.Form.TheVariants.{Due, Run, Idle, Open, Round}
 use Rattle.station_sim.specs.declared.schedule.form.Form.TheVariants.{Host, Reply, Late, Mid, Stop}

@@ -1,7 +1,7 @@
 -- Values that are named one after the other.
 use Rattle.std.specs.Prelude.{ℕ, ℤ, if◌then◌else◌, List, Some, None}
 use Rattle.std.specs.declared.option.Option.{Option}
-use Rattle.station_sim.specs.Then.{◌>>=◌}
+use Rattle.numerals.specs.Then.{◌>>=◌}
 use Rattle.station_sim.specs.declared.schedule.naming.Naming.{Naming}
 use Rattle.station_sim.specs.ScheduleWords.{Named}
 use Rattle.station_sim.specs.ScheduleForms.{all_named, with_named}

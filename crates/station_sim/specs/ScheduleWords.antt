@@ -1,13 +1,12 @@
 -- What single words of a schedule say: numbers, values, stamps, masks and fates.
-use Rattle.std.specs.Prelude.{ℕ, ℤ, pos, neg_ℤ, ◌+◌, ◌*◌, ◌==◌, Bool, nat_le, ◌&&◌, if◌then◌else◌, List, []}
+use Rattle.std.specs.Prelude.{ℕ, ℤ, pos, neg_ℤ, ◌+◌, ◌==◌, Bool, ◌&&◌, if◌then◌else◌, List, []}
 use Rattle.std.specs.Prelude.{◌∷◌, length, take, drop, slice_index, Some, None, option_map, position, codes}
 use Rattle.std.specs.declared.option.Option.{Option}
 use Rattle.std.specs.Str.{bytes_eq}
-use Rattle.std.specs.Char.{is_digit, digit_value}
 use Rattle.station_base.specs.CivilMinute.{CivilMinute, is_civil_minute}
-use Rattle.vantage_frames.specs.Numeral.{number_in}
-use Rattle.vantage_frames.specs.LineReading.{only_if}
-use Rattle.station_sim.specs.Then.{◌>>=◌}
+use Rattle.numerals.specs.Numeral.{decimal_within, number_in}
+use Rattle.numerals.specs.Pairs.{bytes_within}
+use Rattle.numerals.specs.Then.{◌>>=◌, only_if}
 use Rattle.station_sim.specs.declared.fate.Fate.{Fate}
 use Rattle.station_sim.specs.declared.schedule.stamps.Date.{Date}
 use Rattle.station_sim.specs.declared.schedule.stamps.Clock.{Clock}
@@ -18,10 +17,8 @@ abbrev pub number_of : List ℕ → Option ℕ
 number_of word = number_in 10 7 word
 
 -- the same in a range
-unfoldable pub number_within : ℕ → ℕ → List ℕ → Option ℕ
-number_within least greatest word = do
-  n ← number_of word
-  only_if (nat_le least n && nat_le n greatest) n
+abbrev pub number_within : ℕ → ℕ → List ℕ → Option ℕ
+number_within least greatest word = decimal_within 7 least greatest word
 
 -- a number that is at least 1
 abbrev pub count_of : List ℕ → Option ℕ
@@ -78,24 +75,9 @@ minute_at date clock =
     } in
     only_if (is_civil_minute minute) minute
 
--- two hexadecimal digits
-abbrev pub pair_of : ℕ → ℕ → Option ℕ
-pair_of high low = only_if (is_digit high 16 && is_digit low 16) (16 * digit_value high + digit_value low)
-
--- two hexadecimal digits each
-abbrev pub pairs_of : List ℕ → Option (List ℕ)
-pairs_of [] = Some []
-pairs_of (digit ∷ []) = None
-pairs_of (high ∷ low ∷ digits) = do
-  mask ← pair_of high low
-  masks ← pairs_of digits
-  Some (mask ∷ masks)
-
--- one to sixteen pairs
-unfoldable pub masks_of : List ℕ → Option (List ℕ)
-masks_of word = do
-  masks ← pairs_of word
-  only_if (nat_le 1 (length masks) && nat_le (length masks) 16) masks
+-- one to sixteen masks, each in two hexadecimal digits
+abbrev pub masks_of : List ℕ → Option (List ℕ)
+masks_of word = bytes_within 16 word
 
 -- `lost`
 abbrev pub lost_in : List (List ℕ) → Option Fate

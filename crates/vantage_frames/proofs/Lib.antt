@@ -1,4 +1,3 @@
-pub mod Digits
 pub mod Passing
 pub mod Spans
 pub mod Lines

@@ -10,11 +10,13 @@ use Rattle.std.proofs.lemmas.List.{take-append-drop}
 use Rattle.station_base.specs.Period.{is_period}
 use Rattle.vantage_frames.specs.declared.command.Command.{Command}
 use Rattle.vantage_frames.specs.declared.command.Command.TheVariants.{Test, Kind, LoopFor, DumpAfter, EepromRead, EepromWrite, EepromAll, TimeGet, TimeSet, SetPeriod, ClearLog}
-use Rattle.vantage_frames.specs.Numeral.{number_in}
+use Rattle.numerals.specs.Numeral.{number_in}
 use Rattle.vantage_frames.specs.Line.{IsLineOf, HasBehind, SaysPackets, SaysBytes, SaysPeriod}
-use Rattle.vantage_frames.specs.LineReading.{ReadsAs, command_of, plain_command_of, numbered_command_of, packets_in, bytes_in, period_in, begins_with, only_if}
-use Rattle.vantage_frames.proofs.Passing.{passes, other_than, differs}
-use Rattle.vantage_frames.proofs.Digits.{number_in_writes, number_in-writes}
+use Rattle.vantage_frames.specs.LineReading.{ReadsAs, command_of, plain_command_of, numbered_command_of, packets_in, bytes_in, period_in, begins_with}
+use Rattle.numerals.specs.Then.{only_if}
+use Rattle.numerals.proofs.Passing.{passes}
+use Rattle.vantage_frames.proofs.Passing.{other_than, differs}
+use Rattle.numerals.proofs.Digits.{number_in_writes, number_in-writes}
 use Rattle.vantage_frames.proofs.Spans.{bytes_in_spans, bytes_in-spelled}
 
 -- what both choices have, the choice has

@@ -8,11 +8,12 @@ use Rattle.std.proofs.Math.Seq.{take-append_seam, drop-append-add, drop-cons}
 use Rattle.std.proofs.lemmas.Bool.{and_parts, lt-ltb, le-leb, ltb-true, leb-true, ne_eqb, eqb-true}
 use Rattle.std.proofs.lemmas.List.{take-append-drop}
 use Rattle.std.proofs.lemmas.List.Quantifiers.{position-Some}
-use Rattle.vantage_frames.specs.Numeral.{number_in, Writes}
+use Rattle.numerals.specs.Numeral.{number_in, Writes}
 use Rattle.vantage_frames.specs.Line.{SaysBytes}
-use Rattle.vantage_frames.specs.LineReading.{bytes_in, only_if}
-use Rattle.vantage_frames.proofs.Passing.{only_if_some, bind_some}
-use Rattle.vantage_frames.proofs.Digits.{number_in_writes, number_in-writes}
+use Rattle.numerals.specs.Then.{only_if}
+use Rattle.vantage_frames.specs.LineReading.{bytes_in}
+use Rattle.numerals.proofs.Passing.{only_if_some, bind_some}
+use Rattle.numerals.proofs.Digits.{number_in_writes, number_in-writes}
 
 abbrev is_space : ℕ → Bool
 is_space byte = byte == 32

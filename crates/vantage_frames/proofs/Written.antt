@@ -7,7 +7,7 @@ use Rattle.std.proofs.lemmas.Bool.{ltb-true}
 use Rattle.std.proofs.lemmas.Fmt.{decimal_is_IsNumeral, length-decimal-le, first_decimal}
 use Rattle.station_base.specs.Period.{IsPeriod}
 use Rattle.vantage_frames.specs.declared.command.Command.{Command}
-use Rattle.vantage_frames.specs.Numeral.{Writes}
+use Rattle.numerals.specs.Numeral.{Writes}
 use Rattle.vantage_frames.specs.Line.{IsLineOf, SaysPackets, SaysBytes, SaysPeriod}
 use Rattle.vantage_frames.specs.LineReading.{ReadsAs}
 use Rattle.vantage_frames.specs.LineWriting.{AreInEeprom, two_digits, place_text, bytes_text}

@@ -6,7 +6,7 @@ use Rattle.vantage_frames.specs.declared.command.Command.{Command}
 use Rattle.vantage_frames.specs.declared.command.Command.TheVariants.{Test, Kind, LoopFor, DumpAfter}
 use Rattle.vantage_frames.specs.declared.command.Command.TheVariants.{EepromRead, EepromWrite, EepromAll}
 use Rattle.vantage_frames.specs.declared.command.Command.TheVariants.{TimeGet, TimeSet, SetPeriod, ClearLog}
-use Rattle.vantage_frames.specs.Numeral.{Writes}
+use Rattle.numerals.specs.Numeral.{Writes}
 
 -- the line is this name, and then a text that says so
 abbrev pub HasBehind : List ℕ → List ℕ → (List ℕ → Type 0) → Type 0

@@ -9,22 +9,14 @@ use Rattle.vantage_frames.specs.declared.command.Command.{Command}
 use Rattle.vantage_frames.specs.declared.command.Command.TheVariants.{Test, Kind, LoopFor, DumpAfter}
 use Rattle.vantage_frames.specs.declared.command.Command.TheVariants.{EepromRead, EepromWrite, EepromAll}
 use Rattle.vantage_frames.specs.declared.command.Command.TheVariants.{TimeGet, TimeSet, SetPeriod, ClearLog}
-use Rattle.vantage_frames.specs.Numeral.{number_in}
+use Rattle.numerals.specs.Numeral.{number_in}
+use Rattle.numerals.specs.Then.{◌>>=◌, only_if}
 use Rattle.vantage_frames.specs.Line.{IsLineOf}
 
 -- a line is read as the command of which it is a line, or as nothing where it is a line of none
 abbrev pub ReadsAs : List ℕ → Option Command → Type 0
 ReadsAs line (Some command) = IsLineOf command line
 ReadsAs line None = (command : Command) → IsLineOf command line → ⊥
-
--- the steps of a `do` here are options, one behind the other
-infixl 10 ◌>>=◌
-abbrev ◌>>=◌ : {A B : Type 0} → Option A → (A → Option B) → Option B
-o >>= f = option_and_then f o
-
--- the value, where it passes
-abbrev pub only_if : {A : Type 0} → Bool → A → Option A
-only_if passes value = if passes then Some value else None
 
 -- the line begins with these bytes
 abbrev pub begins_with : List ℕ → List ℕ → Bool

@@ -4,7 +4,6 @@
 mod command;
 mod header;
 mod names;
-mod numeral;
 mod page;
 mod reading;
 mod stamp;

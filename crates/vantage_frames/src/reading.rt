@@ -5,7 +5,7 @@ ghost use Rattle.vantage_frames.specs.LineReading.{ReadsAs, command_of, plain_co
 
 use crate::command::{Command, EEPROM_SIZE};
 use crate::names;
-use crate::numeral::{DECIMAL, HEXADECIMAL, read_number};
+use numerals::{DECIMAL, HEXADECIMAL, read_number};
 use station_base::Period;
 
 // The most digits of each number.
@@ -78,7 +78,11 @@ fn numbered_command(line: &[u8]) -> Option<Command>
 fn read_packets(digits: &[u8]) -> Option<u16>
     ensures { result ≡ packets_in digits.now }
 {
-    read_number(digits, DECIMAL, PACKETS_DIGITS).filter(|packets| *packets > 0)
+    let packets = read_number(digits, DECIMAL, PACKETS_DIGITS)? as u16;
+    if packets == 0 {
+        return None;
+    }
+    Some(packets)
 }
 
 // The place and the count behind the name.
@@ -87,8 +91,8 @@ fn read_bytes(text: &[u8]) -> Option<(u16, u8)>
     ensures { result ≡ bytes_in text.now }
 {
     let space = first_space(text)?;
-    let at = read_number(&text[..space], HEXADECIMAL, PLACE_DIGITS)?;
-    let count = read_number(&text[space + 1..], HEXADECIMAL, COUNT_DIGITS)?;
+    let at = read_number(&text[..space], HEXADECIMAL, PLACE_DIGITS)? as u16;
+    let count = read_number(&text[space + 1..], HEXADECIMAL, COUNT_DIGITS)? as u16;
     if count == 0 || at + count > EEPROM_SIZE {
         return None;
     }
@@ -107,7 +111,7 @@ fn first_space(text: &[u8]) -> Option<usize>
 fn read_period(digits: &[u8]) -> Option<Period>
     ensures { result ≡ period_in digits.now }
 {
-    let minutes = read_number(digits, DECIMAL, PERIOD_DIGITS)?;
+    let minutes = read_number(digits, DECIMAL, PERIOD_DIGITS)? as u16;
     if digits[0] == b'0' {
         return None;
     }
