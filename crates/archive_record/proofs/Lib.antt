@@ -10,3 +10,4 @@ pub mod Unmeasured
 pub mod Bounds
 pub mod Holding
 pub mod Names
+pub mod Stamping

@@ -1,4 +1,5 @@
 pub mod Kind
+pub mod MovedOn
 pub mod Place
 pub mod Table
 pub mod Reading

@@ -1,12 +1,16 @@
 ghost use Rattle.std.specs.Prelude.{◌≡◌, Some};
 ghost use Rattle.std.specs.Option.{SomeIff};
+ghost use Rattle.archive_record.specs.MovedOn.{moved_on};
 ghost use Rattle.archive_record.specs.Reading.{stamp_in};
 ghost use Rattle.archive_record.specs.Record.{IsRecord, ReadsAsRow};
 
 use crate::place::{RECORD_SIZE, word_at};
 use crate::record_read::{DATE, REVISION, TIME};
-use station_base::Stamp;
+use station_base::{Period, Stamp};
 use std::marker::Model;
+
+// How many bytes of a record its stamp takes, which are the first.
+const STAMP_SIZE: usize = 4;
 
 // The bytes of 2000-01-01 00:00, of each missing mark, and of 0 where a field has none.
 const UNMEASURED: [u8; RECORD_SIZE] = [
@@ -71,6 +75,19 @@ impl Rec52 {
         ensures { stamp_in self.now ≡ Some result }
     {
         Stamp::from_words(word_at(&self.bytes, DATE), word_at(&self.bytes, TIME)).unwrap()
+    }
+
+    /// The record a period later with the same values: all bytes but those of the stamp stay. None where no stamp comes so
+    /// late.
+    pub fn moved_on(&self, period: Period) -> Option<Rec52>
+        ensures { result ≡ moved_on period self.now }
+    {
+        let stamp = self.stamp().after(period)?;
+        let [date_low, date_high] = stamp.date_word().to_le_bytes();
+        let [time_low, time_high] = stamp.time_word().to_le_bytes();
+        let mut bytes = *self.bytes();
+        bytes[..STAMP_SIZE].copy_from_slice(&[date_low, date_high, time_low, time_high]);
+        Rec52::of(bytes)
     }
 }
 

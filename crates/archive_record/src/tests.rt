@@ -126,3 +126,16 @@ fn slots_without_a_row_are_told_apart(rt: HostRuntime) {
     assert!(rt; Rec52::of(slot).is_none());
     assert!(rt; Rec52::of(*Rec52::default().bytes()).is_some());
 }
+
+#[test]
+fn a_record_is_moved_on_by_its_first_four_bytes(rt: HostRuntime) {
+    let five = Period::from_minutes(5).expect(&rt, "a period");
+    let mut bytes = *Rec52::default().bytes();
+    bytes[..6].copy_from_slice(&[0xE1, 0x30, 0x05, 0x00, 0x8A, 0x02]);
+    let rec = Rec52::of(bytes).expect(&rt, "a record");
+    let later = rec.moved_on(five).expect(&rt, "a later record");
+    assert!(rt; later.bytes()[..6] == [0xE1, 0x30, 0x0A, 0x00, 0x8A, 0x02]);
+    bytes[..4].copy_from_slice(&[0x9F, 0xFF, 0x37, 0x09]);
+    let last = Rec52::of(bytes).expect(&rt, "the last record");
+    assert!(rt; last.moved_on(five).is_none());
+}

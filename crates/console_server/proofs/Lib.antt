@@ -1,3 +1,3 @@
 pub mod Talks
 pub mod Turns
-pub mod Stamping
+pub mod RunEnds

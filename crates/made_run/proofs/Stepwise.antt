@@ -10,7 +10,7 @@ use Rattle.archive_record.specs.declared.record_read.RecordRead.TheVariants.{Row
 use Rattle.station_sim.specs.declared.schedule.step.Step as code_step
 use Rattle.station_sim.specs.declared.schedule.step.Step.TheVariants as code
 use Rattle.station_sim.specs.ScheduleSteps.{Step, DueStep, step_seen, steps_seen}
-use Rattle.schedule_replay.proofs.Stamping.{same_minute}
+use Rattle.archive_record.proofs.Stamping.{same_minute}
 use Rattle.made_run.specs.Draws.{drawn, next}
 use Rattle.made_run.specs.Made.{after_rounds, due_after, due_step, due_values, first_due, is_round, plain_round, rounds_behind, steps_from}
 use Rattle.made_run.proofs.Falling.{due_numbered}

@@ -10,7 +10,7 @@ use Rattle.station_sim.specs.declared.fate.Fate.TheVariants.{Lost, Cut}
 use Rattle.station_sim.specs.declared.schedule.step.Stop.{Stop}
 use Rattle.station_sim.specs.ScheduleForms.{no_values}
 use Rattle.station_sim.specs.ScheduleSteps.{Details, Step, DueStep, RoundStep, no_details}
-use Rattle.schedule_replay.specs.Runs.{minute_numbered}
+use Rattle.archive_record.specs.MovedOn.{minute_numbered}
 use Rattle.made_run.specs.Draws.{drawn, next}
 
 -- 2024-01-01 00:05

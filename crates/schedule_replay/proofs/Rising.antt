@@ -8,9 +8,11 @@ use Rattle.console_ring.specs.History.{newest_of}
 use Rattle.console_model.specs.Valid.{EachFollows}
 use Rattle.station_sim.specs.Sound.{AreRecords}
 use Rattle.station_replay.proofs.Levels.{newest_more}
-use Rattle.schedule_replay.specs.Runs.{minute_numbered, moved_on, run_records}
+use Rattle.archive_record.specs.MovedOn.{minute_numbered}
+use Rattle.archive_record.proofs.Stamping.{record_given, row_given}
+use Rattle.schedule_replay.specs.Runs.{next_record, run_records}
 use Rattle.schedule_replay.proofs.RunRecords.{two_more, one_more}
-use Rattle.schedule_replay.proofs.Stamping.{moved_to, record_given, row_given}
+use Rattle.schedule_replay.proofs.Stamping.{moved_to}
 
 -- the stamps of the records rise from after minute a up to minute b
 abbrev pub Rise : ℕ → List (List ℕ) → ℕ → Type 0
@@ -71,14 +73,14 @@ run_is period (suc zero) a first s long is lt within size row = record { rise = 
 run_is period (suc (suc count)) a first s long is lt within size row =
     let moved = moved_to period first s is (omega (arith, within, two_more period count)) in
     let next = minute_numbered (minute_of s + period) in
-    let rest = run_is period (suc count) (minute_of s) (moved_on period first) next long moved.stamp_is (omega (arith, long, moved.later))
+    let rest = run_is period (suc count) (minute_of s) (next_record period first) next long moved.stamp_is (omega (arith, long, moved.later))
     (omega (arith, within, moved.later, two_more period count, one_more period count))
     (subst IsRecord (sym moved.is) (record_given next first size))
     (subst ReadsAsRow (sym moved.is) (row_given next first moved.civil size row)) in
     let end : minute_of next + (suc count - 1) * period ≡ minute_of s + (suc (suc count) - 1) * period =
     omega (arith, moved.later, two_more period count, one_more period count) in
     record {
-      rise = (s, is, lt, subst (Rise (minute_of s) (run_records period (moved_on period first) (suc count))) end rest.rise);
+      rise = (s, is, lt, subst (Rise (minute_of s) (run_records period (next_record period first) (suc count))) end rest.rise);
       are = (size, row, rest.are);
       count_is = omega (arith, rest.count_is);
     }

@@ -3,7 +3,8 @@ use Rattle.std.proofs.Common.{◌≡◌, ℕ, zero, suc, ◌+◌, ◌-◌, ◌*�
 use Rattle.std.specs.Option.{IsSomeAnd}
 use Rattle.station_base.specs.CivilMinute.{CivilMinute, minute_of, last_minute}
 use Rattle.archive_record.specs.Reading.{stamp_in}
-use Rattle.schedule_replay.specs.Runs.{moved_on, run_records, IsRun}
+use Rattle.archive_record.specs.MovedOn.{moved_on}
+use Rattle.schedule_replay.specs.Runs.{next_or, next_record, run_records, IsRun}
 use Rattle.schedule_replay.proofs.Stamping.{moved_to}
 
 -- a stamp behind which so many records of the period have stamps
@@ -16,7 +17,7 @@ two_more period count = ap (λ n. n * period) (let e : suc (suc count) - 1 ≡ s
 pub one_more : (period count : ℕ) → (suc count - 1) * period ≡ count * period
 one_more period count = ap (λ n. n * period) (let e : suc count - 1 ≡ count = omega arith in e)
 
-on_by : (period count : ℕ) (rec : List ℕ) (stamp : Option CivilMinute) → stamp_in rec ≡ stamp → IsFirst period (suc (suc count)) stamp → IsFirst period (suc count) (stamp_in (moved_on period rec))
+on_by : (period count : ℕ) (rec : List ℕ) (stamp : Option CivilMinute) → stamp_in rec ≡ stamp → IsFirst period (suc (suc count)) stamp → IsFirst period (suc count) (stamp_in (next_record period rec))
 unfolding IsFirst
 on_by period count rec None is run = absurd run
 on_by period count rec (Some stamp) is run =
@@ -24,7 +25,7 @@ on_by period count rec (Some stamp) is run =
     subst (IsFirst period (suc count)) (sym moved.stamp_is) (omega (arith, run, two_more period count, one_more period count, moved.later))
 
 -- behind the first record of a run comes a run
-pub run_on : (period count : ℕ) (rec : List ℕ) → IsRun period rec (suc (suc count)) → IsRun period (moved_on period rec) (suc count)
+pub run_on : (period count : ℕ) (rec : List ℕ) → IsRun period rec (suc (suc count)) → IsRun period (next_record period rec) (suc count)
 unfolding IsFirst
 run_on period count rec run = on_by period count rec (stamp_in rec) refl run
 
@@ -57,10 +58,23 @@ pub none_left : (period : ℕ) (next : Option (List ℕ)) → left_of period nex
 none_left period None = refl
 none_left period (Some rec) = refl
 
--- those left behind the first of a run, where the next one is it moved on by a period, or there is none
-pub next_left : (period count : ℕ) (rec : List ℕ) (next : Option (List ℕ)) → IsRun period rec (suc count) → (IsRun period rec 2 → IsSome next)
-    → IfSome next (λ later. later ≡ moved_on period rec) → IsLeft period next count × (left_of period next count ≡ run_records period (moved_on period rec) count)
-next_left period zero rec next run some is = (tt, none_left period next)
-next_left period (suc count) rec None run some is = absurd (let none = some (run_of_two period count rec run) in let wrong : ⊥ = cc in wrong)
-next_left period (suc count) rec (Some later) run some is =
-    (subst (λ (r : List ℕ). IsRun period r (suc count)) (sym is) (run_on period count rec run), ap (λ (r : List ℕ). run_records period r (suc count)) is)
+next_by : (period : ℕ) (rec : List ℕ) (stamp : Option CivilMinute) → stamp_in rec ≡ stamp → IsFirst period 2 stamp → moved_on period rec ≡ Some (next_record period rec)
+unfolding IsFirst
+next_by period rec None is run = absurd run
+next_by period rec (Some stamp) is run =
+    let moved = moved_to period rec stamp is (omega (arith, run)) in
+    moved.given ∙ ap (λ (r : List ℕ). Some r) (sym moved.is)
+
+-- a record of a run behind which one comes is moved on to that one
+pub run_next : (period : ℕ) (rec : List ℕ) → IsRun period rec 2 → moved_on period rec ≡ Some (next_record period rec)
+unfolding IsFirst
+run_next period rec run = next_by period rec (stamp_in rec) refl run
+
+-- those left behind the first of a run, which is moved on to the next one
+pub next_left : (period count : ℕ) (rec : List ℕ) (next : Option (List ℕ)) → next ≡ moved_on period rec → IsRun period rec (suc count)
+    → IsLeft period next count × (left_of period next count ≡ run_records period (next_record period rec) count)
+next_left period zero rec next is run = (tt, none_left period next)
+next_left period (suc count) rec None is run = (let some = is ∙ run_next period rec (run_of_two period count rec run) in cc)
+next_left period (suc count) rec (Some later) is run =
+    let same : later ≡ next_record period rec = ap (λ (o : Option (List ℕ)). next_or o rec) is in
+    (subst (λ (r : List ℕ). IsRun period r (suc count)) (sym same) (run_on period count rec run), ap (λ (r : List ℕ). run_records period r (suc count)) same)

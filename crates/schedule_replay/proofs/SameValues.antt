@@ -15,8 +15,10 @@ use Rattle.archive_record.specs.Record.{IsRecord}
 use Rattle.archive_record.specs.Table.{places, field_places}
 use Rattle.archive_record.proofs.Once.{raw_stays}
 use Rattle.archive_record.proofs.Rows.{row_parts, parts_row, reads_as_row}
-use Rattle.schedule_replay.specs.Runs.{minute_numbered, with_stamp, moved_on, run_records, IsRun, ReadsLater}
-use Rattle.schedule_replay.proofs.Stamping.{IsMoved, moved_to, row_of, record_given, revision_given, stamp_given}
+use Rattle.archive_record.specs.MovedOn.{minute_numbered, with_stamp}
+use Rattle.archive_record.proofs.Stamping.{row_of, record_given, revision_given, stamp_given}
+use Rattle.schedule_replay.specs.Runs.{next_record, run_records, IsRun, ReadsLater}
+use Rattle.schedule_replay.proofs.Stamping.{IsMoved, moved_to}
 use Rattle.schedule_replay.proofs.RunRecords.{run_on, two_more}
 
 -- behind its stamp the record has the bytes that it had
@@ -49,7 +51,7 @@ later_row row s = record { stamp = s; interval = row.interval; values = row.valu
 
 -- the record moved on reads as the same row at the later stamp
 moved_reads : (period : ℕ) (rec : List ℕ) (row : Row) (next : CivilMinute) → IsRecord rec → reading rec period ≡ ReadRow row → IsMoved period rec row.stamp next
-    → reading (moved_on period rec) period ≡ ReadRow (later_row row next)
+    → reading (next_record period rec) period ≡ ReadRow (later_row row next)
 moved_reads period rec row next size is moved =
     let interval = (row_of rec period row is).2 in
     let at : reading rec row.interval ≡ ReadRow row = ap (reading rec) interval ∙ is in
@@ -70,7 +72,7 @@ run_reads period (suc (suc count)) (suc place) first row size is run within =
     let stamped = subst (λ (s : Option CivilMinute). IsSomeAnd s (λ t. minute_of t + (suc (suc count) - 1) * period ≤ minute_of last_minute)) parts.0 run in
     let moved = moved_to period first row.stamp parts.0 (omega (arith, stamped, two_more period count)) in
     let next = minute_numbered (minute_of row.stamp + period) in
-    let rest = run_reads period (suc count) place (moved_on period first) (later_row row next) (subst IsRecord (sym moved.is) (record_given next first size))
+    let rest = run_reads period (suc count) place (next_record period first) (later_row row next) (subst IsRecord (sym moved.is) (record_given next first size))
     (moved_reads period first row next size is moved) (run_on period count first run) (omega (arith, within)) in
     record {
       row = rest.row;
@@ -83,4 +85,4 @@ run_reads period (suc (suc count)) (suc place) first row size is run within =
 
 pub run_count : (period count : ℕ) (first : List ℕ) → length (run_records period first count) ≡ count
 run_count period zero first = refl
-run_count period (suc count) first = ap suc (run_count period count (moved_on period first))
+run_count period (suc count) first = ap suc (run_count period count (next_record period first))

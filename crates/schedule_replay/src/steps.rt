@@ -1,6 +1,6 @@
-ghost use Rattle.std.specs.Prelude.{◌≡◌, ◌↔◌, IfSome, IsSome, OnOk};
+ghost use Rattle.std.specs.Prelude.{◌≡◌, OnOk};
 ghost use Rattle.schedule_replay.specs.Accepted.{IsInRange};
-ghost use Rattle.schedule_replay.specs.Runs.{IsRun, moved_on, run_records};
+ghost use Rattle.schedule_replay.specs.Runs.{IsRun, run_records};
 ghost use Rattle.schedule_replay.specs.Steps.{passed, step_of};
 ghost use Rattle.station_replay.specs.Schedule.{no_fates};
 ghost use Rattle.station_sim.specs.Line.{Line, waited};
@@ -15,9 +15,6 @@ use causes::OutOfMemory;
 use serial_link::Sent;
 use station_base::Period;
 use station_sim::{Sim, Step};
-
-// How many bytes of a record its stamp takes, which are the first.
-const STAMP_SIZE: usize = 4;
 
 /// Lets a record or those of a run fall due, or ticks pass; a step that opens a session or makes a round does nothing here.
 /// `OutOfMemory` comes where there was no room for what a tick's reply brings.
@@ -58,19 +55,6 @@ pub fn run_falls_due(line: &mut Sim, first: &Rec52, count: u32, period: Period)
             return;
         };
         line.due(rec);
-        next = moved_on(&rec, period);
+        next = rec.moved_on(period);
     }
-}
-
-// The record a period later with the same values, unless no stamp comes so late.
-fn moved_on(rec: &Rec52, period: Period) -> Option<Rec52>
-    ensures some { IsSome result ↔ IsRun period rec.now 2 }
-    ensures moved { IfSome result (λ later. later ≡ moved_on period rec.now) }
-{
-    let stamp = rec.stamp().after(period)?;
-    let [date_low, date_high] = stamp.date_word().to_le_bytes();
-    let [time_low, time_high] = stamp.time_word().to_le_bytes();
-    let mut bytes = *rec.bytes();
-    bytes[..STAMP_SIZE].copy_from_slice(&[date_low, date_high, time_low, time_high]);
-    Rec52::of(bytes)
 }

@@ -27,16 +27,3 @@ fn a_run_of_a_day_ends_five_minutes_before_midnight(rt: HostRuntime) -> Result<(
     assert_eq!(rt; line.due(*first), Due::NotRising(last));
     Ok(())
 }
-
-#[test]
-fn a_record_is_moved_on_by_its_first_four_bytes(rt: HostRuntime) {
-    let five = Period::from_minutes(5).expect(&rt, "a period");
-    let mut bytes = *Rec52::default().bytes();
-    bytes[..6].copy_from_slice(&[0xE1, 0x30, 0x05, 0x00, 0x8A, 0x02]);
-    let rec = Rec52::of(bytes).expect(&rt, "a record");
-    let later = moved_on(&rec, five).expect(&rt, "a later record");
-    assert!(rt; later.bytes()[..6] == [0xE1, 0x30, 0x0A, 0x00, 0x8A, 0x02]);
-    bytes[..4].copy_from_slice(&[0x9F, 0xFF, 0x37, 0x09]);
-    let last = Rec52::of(bytes).expect(&rt, "the last record");
-    assert!(rt; moved_on(&last, five).is_none());
-}

@@ -2,8 +2,9 @@ use Rattle.std.proofs.Common.{◌≡◌, ℕ, suc, ◌+◌, ◌-◌, List, [], �
 use Rattle.console_model.specs.Due.{due}
 use Rattle.console_model.specs.Standing.{StandsFor}
 use Rattle.station_sim.specs.Line.{due_all}
-use Rattle.console_server.specs.Runs.{moved_on, run_from}
-use Rattle.console_server.proofs.Stamping.{none_left}
+use Rattle.archive_record.specs.MovedOn.{moved_on}
+use Rattle.console_server.specs.Runs.{run_from}
+use Rattle.console_server.proofs.RunEnds.{none_left}
 use Rattle.console_server.proofs.run.run_falls_due.Goals as goal
 
 pub returns-in_default : goal.returns-in_default

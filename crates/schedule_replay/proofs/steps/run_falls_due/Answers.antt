@@ -40,7 +40,7 @@ loop-preserved c =
     let some : c.args.count - c.loop.counter ≡ suc count = omega (arith, c.loop-test.true) in
     let run : IsRun period rec (suc count) =
     subst (IsLeft period (Some rec)) some (subst (λ (next : Option (List ℕ)). IsLeft period next (c.args.count - c.loop.counter)) c.in-Some.is c.loop.invariant.left) in
-    let next = next_left period count rec c.moved_on-next.result run c.moved_on-next.ensures.some.1 c.moved_on-next.ensures.moved in
+    let next = next_left period count rec c.moved_on-next.result c.moved_on-next.ensures run in
     let before : left_of period c.loop.next (c.args.count - c.loop.counter) ≡ run_records period rec (suc count) =
     ap (λ (o : Option (List ℕ)). left_of period o (c.args.count - c.loop.counter)) c.in-Some.is ∙ ap (run_records period rec) some in
     record {

@@ -1,5 +1,5 @@
 -- A record whose stamp is moved on.
-use Rattle.std.proofs.Common.{◌≡◌, ℕ, zero, suc, ◌+◌, ◌*◌, ◌/◌, ◌%◌, ◌≤◌, ◌<◌, ◌==◌, ◌||◌, Bool, true, false, cond, List, [], get_or, Option, Some, None, refl, sym, ap, ◌∙◌, arith, unsigned_abs, ℤ, pos, negsuc, length-drop}
+use Rattle.std.proofs.Common.{◌≡◌, ℕ, zero, suc, ◌+◌, ◌*◌, ◌/◌, ◌%◌, ◌≤◌, ◌<◌, ◌==◌, ◌||◌, Bool, true, false, cond, List, get_or, Option, Some, None, refl, sym, ap, ◌∙◌, arith, unsigned_abs, ℤ, pos, negsuc, length-drop}
 use Rattle.std.specs.Prelude.{nat_le, nat_lt, ◌&&◌, ◌≤ℤ◌, if◌then◌else◌}
 use Rattle.std.proofs.lemmas.Bool.Decides.{nat_tests}
 use Rattle.std.proofs.lemmas.List.{get_or-drop}
@@ -18,12 +18,12 @@ use Rattle.station_base.proofs.Minutes.{last_minute_number, minute_made, minute_
 use Rattle.station_base.proofs.Order.{date_of as jiff_date}
 use Rattle.station_base.proofs.Words.{stamp_of_words-of}
 use Rattle.station_base.proofs.WordOrder.{words_exceed_when_later}
-use Rattle.archive_record.specs.declared.record_read.RecordRead.TheVariants.{Empty, OtherRevision}
+use Rattle.archive_record.specs.declared.record_read.RecordRead.TheVariants.{Row as ReadRow, Empty, OtherRevision}
 use Rattle.archive_record.specs.Kind.{word_at}
 use Rattle.archive_record.specs.Reading.{reading, dated, is_unwritten, stamp_in, values_in}
 use Rattle.archive_record.specs.Record.{IsRecord, IsRow, ReadsAsRow}
 use Rattle.archive_record.proofs.Rows.{parts_row, reads_as_row}
-use Rattle.console_server.specs.Runs.{minute_numbered, with_stamp, moved_by, moved_on, run_from}
+use Rattle.archive_record.specs.MovedOn.{minute_numbered, with_stamp, moved_by, moved_on}
 
 same_by_words : (d e t u : ℕ) → (nat_lt d e || (d == e) && nat_lt t u) ≡ false → (nat_lt e d || (e == d) && nat_lt u t) ≡ false → (d ≡ e) × (t ≡ u)
 same_by_words d e t u up down =
@@ -99,6 +99,22 @@ record_given s rec size =
     small (suc (suc (suc zero))) = below_256 (time_word_of s / 256)
     small (suc (suc (suc (suc i)))) = bytes_behind 4 rec size.small i
 
+row_by : (unwritten known : Bool) (stamp : Option CivilMinute) (rec : List ℕ) (period : ℕ) (row : Row)
+    → cond unwritten Empty (cond known (dated rec period stamp) (OtherRevision (get_or rec 42 0))) ≡ ReadRow row
+    → (stamp ≡ Some row.stamp) × IsRow (cond unwritten Empty (cond known (dated rec 1 stamp) (OtherRevision (get_or rec 42 0)))) × (row.interval ≡ period)
+row_by true known stamp rec period row is = cc
+row_by false false stamp rec period row is = cc
+row_by false true None rec period row is = cc
+row_by false true (Some stamp) rec period row is =
+    let made : Row = record { stamp = stamp; interval = period; values = values_in rec; limited = 0 } in
+    let same : made ≡ row = cc in
+    (ap (λ (r : Row). Some r.stamp) same, tt, ap (λ (r : Row). r.interval) (sym same))
+
+-- bytes that read as a row have its stamp, and were read at its interval
+pub row_of : (rec : List ℕ) (period : ℕ) (row : Row) → reading rec period ≡ ReadRow row → (stamp_in rec ≡ Some row.stamp) × ReadsAsRow rec × (row.interval ≡ period)
+unfolding reading
+row_of rec period row is = row_by (is_unwritten rec) (get_or rec 42 0 == 0) (stamp_in rec) rec period row is
+
 revision_by : (unwritten known : Bool) (stamp : Option CivilMinute) (rec : List ℕ) → IsRow (cond unwritten Empty (cond known (dated rec 1 stamp) (OtherRevision (get_or rec 42 0)))) → known ≡ true
 revision_by true known stamp rec row = absurd row
 revision_by false false stamp rec row = absurd row
@@ -145,8 +161,3 @@ is_last minutes rec stamp is beyond =
   where
     not_within : (m n : ℕ) → ¬ (m ≤ n) → nat_le m n ≡ false
     not_within m n beyond = grind (arith, nat_tests, beyond)
-
--- of a run no record is left
-pub none_left : (period : ℕ) (next : Option (List ℕ)) → run_from period next 0 ≡ []
-none_left period None = refl
-none_left period (Some rec) = refl
