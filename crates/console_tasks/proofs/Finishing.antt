@@ -7,7 +7,8 @@ use Rattle.serial_link.specs.Link.{Talks}
 use Rattle.serial_link.proofs.Joining.{talks_then, talks_as}
 use Rattle.console_tasks.specs.declared.end.TaskEnd.{TaskEnd}
 use Rattle.console_tasks.specs.declared.end.TaskEnd.TheVariants as task_end
-use Rattle.console_tasks.specs.Exchange.{Exchange, answered, command, ack}
+use Rattle.vantage_frames.specs.Ack.{ack}
+use Rattle.console_tasks.specs.Exchange.{Exchange, answered, command}
 use Rattle.console_tasks.specs.TaskTalk.{Grammar, Exchanges, TaskTalk, Fails, EndsSo}
 use Rattle.console_tasks.specs.Parts.{Steps, Starts, IsAnswered, EndsTask, Commands, Completes}
 use Rattle.console_tasks.proofs.Troubles.{talks_shown}

@@ -11,7 +11,8 @@ use Rattle.serial_link.specs.Talk.{message}
 use Rattle.wake_retry.specs.Parts.{heard, IsFull, IsShort}
 use Rattle.console_tasks.specs.declared.end.TaskEnd.{TaskEnd}
 use Rattle.console_tasks.specs.declared.end.TaskEnd.TheVariants as task_end
-use Rattle.console_tasks.specs.Exchange.{is_refusal, end_by, shows, answered, checked, framed, ack, ack_frame}
+use Rattle.vantage_frames.specs.Ack.{ack}
+use Rattle.console_tasks.specs.Exchange.{is_refusal, end_by, shows, answered, checked, framed, ack_frame}
 use Rattle.console_tasks.specs.TaskTalk.{Exchanges}
 use Rattle.console_tasks.specs.Parts.{IsAnswered, EndsTask, Replies, Commands, FrameReplies}
 use Rattle.console_tasks.proofs.Troubles.{IsTrouble, TellsTrouble, short_trouble}

@@ -50,10 +50,6 @@ checked n judge frame = if is_good frame then judge (take n frame) else BadCheck
 abbrev pub framed : List ℕ → ℕ → (List ℕ → TaskEnd) → Exchange
 framed said n judge = answered said (n + 3) (λ answer. checked n judge (drop 1 answer))
 
--- the answer of 0x06 alone
-abbrev pub ack : List ℕ
-ack = 6 ∷ []
-
 -- the answer of 0x06, bytes and their check
 abbrev pub ack_frame : List ℕ → List ℕ
 ack_frame bytes = 6 ∷ sealed bytes

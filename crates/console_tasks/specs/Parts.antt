@@ -11,7 +11,8 @@ use Rattle.serial_link.specs.Link.{Talks}
 use Rattle.wake_retry.specs.Parts.{heard, Still, Awaits, Wakes}
 use Rattle.console_tasks.specs.declared.end.TaskEnd.{TaskEnd}
 use Rattle.console_tasks.specs.declared.end.TaskEnd.TheVariants as task_end
-use Rattle.console_tasks.specs.Exchange.{Exchange, is_refusal, shows, answered, command, framed, ack, ack_frame}
+use Rattle.vantage_frames.specs.Ack.{ack}
+use Rattle.console_tasks.specs.Exchange.{Exchange, is_refusal, shows, answered, command, framed, ack_frame}
 use Rattle.console_tasks.specs.TaskTalk.{Grammar, Exchanges, TaskTalk, Fails}
 use Rattle.console_tasks.specs.Tasks.{packet}
 

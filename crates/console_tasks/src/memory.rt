@@ -1,6 +1,7 @@
 ghost use Rattle.std.specs.Prelude.{◌≡◌, ◌≢◌, ◌≤◌, ◌+◌, ◌∷◌, [], IfErr, MatchResult, length};
 ghost use Rattle.vantage_frames.specs.declared.command.Command.{Command};
-ghost use Rattle.console_tasks.specs.Exchange.{ack, ack_frame};
+ghost use Rattle.vantage_frames.specs.Ack.{ack};
+ghost use Rattle.console_tasks.specs.Exchange.{ack_frame};
 ghost use Rattle.console_tasks.specs.Memory.{AreWithin, judge_back};
 ghost use Rattle.console_tasks.specs.Parts.{Steps, Completes, FrameReplies};
 ghost use Rattle.console_tasks.specs.TaskTalk.{DoesTask, Exchanges, TaskTalk};

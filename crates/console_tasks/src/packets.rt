@@ -1,6 +1,6 @@
 ghost use Rattle.std.specs.Prelude.{◌≡◌, ◌≢◌, ◌≤◌, ◌∷◌, [], MatchResult, map};
 ghost use Rattle.loop_packet.specs.Reading.{packet_bytes};
-ghost use Rattle.console_tasks.specs.Exchange.{ack};
+ghost use Rattle.vantage_frames.specs.Ack.{ack};
 ghost use Rattle.console_tasks.specs.Packet.{judge_packet};
 ghost use Rattle.console_tasks.specs.Parts.{Steps, Completes, HearsPacket};
 ghost use Rattle.console_tasks.specs.TaskTalk.{DoesTask, TaskTalk};

@@ -1,5 +1,6 @@
 ghost use Rattle.std.specs.Prelude.{◌∷◌, []};
-ghost use Rattle.console_tasks.specs.Exchange.{ack, ack_frame};
+ghost use Rattle.vantage_frames.specs.Ack.{ack};
+ghost use Rattle.console_tasks.specs.Exchange.{ack_frame};
 ghost use Rattle.console_tasks.specs.Parts.{Steps, Completes};
 ghost use Rattle.console_tasks.specs.TaskTalk.{DoesTask, TaskTalk};
 ghost use Rattle.console_tasks.specs.Tasks.{setting_period};

@@ -1,7 +1,8 @@
 ghost use Rattle.std.specs.Prelude.{◌≡◌, ◌≢◌, ◌∷◌, [], true, IfOk, MatchResult, length};
 ghost use Rattle.station_base.specs.ClockTime.{can_be_shown, clock_bytes};
 ghost use Rattle.console_tasks.specs.Clock.{judge_clock};
-ghost use Rattle.console_tasks.specs.Exchange.{ack, ack_frame};
+ghost use Rattle.vantage_frames.specs.Ack.{ack};
+ghost use Rattle.console_tasks.specs.Exchange.{ack_frame};
 ghost use Rattle.console_tasks.specs.Parts.{Steps, Completes};
 ghost use Rattle.console_tasks.specs.TaskTalk.{DoesTask, TaskTalk};
 ghost use Rattle.console_tasks.specs.Tasks.{asking_time, setting_time};

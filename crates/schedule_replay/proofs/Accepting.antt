@@ -25,8 +25,9 @@ use Rattle.schedule_replay.specs.Accepted.{AreAccepted, HasRecord, IsInRange, Is
 use Rattle.schedule_replay.specs.Runs.{run_records}
 use Rattle.schedule_replay.specs.Steps.{steps_for}
 use Rattle.schedule_replay.proofs.Falling.{MidsFall, AllFall, lines_in, IsFalling, all_fall, all_lines, falling_after, falling_first}
-use Rattle.schedule_replay.proofs.ReadLines.{text_kept}
-use Rattle.schedule_replay.proofs.Stamping.{row_of}
+use Rattle.station_sim.proofs.Kept.{steps_kept}
+use Rattle.schedule_replay.proofs.ReadForms.{form_counts}
+use Rattle.archive_record.proofs.Stamping.{row_of}
 use Rattle.schedule_replay.proofs.Rising.{Rise, rise_join, records_join, rise_follows, run_is}
 
 -- all records of a round are to fall due after its beginning, and their stamps rise
@@ -137,7 +138,7 @@ accepted bytes schedule is_period has reads =
     let period = schedule.period in
     let steps = schedule.steps.items in
     let said = reads.0 in
-    let fall = text_kept period (IsFalling period) (falling_after period) bytes said (falling_first period) reads.1 in
+    let fall = steps_kept period (IsFalling period) (λ words form read s falling none. falling_after period s form (form_counts words form read) falling none) bytes said (falling_first period) reads.1 in
     let all = subst (λ (seen : List _). AllFall period 0 seen said.newest) (sym reads.2.steps) (all_fall period said fall) in
     let t = taken period (long_period period is_period) steps 0 said.newest all has in
     record {

@@ -17,6 +17,7 @@ use Rattle.station_sim.specs.ScheduleKinds.{Kind, at, kinds, least, told_kinds, 
 use Rattle.station_sim.specs.ScheduleReading.{after}
 use Rattle.station_sim.specs.ScheduleSteps.{MidRecord, Details, Step, Said, nothing_said, no_details, turn_steps, steps_said, read_at, record_told, last_minute_of}
 use Rattle.station_sim.specs.ScheduleSteps.Step.{DueStep, RunStep, IdleStep, OpenStep, RoundStep}
+use Rattle.station_sim.proofs.Limits.{first_fails, rest_fails}
 use Rattle.station_replay.specs.Stopped.{IsStop}
 use Rattle.schedule_replay.specs.Stops.{stop_set}
 use Rattle.schedule_replay.proofs.ReadForms.{CountsFromOne}
@@ -123,14 +124,6 @@ pub all_lines : (period : ℕ) (s : Said) → IsFalling period s → lines_in (s
 all_lines period s f =
     let turn = turn_steps s.turn s.details s.stop in
     omega (arith, lines_join (s.before ++ turn) s.since, lines_join s.before turn, between_lines s.since f.between, f.lines)
-
-first_fails : (b : Bool) (kind : ℕ) (rest : Option ℕ) → (if b then Some kind else rest) ≡ None → b ≡ false
-first_fails true kind rest h = cc
-first_fails false kind rest h = refl
-
-rest_fails : (b : Bool) (kind : ℕ) (rest : Option ℕ) → (if b then Some kind else rest) ≡ None → rest ≡ None
-rest_fails true kind rest h = cc
-rest_fails false kind rest h = h
 
 not_above : (m n : ℕ) → nat_lt m n ≡ false → n ≤ m
 not_above m n h = grind (arith, nat_tests, h)

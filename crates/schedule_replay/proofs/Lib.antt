@@ -10,7 +10,6 @@ pub mod NewLine
 pub mod Opened
 pub mod Parts
 pub mod ReadForms
-pub mod ReadLines
 pub mod Reading
 pub mod Reopening
 pub mod Restarted

@@ -8,13 +8,13 @@ use Rattle.gated_log.specs.Calls.{up_to, four_changes}
 use Rattle.station_base.specs.declared.row.Row.{Row}
 use Rattle.settings_file.specs.StationSettings.{StationSettings}
 use Rattle.weather_book.specs.declared.book.Book.{Book}
-use Rattle.weather_book.specs.Adding.{OnAdded, OnUndone, OnRefused, Moved, rows_after}
+use Rattle.weather_book.specs.Adding.{OnUndone, rows_after}
 use Rattle.causes.specs.Stored.{stale_after}
 use Rattle.disk_model.specs.Stored.{disk_answer}
 use Rattle.weather_book.specs.Book.{StandsFor, len_of, last_of, most_of, is_stale}
 use Rattle.weather_book.specs.Rising as book
 use Rattle.weather_book.specs.Rows.{slot_total}
-use Rattle.gated_log.specs.Appending.{ByGate}
+use Rattle.gated_log.specs.Appending.{ByGate, Moved, OnAppended, OnRefused}
 use Rattle.weather_book.specs.Stands.{HasRows, NowHasRows, RowsOldOrAll, StandsOn, StandsToReadOn}
 use Rattle.causes.specs.declared.stored.Stored.{Stored}
 use Rattle.causes.specs.declared.stored.Stored.TheVariants as stored
@@ -43,8 +43,8 @@ pub record Tells {D : Type 0} (medium : Medium D)
   pub gate : a ≡ stored.DiskFault → (l : List Row) → StandsOn medium old disk l
       → ByGate medium (medium.moment disk + 3 ≤ medium.moment disk') (176 * (slot_total l + 1)) (HasRows l) (HasRows (l ++ rows)) disk'
   pub still : OnUndone a ((l : List Row) → StandsOn medium old disk l → StandsToReadOn medium new disk' l)
-  pub now : OnAdded a ((l : List Row) → StandsOn medium old disk l → NowHasRows medium disk' (l ++ rows))
-  pub stands : OnAdded a ((l : List Row) → StandsOn medium old disk l → StandsOn medium new disk' (l ++ rows))
+  pub now : OnAppended a ((l : List Row) → StandsOn medium old disk l → NowHasRows medium disk' (l ++ rows))
+  pub stands : OnAppended a ((l : List Row) → StandsOn medium old disk l → StandsOn medium new disk' (l ++ rows))
 
 false_true : (b : Bool) → (b ≡ true → ⊥) → b ≡ false
 false_true true h = absurd (h refl)

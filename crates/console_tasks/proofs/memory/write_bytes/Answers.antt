@@ -1,7 +1,8 @@
 use Rattle.std.proofs.Common.{◌≡◌, [], ◌∷◌, length, refl, rules, Err}
 use Rattle.crc_ccitt.specs.Check.{sealed}
 use Rattle.vantage_frames.specs.declared.command.Command.TheVariants.{EepromWrite}
-use Rattle.console_tasks.specs.Exchange.{command, ack, ack_frame}
+use Rattle.vantage_frames.specs.Ack.{ack}
+use Rattle.console_tasks.specs.Exchange.{command, ack_frame}
 use Rattle.console_tasks.specs.Tasks.{said_line, reading_back, writing_memory}
 use Rattle.console_tasks.proofs.Finishing.{task_err, task_tail, ends_here, command_finishes, command_fails}
 use Rattle.console_tasks.proofs.memory.write_bytes.Goals as goal

@@ -5,7 +5,8 @@ use Rattle.loop_packet.specs.Reading.{packet_bytes}
 use Rattle.serial_link.proofs.Growing.{adds_joins}
 use Rattle.vantage_frames.specs.declared.command.Command.TheVariants.{LoopFor}
 use Rattle.console_tasks.specs.declared.end.TaskEnd.TheVariants as task_end
-use Rattle.console_tasks.specs.Exchange.{Exchange, command, ack}
+use Rattle.vantage_frames.specs.Ack.{ack}
+use Rattle.console_tasks.specs.Exchange.{Exchange, command}
 use Rattle.console_tasks.specs.TaskTalk.{Exchanges, TaskTalk, Fails}
 use Rattle.console_tasks.specs.Tasks.{said_line, looping, packets}
 use Rattle.console_tasks.proofs.Onward.{On, on_then, on_end, start_on, fails_on}

@@ -3,7 +3,7 @@ use Rattle.arrayvec.specs.ArrayVec.{array_vec_len}
 use Rattle.loop_packet.specs.Reading.{packet_bytes}
 use Rattle.serial_link.specs.declared.talk.TalkItem.{TalkItem}
 use Rattle.serial_link.specs.Talk.{Adds}
-use Rattle.console_tasks.specs.Exchange.{ack}
+use Rattle.vantage_frames.specs.Ack.{ack}
 use Rattle.console_tasks.specs.TaskTalk.{Exchanges, TaskTalk}
 use Rattle.console_tasks.specs.Tasks.{looping, packets}
 use Rattle.console_tasks.proofs.Onward.{On}

@@ -1,6 +1,6 @@
 use Rattle.std.proofs.Common.{◌∷◌, map}
 use Rattle.loop_packet.specs.Reading.{packet_bytes}
-use Rattle.console_tasks.specs.Exchange.{ack}
+use Rattle.vantage_frames.specs.Ack.{ack}
 use Rattle.console_tasks.specs.Tasks.{looping}
 use Rattle.console_tasks.specs.TaskTalk.{TaskTalk}
 use Rattle.console_tasks.proofs.Finishing.{answer_done, answer_err}

@@ -1,5 +1,6 @@
 use Rattle.std.proofs.Common.{[], ◌∷◌}
-use Rattle.console_tasks.specs.Exchange.{ack, ack_frame}
+use Rattle.vantage_frames.specs.Ack.{ack}
+use Rattle.console_tasks.specs.Exchange.{ack_frame}
 use Rattle.console_tasks.specs.Tasks.{setting_period}
 use Rattle.console_tasks.specs.TaskTalk.{TaskTalk}
 use Rattle.console_tasks.proofs.Finishing.{answer_done, answer_err}

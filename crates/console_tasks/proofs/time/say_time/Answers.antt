@@ -3,7 +3,8 @@ use Rattle.crc_ccitt.specs.Check.{sealed}
 use Rattle.vantage_frames.specs.declared.command.Command.TheVariants.{TimeSet}
 use Rattle.station_base.specs.ClockTime.{clock_bytes}
 use Rattle.serial_link.proofs.Joining.{talks_as}
-use Rattle.console_tasks.specs.Exchange.{command, ack}
+use Rattle.vantage_frames.specs.Ack.{ack}
+use Rattle.console_tasks.specs.Exchange.{command}
 use Rattle.console_tasks.specs.TaskTalk.{Exchanges}
 use Rattle.console_tasks.specs.Tasks.{said_line, setting_time}
 use Rattle.console_tasks.specs.Parts.{Commands, Completes}

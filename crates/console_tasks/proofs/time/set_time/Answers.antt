@@ -1,5 +1,5 @@
 use Rattle.std.proofs.Common.{[], ◌∷◌}
-use Rattle.console_tasks.specs.Exchange.{ack}
+use Rattle.vantage_frames.specs.Ack.{ack}
 use Rattle.console_tasks.specs.Tasks.{setting_time}
 use Rattle.console_tasks.specs.TaskTalk.{TaskTalk}
 use Rattle.console_tasks.proofs.Finishing.{answer_done, answer_err}

@@ -1,5 +1,6 @@
 use Rattle.std.proofs.Common.{refl, ◌∙◌, [], ◌∷◌}
-use Rattle.console_tasks.specs.Exchange.{ack, ack_frame}
+use Rattle.vantage_frames.specs.Ack.{ack}
+use Rattle.console_tasks.specs.Exchange.{ack_frame}
 use Rattle.task_command.proofs.asking.change_period.Goals as goal
 
 pub returns : goal.returns

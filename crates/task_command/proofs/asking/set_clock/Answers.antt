@@ -1,6 +1,6 @@
 use Rattle.std.proofs.Common.{List, ℕ, ap, ◌∙◌, ◌++◌, [], ◌∷◌}
 use Rattle.std.specs.Prelude.{codes}
-use Rattle.console_tasks.specs.Exchange.{ack}
+use Rattle.vantage_frames.specs.Ack.{ack}
 use Rattle.task_command.proofs.asking.set_clock.Goals as goal
 
 pub returns : goal.returns

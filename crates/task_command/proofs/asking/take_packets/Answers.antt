@@ -3,7 +3,7 @@ use Rattle.std.proofs.lemmas.List.{take_all}
 use Rattle.std.specs.List.{flat_map}
 use Rattle.loop_packet.specs.Reading.{packet_bytes}
 use Rattle.loop_packet.specs.declared.packet.LoopPacket.{LoopPacket}
-use Rattle.console_tasks.specs.Exchange.{ack}
+use Rattle.vantage_frames.specs.Ack.{ack}
 use Rattle.task_command.specs.TaskText.{packet_line}
 use Rattle.task_command.proofs.Answering.{packets_shown}
 use Rattle.task_command.proofs.asking.take_packets.Goals as goal
