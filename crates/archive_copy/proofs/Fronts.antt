@@ -10,7 +10,7 @@ use Rattle.station_base.specs.RowLine.{blank_row}
 use Rattle.archive_copy.specs.Comparing.{IsFirstUnlike}
 
 -- a row of a piece
-in_piece : (rows : List Row) (at many n : ℕ) → n < length (take many (drop at rows)) → slice_get (take many (drop at rows)) n ≡ slice_get rows (at + n)
+pub in_piece : (rows : List Row) (at many n : ℕ) → n < length (take many (drop at rows)) → slice_get (take many (drop at rows)) n ≡ slice_get rows (at + n)
 in_piece rows at many n lt =
     let front = length-take many (drop at rows) in let behind = length-drop at rows in
     slice_get-get_or (take many (drop at rows)) n blank_row lt

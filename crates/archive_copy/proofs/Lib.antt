@@ -8,3 +8,4 @@ pub mod Looks
 pub mod Changes
 pub mod Batches
 pub mod Together
+pub mod Reading

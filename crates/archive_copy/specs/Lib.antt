@@ -4,3 +4,4 @@ pub mod Calls
 pub mod Copies
 pub mod Comparing
 pub mod Opening
+pub mod Reading

@@ -14,6 +14,7 @@ ghost use Rattle.archive_copy.specs.Calls.{AddsBatches, add_failed, batch_change
 
 use crate::CopyEnd;
 use crate::batch::{BatchRead, next_batch};
+use crate::reader::RowReader;
 use arrayvec::ArrayVec;
 use disk_model::Disk;
 use station_base::Row;
@@ -101,16 +102,16 @@ pub fn add_missing<D: Disk, E: Disk>(
         StandsOn E.medium mine.new to.new (mine_rows ++ drop (length mine_rows) theirs_rows)) }
 {
     let count = theirs.len();
-    let mut at = mine.len();
-    while at < count {
+    let mut reader = RowReader::new(mine.len());
+    while reader.at() < count {
         let mut batch = ArrayVec::new();
-        match next_batch(theirs, from, at, mine.last(), &mut batch) {
+        match next_batch(theirs, from, &mut reader, mine.last(), &mut batch) {
             BatchRead::Ready => {}
             BatchRead::OutOfOrder => return CopyEnd::FromDamaged(0),
             BatchRead::Fault => return CopyEnd::FromFault,
         }
         match add_batch(mine, to, &batch) {
-            BatchEnd::Done => at += batch.len() as u64,
+            BatchEnd::Done => {}
             BatchEnd::Fault => return CopyEnd::ToFault,
             BatchEnd::OutOfMemory => return CopyEnd::OutOfMemory,
         }

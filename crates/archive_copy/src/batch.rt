@@ -1,4 +1,4 @@
-ghost use Rattle.std.specs.Prelude.{◌≡◌, ◌<◌, ◌-◌, false, List, [], drop, length, min, take};
+ghost use Rattle.std.specs.Prelude.{◌≡◌, ◌<◌, ◌+◌, ◌-◌, false, List, [], drop, length, min, take};
 ghost use Rattle.causes.specs.Told.{WhereTold};
 ghost use Rattle.disk_model.specs.Disk.{Faults, Stays};
 ghost use Rattle.gated_log.specs.Calls.{Looked};
@@ -9,8 +9,10 @@ ghost use Rattle.weather_book.specs.Rows.{slot_total};
 ghost use Rattle.weather_book.specs.Rising.{exceeds, rise, RowsRise};
 ghost use Rattle.weather_book.specs.Stands.{StandsToReadOn};
 ghost use Rattle.archive_copy.specs.Calls.{read_failed, slots_end};
+ghost use Rattle.archive_copy.specs.Reading.{IsAhead};
 
 use crate::limits::BATCH;
+use crate::reader::RowReader;
 use arrayvec::ArrayVec;
 use disk_model::Disk;
 use station_base::{Row, Stamp};
@@ -34,34 +36,37 @@ pub fn exceeds(last: Option<Stamp>, stamp: Stamp) -> bool
     last.is_none_or(|last| last < stamp)
 }
 
-// Reads the rows of a batch, from this number on, behind a row of this stamp.
+// Reads the next rows for a batch, behind a row of this stamp.
 pub fn next_batch<D: Disk>(
     theirs: &Book,
     from: &mut D,
-    at: u64,
+    reader: &mut RowReader,
     last: Option<Stamp>,
     batch: &mut ArrayVec<Row, BATCH>,
 ) -> BatchRead
-    requires some { at < len_of theirs.now }
+    requires some { reader.old.at < len_of theirs.now }
+    requires ahead { IsAhead D.medium theirs.now from.old reader.old }
     requires empty { batch.old.items ≡ [] }
     ensures ready { result ≡ BatchRead.Ready → (rows : List Row) → StandsToReadOn D.medium theirs.now from.old rows
-        → WhereTold (D.medium.seen from.old) (λ _. batch.new.items ≡ take 5 (drop at rows)) }
-    ensures count { result ≡ BatchRead.Ready → length batch.new.items ≡ min 5 (len_of theirs.now - at) }
+        → WhereTold (D.medium.seen from.old) (λ _. batch.new.items ≡ take 5 (drop reader.old.at rows)) }
+    ensures count { result ≡ BatchRead.Ready → length batch.new.items ≡ min 5 (len_of theirs.now - reader.old.at) }
     ensures rising { result ≡ BatchRead.Ready → RowsRise last batch.new.items }
     ensures out_of_order { result ≡ BatchRead.OutOfOrder → (rows : List Row)
         → StandsToReadOn D.medium theirs.now from.old rows
-        → WhereTold (D.medium.seen from.old) (λ _. rise last (take 5 (drop at rows)) ≡ false) }
+        → WhereTold (D.medium.seen from.old) (λ _. rise last (take 5 (drop reader.old.at rows)) ≡ false) }
     ensures printable { ArePrintable batch.new.items }
     ensures limited { AreLimited batch.new.items }
+    ensures at { result ≡ BatchRead.Ready → reader.new.at ≡ reader.old.at + length batch.new.items }
+    ensures ahead { IsAhead D.medium theirs.now from.new reader.new }
     ensures stays { Stays D.medium from.old from.new }
     ensures cause { Faults D.medium from.old from.new (result ≡ BatchRead.Fault) }
     ensures went { (rows : List Row) → StandsFor theirs.now rows
         → Looked D.medium (slots_end (slot_total rows)) (read_failed result) from.old from.new }
 {
-    let end = theirs.len().min(at + BATCH as u64);
+    let end = theirs.len().min(reader.at() + BATCH as u64);
     let mut last = last;
-    for n in at..end {
-        let RowAnswer::Row(row) = theirs.row(from, n) else {
+    while reader.at() < end {
+        let RowAnswer::Row(row) = reader.next(theirs, from) else {
             return BatchRead::Fault;
         };
         if !exceeds(last, row.stamp) {

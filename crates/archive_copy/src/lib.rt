@@ -8,6 +8,7 @@ mod copying;
 mod end;
 mod limits;
 mod opening;
+mod reader;
 
 pub use copying::copy;
 pub use end::CopyEnd;

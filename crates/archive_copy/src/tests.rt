@@ -17,8 +17,8 @@ const LONGEST: usize = 20_000;
 // The most changes of a disk here.
 const CHANGES: usize = 60;
 
-// How many calls of the first disk a copy of the seven rows makes: eight of a recovery, and a read for each row.
-const FROM_CALLS: u64 = 15;
+// How many calls of the first disk a copy of the seven rows makes: eight of a recovery, and a read for each day.
+const FROM_CALLS: u64 = 10;
 
 // The number of the outside temperature.
 const OUTSIDE: usize = 0;

@@ -2,7 +2,7 @@ use Rattle.std.proofs.Common.{◌≡◌, ◌+◌, ◌-◌, ◌*◌, ◌≤◌, �
 use Rattle.std.proofs.lemmas.List.{take_all, length-drop}
 use Rattle.disk_model.specs.Disk.{stays_none, stays_joins}
 use Rattle.station_base.specs.declared.row.Row.{Row}
-use Rattle.weather_book.specs.Book.{StandsFor}
+use Rattle.weather_book.specs.Book.{StandsFor, len_of}
 use Rattle.weather_book.specs.Rows.{slot_total}
 use Rattle.weather_book.proofs.Looks.{no_look}
 use Rattle.weather_book.proofs.Pieces.{more_reads}
@@ -14,28 +14,31 @@ use Rattle.weather_book.proofs.Standing.{to_read_stays}
 use Rattle.archive_copy.specs.Adding.{HasSome, batches}
 use Rattle.archive_copy.proofs.Kept.{batch_leaves, leaves_join, nothing_left}
 use Rattle.archive_copy.proofs.NextRows.{batch_less, front_next, more_next, next_joins, next_rise, up_to_five}
+use Rattle.archive_copy.proofs.Reading.{ahead_none}
 use Rattle.archive_copy.proofs.adding.add_missing.Goals as goal
 
-pub loop-at-init : goal.loop-at-init
-loop-at-init g c =
-    let m = g.E.Disk.medium in let at = c.len-at.result in
+pub loop-reader-init : goal.loop-reader-init
+loop-reader-init g c =
+    let m = g.E.Disk.medium in let at = c.new-reader.result.at in
+    let first : c.new-reader.result.at ≡ len_of c.args.mine.now = c.new-reader.ensures.at ∙ c.len.ensures.len in
     record {
-      len = sym c.len-at.ensures.len;
-      from_first = omega (arith, c.len-at.ensures.len);
-      within = omega (arith, c.len-at.ensures.len, c.len-count.ensures.len, c.requires.no_more);
+      len = sym first;
+      from_first = omega (arith, first);
+      within = omega (arith, first, c.len-count.ensures.len, c.requires.no_more);
+      ahead = ahead_none g.D.Disk.medium c.args.theirs.now c.args.from.now c.new-reader.result c.new-reader.ensures.none c.new-reader.ensures.unused (omega (arith, first, c.requires.no_more));
       fresh = c.requires.fresh;
       most = c.requires.most;
-      moved = ap (λ n. m.moment c.args.to.now + 4 * batches (c.len-count.result - n)) c.len-at.ensures.len;
+      moved = ap (λ n. m.moment c.args.to.now + 4 * batches (c.len-count.result - n)) first;
       stays = stays_none g.D.Disk.medium c.args.from.now;
       from_faults = omega arith;
       to_faults = omega arith;
       from_went = λ rows stands. no_look g.D.Disk.medium (slots_end (slot_total rows)) c.args.from.now;
       added = λ mine two. adds_none m mine c.args.to.now _ _ (
         subst (λ (rows : List Row). StandsFor c.args.mine.now rows) (sym (append-nil mine)) two,
-        λ theirs one x told. let zero : at - length mine ≡ 0 = omega (arith, c.len-at.ensures.rows mine two) in ap (λ n. take n (drop (length mine) theirs)) (sym zero),
+        λ theirs one x told. let zero : at - length mine ≡ 0 = omega (arith, c.new-reader.ensures.at, c.len.ensures.rows mine two) in ap (λ n. take n (drop (length mine) theirs)) (sym zero),
       );
       stands = λ theirs mine one two x told.
-          let zero : at - length mine ≡ 0 = omega (arith, c.len-at.ensures.rows mine two.stands_for) in
+          let zero : at - length mine ≡ 0 = omega (arith, c.new-reader.ensures.at, c.len.ensures.rows mine two.stands_for) in
           subst (λ (rows : List Row). StandsOn g.E.Disk.medium c.args.mine.now c.args.to.now rows)
           (sym (append-nil mine) ∙ ap (λ n. mine ++ take n (drop (length mine) theirs)) (sym zero)) two;
       images = λ theirs mine one two x told. nothing_left g.E.Disk.medium (HasSome mine (drop (length mine) theirs)) c.args.to.now c.args.to.now refl;
@@ -43,7 +46,7 @@ loop-at-init g c =
 
 pub returns-in-OutOfOrder-clause-in_order : goal.returns-in-OutOfOrder-clause-in_order
 returns-in-OutOfOrder-clause-in_order g c e theirs mine one two front x told =
-    let i = c.loop-at.invariant in let at = c.loop-at.at in
+    let i = c.loop-reader.invariant in let at = c.loop-reader.reader.at in
     let le : length mine ≤ at = omega (arith, i.from_first, two.stands_for.held_is) in
     let wrong = c.next_batch.ensures.out_of_order c.in-OutOfOrder.is theirs (to_read_stays g.D.Disk.medium c.args.theirs.now _ _ theirs one i.stays) x (i.stays.reads ∙ told) in
     let last = c.last.ensures.rows _ (i.stands theirs mine one two x told).stands_for ∙ ap last_stamp (front_next mine theirs at front le) in
@@ -55,53 +58,55 @@ add_batch-requires-clause-printable g c = rw c.deref.ensures.0 c.next_batch.ensu
 
 pub add_batch-requires-clause-room : goal.add_batch-requires-clause-room
 add_batch-requires-clause-room g c =
-    let i = c.loop-at.invariant in
-    omega (arith, c.requires.room, i.moved, c.loop-at-test.true, c.len-count.ensures.len)
+    let i = c.loop-reader.invariant in
+    omega (arith, c.requires.room, i.moved, c.loop-reader-test.true, c.at.ensures, c.len-count.ensures.len)
 
 pub add_batch-requires-clause-fits : goal.add_batch-requires-clause-fits
 add_batch-requires-clause-fits g c =
-    let i = c.loop-at.invariant in
-    omega (arith, i.len, i.most, c.requires.few, c.in-Ready.ensures.count refl, ap length c.deref.ensures.0, c.loop-at-test.true, c.len-count.ensures.len)
+    let i = c.loop-reader.invariant in
+    omega (arith, i.len, i.most, c.requires.few, c.in-Ready.ensures.count refl, ap length c.deref.ensures.0, c.loop-reader-test.true, c.at.ensures, c.len-count.ensures.len)
 
 pub returns-in-Fault-add_batch-clause-images : goal.returns-in-Fault-add_batch-clause-images
 returns-in-Fault-add_batch-clause-images g c theirs mine one two x told =
-    let i = c.loop-at.invariant in let at = c.loop-at.at in let m = g.E.Disk.medium in
+    let i = c.loop-reader.invariant in let at = c.loop-reader.reader.at in let m = g.E.Disk.medium in
     let le : length mine ≤ at = omega (arith, i.from_first, two.stands_for.held_is) in
     let read = c.in-Ready.ensures.ready refl theirs (to_read_stays g.D.Disk.medium c.args.theirs.now _ _ theirs one i.stays) x (i.stays.reads ∙ told) in
     let P = HasSome mine (drop (length mine) theirs) in
-    leaves_join m P P c.args.to.now c.loop-at.to c.add_batch.new.to (omega (arith, i.moved, i.from_first))
+    leaves_join m P P c.args.to.now c.loop-reader.to c.add_batch.new.to (omega (arith, i.moved, i.from_first))
     (i.images theirs mine one two x told)
-    (batch_leaves m mine theirs c.deref.result.now at 5 c.loop-at.to c.add_batch.new.to le (c.deref.ensures.0 ∙ read)
+    (batch_leaves m mine theirs c.deref.result.now at 5 c.loop-reader.to c.add_batch.new.to le (c.deref.ensures.0 ∙ read)
     (c.add_batch.ensures.images (mine ++ take (at - length mine) (drop (length mine) theirs)) (i.stands theirs mine one two x told)))
     (λ c some. some)
 
 pub returns-in-OutOfMemory-clause-images : goal.returns-in-OutOfMemory-clause-images
 returns-in-OutOfMemory-clause-images g c theirs mine one two x told =
-    let i = c.loop-at.invariant in let at = c.loop-at.at in let m = g.E.Disk.medium in
+    let i = c.loop-reader.invariant in let at = c.loop-reader.reader.at in let m = g.E.Disk.medium in
     let le : length mine ≤ at = omega (arith, i.from_first, two.stands_for.held_is) in
     let read = c.in-Ready.ensures.ready refl theirs (to_read_stays g.D.Disk.medium c.args.theirs.now _ _ theirs one i.stays) x (i.stays.reads ∙ told) in
     let P = HasSome mine (drop (length mine) theirs) in
-    leaves_join m P P c.args.to.now c.loop-at.to c.add_batch.new.to (omega (arith, i.moved, i.from_first))
+    leaves_join m P P c.args.to.now c.loop-reader.to c.add_batch.new.to (omega (arith, i.moved, i.from_first))
     (i.images theirs mine one two x told)
-    (batch_leaves m mine theirs c.deref.result.now at 5 c.loop-at.to c.add_batch.new.to le (c.deref.ensures.0 ∙ read)
+    (batch_leaves m mine theirs c.deref.result.now at 5 c.loop-reader.to c.add_batch.new.to le (c.deref.ensures.0 ∙ read)
     (c.add_batch.ensures.images (mine ++ take (at - length mine) (drop (length mine) theirs)) (i.stands theirs mine one two x told)))
     (λ c some. some)
 
-pub loop-at-preserved : goal.loop-at-preserved
-loop-at-preserved g c =
-    let i = c.loop-at.invariant in let at = c.loop-at.at in let m = g.E.Disk.medium in let n = c.len.result in
+pub loop-reader-preserved : goal.loop-reader-preserved
+loop-reader-preserved g c =
+    let i = c.loop-reader.invariant in let at = c.loop-reader.reader.at in let m = g.E.Disk.medium in let n = length c.next_batch.new.batch.items in
     let count = c.in-Ready.ensures.count refl in let items = ap length c.deref.ensures.0 in
-    let many : n ≡ min 5 (c.len-count.result - at) = omega (arith, c.len.ensures.value, count, c.len-count.ensures.len) in
+    let many : length c.next_batch.new.batch.items ≡ min 5 (c.len-count.result - c.loop-reader.reader.at) = omega (arith, count, c.len-count.ensures.len) in
+    let place : c.next_batch.new.reader.at ≡ c.loop-reader.reader.at + length c.next_batch.new.batch.items = c.in-Ready.ensures.at refl in
     let added = c.in-Done.ensures.len refl in
     record {
-      len = omega (arith, added, i.len, items, c.len.ensures.value);
-      from_first = omega (arith, i.from_first);
-      within = omega (arith, many, c.loop-at-test.true);
+      len = omega (arith, added, i.len, items, place);
+      from_first = omega (arith, i.from_first, place);
+      within = omega (arith, many, place, c.loop-reader-test.true, c.at.ensures);
+      ahead = c.next_batch.ensures.ahead;
       fresh = c.in-Done.ensures.fresh refl;
       most = c.in-Done.ensures.most refl ∙ i.most;
       moved =
-          let less = batch_less (c.len-count.result - at) (omega (arith, c.loop-at-test.true)) in
-          let left : c.len-count.result - (at + n) ≡ c.len-count.result - at - min 5 (c.len-count.result - at) = omega (arith, many) in
+          let less = batch_less (c.len-count.result - at) (omega (arith, c.loop-reader-test.true, c.at.ensures)) in
+          let left : c.len-count.result - c.next_batch.new.reader.at ≡ c.len-count.result - at - min 5 (c.len-count.result - at) = omega (arith, many, place) in
           let step = c.in-Done.ensures.moved in
           rw left (omega (arith, i.moved, less, step));
       stays = stays_joins i.stays c.next_batch.ensures.stays;
@@ -110,86 +115,88 @@ loop-at-preserved g c =
       from_went = λ rows stands. more_reads g.D.Disk.medium (i.from_went rows stands) (c.in-Ready.ensures.went rows stands);
       added = λ mine two.
           let so = i.added mine two in let b = c.deref.result.now in
-          adds_one m mine c.args.to.now _ _ _ _ c.loop-at.to c.add_batch.new.to c.deref.result.now so c.loop-at-test.true
-          (omega (arith, many, items, c.len.ensures.value, c.loop-at-test.true)) (omega (arith, many, items, c.len.ensures.value))
-          (λ later. omega (arith, later, many, items, c.len.ensures.value)) c.in-Done.ensures.moved (c.in-Done.ensures.went (mine ++ rows_in so.so_far) so.rows_are.0)
+          adds_one m mine c.args.to.now _ _ _ _ c.loop-reader.to c.add_batch.new.to c.deref.result.now so (omega (arith, c.loop-reader-test.true, c.at.ensures))
+          (omega (arith, many, items, c.loop-reader-test.true, c.at.ensures)) (omega (arith, many, items, place))
+          (λ later. omega (arith, later, many, items, place)) c.in-Done.ensures.moved (c.in-Done.ensures.went (mine ++ rows_in so.so_far) so.rows_are.0)
           (λ is. (
             subst (λ (rows : List Row). StandsFor c.add_batch.new.mine rows) (append_assoc mine (rows_in so.so_far) b) (c.in-Done.ensures.rows refl (mine ++ rows_in so.so_far) is.0),
             λ theirs one x told.
                 let le : length mine ≤ at = omega (arith, i.from_first, two.held_is) in
                 let read = c.in-Ready.ensures.ready refl theirs (to_read_stays g.D.Disk.medium c.args.theirs.now _ _ theirs one i.stays) x (i.stays.reads ∙ told) in
                 let five = up_to_five (drop at theirs) n (omega (arith, many, length-drop at theirs, c.len-count.ensures.rows theirs one.stands_for)) in
-                next_joins mine theirs (rows_in so.so_far) b at n le (is.1 theirs one x told) (c.deref.ensures.0 ∙ read ∙ sym five),
+                next_joins mine theirs (rows_in so.so_far) b at n le (is.1 theirs one x told) (c.deref.ensures.0 ∙ read ∙ sym five)
+                ∙ ap (λ k. take (k - length mine) (drop (length mine) theirs)) (sym place),
           ));
       stands = λ theirs mine one two x told.
           let le : length mine ≤ at = omega (arith, i.from_first, two.stands_for.held_is) in
           let read = c.in-Ready.ensures.ready refl theirs (to_read_stays g.D.Disk.medium c.args.theirs.now _ _ theirs one i.stays) x (i.stays.reads ∙ told) in
           let five = up_to_five (drop at theirs) n (omega (arith, many, length-drop at theirs, c.len-count.ensures.rows theirs one.stands_for)) in
           subst (λ (rows : List Row). StandsOn g.E.Disk.medium c.add_batch.new.mine c.add_batch.new.to rows)
-          (ap (λ (rows : List Row). (mine ++ take (at - length mine) (drop (length mine) theirs)) ++ rows) (c.deref.ensures.0 ∙ read ∙ sym five) ∙ more_next mine theirs at n le)
+          (ap (λ (rows : List Row). (mine ++ take (at - length mine) (drop (length mine) theirs)) ++ rows) (c.deref.ensures.0 ∙ read ∙ sym five) ∙ more_next mine theirs at n le
+          ∙ ap (λ k. mine ++ take (k - length mine) (drop (length mine) theirs)) (sym place))
           (c.in-Done.ensures.stands refl (mine ++ take (at - length mine) (drop (length mine) theirs)) (i.stands theirs mine one two x told));
       images = λ theirs mine one two x told.
           let le : length mine ≤ at = omega (arith, i.from_first, two.stands_for.held_is) in
           let read = c.in-Ready.ensures.ready refl theirs (to_read_stays g.D.Disk.medium c.args.theirs.now _ _ theirs one i.stays) x (i.stays.reads ∙ told) in
           let P = HasSome mine (drop (length mine) theirs) in
-          leaves_join m P P c.args.to.now c.loop-at.to c.add_batch.new.to (omega (arith, i.moved, i.from_first))
+          leaves_join m P P c.args.to.now c.loop-reader.to c.add_batch.new.to (omega (arith, i.moved, i.from_first))
           (i.images theirs mine one two x told)
-          (batch_leaves m mine theirs c.deref.result.now at 5 c.loop-at.to c.add_batch.new.to le (c.deref.ensures.0 ∙ read)
+          (batch_leaves m mine theirs c.deref.result.now at 5 c.loop-reader.to c.add_batch.new.to le (c.deref.ensures.0 ∙ read)
           (c.add_batch.ensures.images (mine ++ take (at - length mine) (drop (length mine) theirs)) (i.stands theirs mine one two x told)))
           (λ c some. some);
     }
 
 pub returns-clause-stands : goal.returns-clause-stands
 returns-clause-stands g c n e theirs mine one two x told =
-    let i = c.loop-at.invariant in let at = c.loop-at.at in let rest = drop (length mine) theirs in
+    let i = c.loop-reader.invariant in let at = c.loop-reader.reader.at in let rest = drop (length mine) theirs in
     let whole = take_all (at - length mine) (drop (length mine) theirs)
-    (omega (arith, length-drop (length mine) theirs, c.loop-at-test.false, c.len-count.ensures.rows theirs one.stands_for)) in
-    subst (λ (rows : List Row). StandsOn g.E.Disk.medium c.loop-at.mine c.loop-at.to (mine ++ rows)) whole (i.stands theirs mine one two x told)
+    (omega (arith, length-drop (length mine) theirs, c.loop-reader-test.false, c.at.ensures, c.len-count.ensures.rows theirs one.stands_for)) in
+    subst (λ (rows : List Row). StandsOn g.E.Disk.medium c.loop-reader.mine c.loop-reader.to (mine ++ rows)) whole (i.stands theirs mine one two x told)
 
 pub returns-in-Fault-clause-from_went : goal.returns-in-Fault-clause-from_went
-returns-in-Fault-clause-from_went g c rows stands = more_reads g.D.Disk.medium (c.loop-at.invariant.from_went rows stands) (c.in-Fault.ensures.went rows stands)
+returns-in-Fault-clause-from_went g c rows stands = more_reads g.D.Disk.medium (c.loop-reader.invariant.from_went rows stands) (c.in-Fault.ensures.went rows stands)
 
 pub returns-in-OutOfOrder-clause-from_went : goal.returns-in-OutOfOrder-clause-from_went
-returns-in-OutOfOrder-clause-from_went g c rows stands = more_reads g.D.Disk.medium (c.loop-at.invariant.from_went rows stands) (c.in-OutOfOrder.ensures.went rows stands)
+returns-in-OutOfOrder-clause-from_went g c rows stands = more_reads g.D.Disk.medium (c.loop-reader.invariant.from_went rows stands) (c.in-OutOfOrder.ensures.went rows stands)
 
 pub returns-in-Fault-add_batch-clause-from_went : goal.returns-in-Fault-add_batch-clause-from_went
-returns-in-Fault-add_batch-clause-from_went g c rows stands = more_reads g.D.Disk.medium (c.loop-at.invariant.from_went rows stands) (c.in-Ready.ensures.went rows stands)
+returns-in-Fault-add_batch-clause-from_went g c rows stands = more_reads g.D.Disk.medium (c.loop-reader.invariant.from_went rows stands) (c.in-Ready.ensures.went rows stands)
 
 pub returns-in-OutOfMemory-clause-from_went : goal.returns-in-OutOfMemory-clause-from_went
-returns-in-OutOfMemory-clause-from_went g c rows stands = more_reads g.D.Disk.medium (c.loop-at.invariant.from_went rows stands) (c.in-Ready.ensures.went rows stands)
+returns-in-OutOfMemory-clause-from_went g c rows stands = more_reads g.D.Disk.medium (c.loop-reader.invariant.from_went rows stands) (c.in-Ready.ensures.went rows stands)
 
 pub returns-in-Fault-clause-to_went : goal.returns-in-Fault-clause-to_went
 returns-in-Fault-clause-to_went g c mine two =
     let m = g.E.Disk.medium in
-    ends_so m mine c.args.to.now _ _ _ c.loop-at.to c.loop-at.to (c.loop-at.invariant.added mine two) refl (m.went_none c.loop-at.to)
-    (λ is theirs one x told. front_of _ (drop (length mine) theirs) (c.loop-at.at - length mine) (is.1 theirs one x told))
+    ends_so m mine c.args.to.now _ _ _ c.loop-reader.to c.loop-reader.to (c.loop-reader.invariant.added mine two) refl (m.went_none c.loop-reader.to)
+    (λ is theirs one x told. front_of _ (drop (length mine) theirs) (c.loop-reader.reader.at - length mine) (is.1 theirs one x told))
 
 pub returns-in-OutOfOrder-clause-to_went : goal.returns-in-OutOfOrder-clause-to_went
 returns-in-OutOfOrder-clause-to_went g c mine two =
     let m = g.E.Disk.medium in
-    ends_so m mine c.args.to.now _ _ _ c.loop-at.to c.loop-at.to (c.loop-at.invariant.added mine two) refl (m.went_none c.loop-at.to)
-    (λ is theirs one x told. front_of _ (drop (length mine) theirs) (c.loop-at.at - length mine) (is.1 theirs one x told))
+    ends_so m mine c.args.to.now _ _ _ c.loop-reader.to c.loop-reader.to (c.loop-reader.invariant.added mine two) refl (m.went_none c.loop-reader.to)
+    (λ is theirs one x told. front_of _ (drop (length mine) theirs) (c.loop-reader.reader.at - length mine) (is.1 theirs one x told))
 
 pub returns-clause-to_went : goal.returns-clause-to_went
 returns-clause-to_went g c mine two =
     let m = g.E.Disk.medium in
-    ends_so m mine c.args.to.now _ _ _ c.loop-at.to c.loop-at.to (c.loop-at.invariant.added mine two) refl (m.went_none c.loop-at.to)
-    (λ is theirs one x told. front_of _ (drop (length mine) theirs) (c.loop-at.at - length mine) (is.1 theirs one x told))
+    ends_so m mine c.args.to.now _ _ _ c.loop-reader.to c.loop-reader.to (c.loop-reader.invariant.added mine two) refl (m.went_none c.loop-reader.to)
+    (λ is theirs one x told. front_of _ (drop (length mine) theirs) (c.loop-reader.reader.at - length mine) (is.1 theirs one x told))
 
 pub returns-in-OutOfMemory-clause-to_went : goal.returns-in-OutOfMemory-clause-to_went
 returns-in-OutOfMemory-clause-to_went g c mine two =
-    let m = g.E.Disk.medium in let so = c.loop-at.invariant.added mine two in
-    let zero : g.E.Disk.medium.moment c.add_batch.new.to - g.E.Disk.medium.moment c.loop-at.to ≡ 0 = omega (arith, c.in-OutOfMemory.ensures.moved) in
-    ends_so m mine c.args.to.now _ _ _ c.loop-at.to c.add_batch.new.to so c.in-OutOfMemory.ensures.moved
+    let m = g.E.Disk.medium in let so = c.loop-reader.invariant.added mine two in
+    let zero : g.E.Disk.medium.moment c.add_batch.new.to - g.E.Disk.medium.moment c.loop-reader.to ≡ 0 = omega (arith, c.in-OutOfMemory.ensures.moved) in
+    ends_so m mine c.args.to.now _ _ _ c.loop-reader.to c.add_batch.new.to so c.in-OutOfMemory.ensures.moved
     (rw zero at (c.in-OutOfMemory.ensures.went (mine ++ rows_in so.so_far) so.rows_are.0))
-    (λ is theirs one x told. front_of _ (drop (length mine) theirs) (c.loop-at.at - length mine) (is.1 theirs one x told))
+    (λ is theirs one x told. front_of _ (drop (length mine) theirs) (c.loop-reader.reader.at - length mine) (is.1 theirs one x told))
 
 pub returns-in-Fault-add_batch-clause-to_went : goal.returns-in-Fault-add_batch-clause-to_went
 returns-in-Fault-add_batch-clause-to_went g c mine two =
-    let m = g.E.Disk.medium in let i = c.loop-at.invariant in let at = c.loop-at.at in let so = i.added mine two in
+    let m = g.E.Disk.medium in let i = c.loop-reader.invariant in let at = c.loop-reader.reader.at in let so = i.added mine two in
     let count = c.in-Ready.ensures.count refl in let items = ap length c.deref.ensures.0 in
-    fails_one m mine c.args.to.now _ _ _ c.loop-at.to c.add_batch.new.to c.deref.result.now so c.loop-at-test.true
-    (omega (arith, count, items, c.loop-at-test.true, c.len-count.ensures.len)) (omega (arith, count, items))
+    fails_one m mine c.args.to.now _ _ _ c.loop-reader.to c.add_batch.new.to c.deref.result.now so (omega (arith, c.loop-reader-test.true, c.at.ensures))
+    (omega (arith, count, items, c.loop-reader-test.true, c.at.ensures, c.len-count.ensures.len)) (omega (arith, count, items))
     c.in-Fault-add_batch.ensures.moved.0 (c.in-Fault-add_batch.ensures.went (mine ++ rows_in so.so_far) so.rows_are.0)
     (λ is theirs one x told.
     let n = length c.deref.result.now in

@@ -9,17 +9,19 @@ use Rattle.weather_book.specs.Rows.{slot_total}
 use Rattle.archive_copy.specs.Calls.{slots_end}
 use Rattle.archive_copy.proofs.Batches.{AddedSo}
 use Rattle.archive_copy.specs.Adding.{HasSome, batches}
+use Rattle.archive_copy.specs.Reading.{IsAhead}
 use Rattle.archive_copy.proofs.adding.add_missing.Given as goal
 
 -- the rows up to a number are added, and what was begun and what is still to be begun come to the whole
-abbrev pub invariant-loop-at : goal.invariant-loop-at
-invariant-loop-at g l = record {
-  len : len_of l.mine ≡ l.at;
-  from_first : len_of l.fn.mine ≤ l.at;
-  within : l.at ≤ l.count;
+abbrev pub invariant-loop-reader : goal.invariant-loop-reader
+invariant-loop-reader g l = record {
+  len : len_of l.mine ≡ l.reader.at;
+  from_first : len_of l.fn.mine ≤ l.reader.at;
+  within : l.reader.at ≤ l.count;
+  ahead : IsAhead g.D.Disk.medium l.theirs l.from l.reader;
   fresh : is_stale l.mine ≡ false;
   most : most_of l.mine ≡ 1048576;
-  moved : g.E.Disk.medium.moment l.to + 4 * batches (l.count - l.at)
+  moved : g.E.Disk.medium.moment l.to + 4 * batches (l.count - l.reader.at)
       ≡ g.E.Disk.medium.moment l.initial.to + 4 * batches (l.count - len_of l.fn.mine);
   stays : Stays g.D.Disk.medium l.initial.from l.from;
   from_faults : g.D.Disk.medium.faults l.initial.from ≤ g.D.Disk.medium.faults l.from;
@@ -27,14 +29,14 @@ invariant-loop-at g l = record {
   from_went : (rows : List Row) → StandsFor l.theirs rows → Looked g.D.Disk.medium (slots_end (slot_total rows)) false l.initial.from l.from;
   added : (mine_rows : List Row) → StandsFor l.fn.mine mine_rows → AddedSo g.E.Disk.medium mine_rows l.initial.to (λ rows. StandsFor l.mine (mine_rows ++ rows)
       × ((theirs_rows : List Row) → StandsToReadOn g.D.Disk.medium l.theirs l.initial.from theirs_rows → WhereTold (g.D.Disk.medium.seen l.initial.from) (λ _.
-      rows ≡ take (l.at - length mine_rows) (drop (length mine_rows) theirs_rows)))) (l.at < l.count) l.to;
+      rows ≡ take (l.reader.at - length mine_rows) (drop (length mine_rows) theirs_rows)))) (l.reader.at < l.count) l.to;
   stands : (theirs_rows mine_rows : List Row) → StandsToReadOn g.D.Disk.medium l.theirs l.initial.from theirs_rows
       → StandsOn g.E.Disk.medium l.fn.mine l.initial.to mine_rows → WhereTold (g.D.Disk.medium.seen l.initial.from) (λ _.
-      StandsOn g.E.Disk.medium l.mine l.to (mine_rows ++ take (l.at - length mine_rows) (drop (length mine_rows) theirs_rows)));
+      StandsOn g.E.Disk.medium l.mine l.to (mine_rows ++ take (l.reader.at - length mine_rows) (drop (length mine_rows) theirs_rows)));
   images : (theirs_rows mine_rows : List Row) → StandsToReadOn g.D.Disk.medium l.theirs l.initial.from theirs_rows
       → StandsOn g.E.Disk.medium l.fn.mine l.initial.to mine_rows → WhereTold (g.D.Disk.medium.seen l.initial.from) (λ _.
       LeavesOnly g.E.Disk.medium (HasSome mine_rows (drop (length mine_rows) theirs_rows)) l.initial.to l.to);
 }
 
-abbrev pub decreases-loop-at : goal.decreases-loop-at
-decreases-loop-at g l = l.count - l.at
+abbrev pub decreases-loop-reader : goal.decreases-loop-reader
+decreases-loop-reader g l = l.count - l.reader.at
