@@ -11,7 +11,7 @@ ghost use Rattle.page_commands.specs.StyleRead.{style_of};
 use crate::slot_text::push_slot;
 use crate::style::Style;
 use archive_record::read;
-use run_output::{PAGE, PIECE, ROOM, Status, Text, finish};
+use run_output::{PAGE_ROOM, PIECE, ROOM, Status, Text, finish};
 use station_base::{push_bytes, push_number};
 use station_io::{Put, Sink};
 use vantage_frames::{PAGE_SIZE, Page, PageRead, SLOTS, read_page};
@@ -47,7 +47,7 @@ pub fn print_pages<K: Sink>(file: &[u8], style: &Style<'_>, out: &mut K) -> Stat
 
 // Writes what is held back, where it is enough for a piece.
 fn make_room<K: Sink>(pending: &mut Text, out: &mut K) -> Put
-    ensures room { array_vec_len pending.new + PAGE ≤ ROOM }
+    ensures room { array_vec_len pending.new + PAGE_ROOM ≤ ROOM }
     ensures done { result ≡ Put.Done
         → Leaves (K.outlet.taken out.old) (K.outlet.taken out.new) pending.old.items pending.new.items }
     ensures failed { result ≡ Put.Failed
@@ -66,7 +66,7 @@ fn make_room<K: Sink>(pending: &mut Text, out: &mut K) -> Put
 // Appends the lines of a page.
 #[tactic(auto, unfolding(crate::specs::PageText::page_text))]
 fn push_page(text: &mut Text, number: u32, style: &Style<'_>, page: &Page<'_>)
-    requires { array_vec_len text.old + PAGE ≤ ROOM }
+    requires { array_vec_len text.old + PAGE_ROOM ≤ ROOM }
     ensures { text.new.items ≡ text.old.items ++ page_text (style_of style.now) number page.now }
 {
     let interval = style.period();
@@ -79,7 +79,7 @@ fn push_page(text: &mut Text, number: u32, style: &Style<'_>, page: &Page<'_>)
 // Appends the line that names a bad page.
 #[tactic(auto, using(station_base::proofs::NumberWidths::number_text_width), unfolding(crate::specs::Listing::bad_page_text))]
 fn push_bad_page(text: &mut Text, number: u32)
-    requires { array_vec_len text.old + PAGE ≤ ROOM }
+    requires { array_vec_len text.old + PAGE_ROOM ≤ ROOM }
     ensures { text.new.items ≡ text.old.items ++ bad_page_text number }
 {
     push_bytes(text, b"bad page ");

@@ -9,4 +9,4 @@ mod text;
 pub use finishing::finish;
 pub use judging::{Ending, judge};
 pub use status::Status;
-pub use text::{PAGE, PIECE, ROOM, Text, push_count, push_memory};
+pub use text::{PAGE_ROOM, PIECE, ROOM, Text, push_count, push_memory};

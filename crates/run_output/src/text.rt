@@ -11,10 +11,10 @@ use station_base::{LINE_ROOM, push_bytes};
 pub const PIECE: usize = 4096;
 
 /// Room for the lines of a page, of which each slot has one at most.
-pub const PAGE: usize = 5 * LINE_ROOM;
+pub const PAGE_ROOM: usize = 5 * LINE_ROOM;
 
 /// Room for what is held back, and the lines of one more page.
-pub const ROOM: usize = PIECE + PAGE;
+pub const ROOM: usize = PIECE + PAGE_ROOM;
 
 /// Text that waits to be written.
 pub type Text = ArrayVec<u8, ROOM>;
