@@ -1,0 +1,73 @@
+#!/usr/bin/env python3
+"""Compares a built program with a plain model of it, on random runs: what they print, their status, and their files.
+
+    tools/try_model.py PROGRAM [SECONDS] [SEED]
+
+It takes so many seconds, 20 if not said, and prints a line for each kind of run. The first run of a kind that differs
+is kept in a folder. The status is 0 where nothing differs, else 1. The same cases come of the same seed.
+"""
+import random
+import shlex
+import sys
+import tempfile
+import time
+from pathlib import Path
+
+sys.dont_write_bytecode = True  # nothing is left beside the model
+
+from model.cases import model_side, program_side
+from model.random_archives import random_copy_case, random_report_case
+from model.random_pages import random_pages_case
+from model.random_schedules import random_replay_case
+
+SECONDS = 20
+SEED = "1"
+KINDS = {"replay": random_replay_case, "report": random_report_case, "copy": random_copy_case,
+         "pages": random_pages_case}
+
+
+def keep(program, kind, case, sides):
+    """Puts a case that differs in a folder, with both answers, and says how to run it."""
+    folder = Path(tempfile.mkdtemp(prefix=f"try_model_{kind}_"))
+    for name, data in case.files.items():
+        (folder / name).write_bytes(data)
+    for side, (outcome, files) in zip(("model", "program"), sides):
+        answer = folder / side
+        answer.mkdir()
+        (answer / "printed").write_bytes(outcome.text)
+        (answer / "status").write_text(f"{outcome.status}\n")
+        for name, data in files.items():
+            if data != case.files.get(name):
+                (answer / name).write_bytes(data)
+    print(f"{kind} differs, see {folder}: cd {folder} && {shlex.join([program, *case.words])}")
+
+
+def try_kind(program, kind, seed, seconds, folder):
+    """Compares random cases of one kind for so many seconds; gives how many differ."""
+    end, cases, different = time.monotonic() + seconds, 0, 0
+    while time.monotonic() < end:
+        case = KINDS[kind](random.Random(f"{kind} {seed} {cases}"))
+        sides = model_side(case), program_side(program, folder, case)
+        cases += 1
+        if sides[0] != sides[1]:
+            different += 1
+            if different == 1:
+                keep(program, kind, case, sides)
+    print(f"{kind}: {cases} cases, {different} differ", flush=True)
+    return different
+
+
+def main(words):
+    """Tries all kinds in equal parts of the time; gives the status."""
+    program = str(Path(words[0]).resolve())
+    seconds = float(words[1]) if len(words) > 1 else SECONDS
+    seed = words[2] if len(words) > 2 else SEED
+    with tempfile.TemporaryDirectory() as folder:
+        different = [try_kind(program, kind, seed, seconds / len(KINDS), Path(folder)) for kind in KINDS]
+    return 1 if any(different) else 0
+
+
+if __name__ == "__main__":
+    if not 2 <= len(sys.argv) <= 4:
+        sys.exit(__doc__)
+    sys.exit(main(sys.argv[1:]))
