@@ -11,12 +11,13 @@ use Rattle.dmpaft_driver.specs.declared.outcome.DumpEnd.{DumpEnd}
 use Rattle.dmpaft_driver.specs.declared.outcome.DumpEnd.TheVariants as dump_end
 use Rattle.dmpaft_driver.specs.Attempt.{Pages, Heads, Requests, Attempt, End}
 use Rattle.dmpaft_driver.specs.Batch.{slots, rising, newest, add, batches, answered, EndsGiving}
-use Rattle.dmpaft_driver.specs.Keeper.{Delivery, delivery}
+use Rattle.dmpaft_driver.specs.Keeper.{kept_in}
 use Rattle.dmpaft_driver.specs.Outcome.{Ended}
 use Rattle.dmpaft_driver.specs.Gathered.{keeper_answer, steps_of}
 use Rattle.dmpaft_driver.specs.OneAttempt.{OneAttempt, OneFront, AcknowledgedAreKept, TakenAreAcknowledged}
 use Rattle.serial_link.specs.Talk.{message}
 use Rattle.dmpaft_driver.specs.Attempt.{dmpaft}
+use Rattle.dmpaft_driver.proofs.Keeping.{kept_answered, kept_in_all}
 use Rattle.dmpaft_driver.proofs.OneTalk.{attempt_goes, pages_say, refused_some, failed_not_refused, flooded_not_refused}
 
 no_rest : (A : List (List ℕ)) (more B : List (List ℕ)) → B ≡ A ++ more → more ≡ [] → A ≡ B
@@ -89,35 +90,30 @@ batches_behind last place (page ∷ A) more some x =
     (b.0, b.1, ap (λ (z : List (List (List ℕ))). add (rising last (slots place page)) z) b.2 ∙ add_behind (rising last (slots place page)) (batches (newest last (slots place page)) 0 A) b.0)
 
 -- batches before others were kept
-answered_first : (answer : Stored) (bs rest : List (List (List ℕ))) → rest ≢ [] → answered answer (bs ++ rest) ≡ answered stored.Done bs ++ answered answer rest
-answered_first answer [] rest some = refl
-answered_first answer (b ∷ []) [] some = absurd (some refl)
-answered_first answer (b ∷ []) (r ∷ rest) some = refl
-answered_first answer (b ∷ c ∷ bs) rest some = ap (λ (x : List Delivery). delivery b stored.Done ∷ x) (answered_first answer (c ∷ bs) rest some)
-
-answered_all : (bs rest : List (List (List ℕ))) → answered stored.Done (bs ++ rest) ≡ answered stored.Done bs ++ answered stored.Done rest
-answered_all bs [] = ap (λ (x : List (List (List ℕ))). answered stored.Done x) (append-nil bs) ∙ sym (append-nil (answered stored.Done bs))
-answered_all bs (r ∷ rest) = answered_first stored.Done bs (r ∷ rest) (λ e. cc)
+kept_first : (answer : Stored) (bs rest : List (List (List ℕ))) → rest ≢ [] → kept_in (answered answer (bs ++ rest)) ≡ bs ++ kept_in (answered answer rest)
+kept_first answer [] rest some = refl
+kept_first answer (b ∷ []) [] some = absurd (some refl)
+kept_first answer (b ∷ []) (r ∷ rest) some = refl
+kept_first answer (b ∷ c ∷ bs) rest some = ap (λ (x : List (List (List ℕ))). b ∷ x) (kept_first answer (c ∷ bs) rest some)
 
 -- pages that are the first of those taken, where no batch was refused
 front_kept : (after : Option CivilMinute) (p q : ℕ) (pages more taken : List (List ℕ)) (end : DumpEnd) → keeper_answer end ≡ stored.Done → taken ≡ pages ++ more → p ≡ q
-    → IsFrontOf (answered stored.Done (batches after p pages)) (steps_of end after q taken)
+    → IsFrontOf (batches after p pages) (kept_in (steps_of end after q taken))
 front_kept after p q pages more taken end done e same =
     let b = batches_first after p pages more in (
-      answered stored.Done b.0,
-      sym (answered_all (batches after p pages) b.0) ∙ ap (λ (x : List (List (List ℕ))). answered stored.Done x) (sym b.1)
-          ∙ ap (λ (x : List (List ℕ)). answered stored.Done (batches after p x)) (sym e) ∙ ap (λ n. answered stored.Done (batches after n taken)) same
-          ∙ ap (λ (x : Stored). answered x (batches after q taken)) (sym done),
+      b.0,
+      sym b.1 ∙ ap (λ (x : List (List ℕ)). batches after p x) (sym e) ∙ ap (λ n. batches after n taken) same ∙ sym (kept_in_all (batches after q taken))
+          ∙ ap kept_in (sym (kept_answered (batches after q taken))) ∙ ap (λ (x : Stored). kept_in (answered x (batches after q taken))) (sym done),
     )
 
 -- and where the last batch was refused, and others were taken after them
 front_kept_refused : (after : Option CivilMinute) (p q : ℕ) (pages more taken : List (List ℕ)) (end : DumpEnd) → EndsGiving after q taken → more ≢ [] → taken ≡ pages ++ more → p ≡ q
-    → IsFrontOf (answered stored.Done (batches after p pages)) (steps_of end after q taken)
+    → IsFrontOf (batches after p pages) (kept_in (steps_of end after q taken))
 front_kept_refused after p q pages more taken end gives some e same =
     let b = batches_behind after p pages more some (subst (λ n. EndsGiving after n (pages ++ more)) (sym same) (subst (λ (x : List (List ℕ)). EndsGiving after q x) e gives)) in (
-      answered (keeper_answer end) b.0,
-      sym (answered_first (keeper_answer end) (batches after p pages) b.0 b.1) ∙ ap (λ (x : List (List (List ℕ))). answered (keeper_answer end) x) (sym b.2)
-          ∙ ap (λ (x : List (List ℕ)). answered (keeper_answer end) (batches after p x)) (sym e) ∙ ap (λ n. answered (keeper_answer end) (batches after n taken)) same,
+      kept_in (answered (keeper_answer end) b.0),
+      sym (kept_first (keeper_answer end) (batches after p pages) b.0 b.1) ∙ ap (λ (x : List (List (List ℕ))). kept_in (answered (keeper_answer end) x)) (sym b.2)
+          ∙ ap (λ (x : List (List ℕ)). kept_in (answered (keeper_answer end) (batches after p x))) (sym e) ∙ ap (λ n. kept_in (answered (keeper_answer end) (batches after n taken))) same,
     )
 
 heads_some : (frame : List ℕ) (t : List TalkItem) (p : ℕ) (taken : List (List ℕ)) → Heads frame t p taken End.Refused → taken ≢ []
@@ -141,13 +137,13 @@ module _ (after : Option CivilMinute) (p q : ℕ) (taken pages : List (List ℕ)
 
   -- within a talk in which no batch was refused
   unrefused : (end : DumpEnd) (talk : List TalkItem) (e : End) → keeper_answer end ≡ stored.Done → front ++ rest ≡ talk → Attempt (stamp_frame_of after) talk q taken e
-      → IsFrontOf (answered stored.Done (batches after p pages)) (steps_of end after q taken)
+      → IsFrontOf (batches after p pages) (kept_in (steps_of end after q taken))
   unrefused end talk e done is x =
       let o = attempt_goes (stamp_frame_of after) front talk rest p q pages taken End.Refused e g x is in
       front_kept after p q pages o.more taken end done o.first (o.places some_pages)
 
   refused : (end : DumpEnd) (talk : List TalkItem) → EndsGiving after q taken → rest ≢ [] → front ++ rest ≡ talk → Attempt (stamp_frame_of after) talk q taken End.Refused
-      → IsFrontOf (answered stored.Done (batches after p pages)) (steps_of end after q taken)
+      → IsFrontOf (batches after p pages) (kept_in (steps_of end after q taken))
   refused end talk gives some is x =
       let o = attempt_goes (stamp_frame_of after) front talk rest p q pages taken End.Refused End.Refused g x is in
       front_kept_refused after p q pages o.more taken end gives (λ none. some (o.refused refl none)) o.first (o.places some_pages)
@@ -162,7 +158,7 @@ acknowledged_are_kept after talk place place' taken pages end x (front, rest, e,
     some = λ none. cc
 
     go : (end : DumpEnd) → Ended (λ t ps n. Attempt (stamp_frame_of after) t place ps n) end talk taken → (keeper_answer end ≢ stored.Done → EndsGiving after place taken)
-        → IsFrontOf (answered stored.Done (batches after place' pages)) (steps_of end after place taken)
+        → IsFrontOf (batches after place' pages) (kept_in (steps_of end after place taken))
     go dump_end.Whole h r = unrefused after place' place taken pages front behind g dump_end.Whole talk End.Whole refl (sym e) h
     go (dump_end.Failed trouble) h r = unrefused after place' place taken pages front behind g (dump_end.Failed trouble) talk (End.Failed trouble) refl (sym e) h
     go dump_end.Flood h r = unrefused after place' place taken pages front behind g dump_end.Flood talk End.Flooded refl (sym e) h

@@ -10,7 +10,7 @@ use Rattle.dmpaft_driver.specs.declared.phase.Phase.TheVariants as phase
 use Rattle.dmpaft_driver.specs.declared.stage.Stage.{Stage}
 use Rattle.dmpaft_driver.specs.declared.stage.Stage.TheVariants as stage
 use Rattle.dmpaft_driver.specs.declared.pump.Pump.{Pump}
-use Rattle.dmpaft_driver.specs.Keeper.{Delivery, last_kept}
+use Rattle.dmpaft_driver.specs.Keeper.{Handed, last_kept}
 use Rattle.dmpaft_driver.specs.Phases.{part_of, quiets_of, Hears}
 use Rattle.dmpaft_driver.specs.Pump.{Part, Settling, Waking, Calling, Heading, Asking, Resettling, Acking, GivingUp, State, Saying, Hearing, Keeping, Over, Astray, words, quiets, told, saying, begun, pump_from}
 use Rattle.dmpaft_driver.specs.Shown.{Shows, ShowsAt, said_at, talks_at, room_at}
@@ -182,7 +182,7 @@ says_none : (start : Tally) (a : Option CivilMinute) (s : State) (pump : Pump) (
 says_none start a s pump t h k e = λ place taken end over.
     absurd (stage_not_over pump.stage start a s pump h k place taken end (sym (rest_same a s) ∙ ap (λ (y : List TalkItem). pump_from a s y []) (sym e) ∙ over))
 
-pub gives_none : (a : Option CivilMinute) (s : State) → [] ≡ gives a s []
+pub gives_none : (a : Option CivilMinute) (s : State) → Handed.Nothing ≡ gives a s []
 gives_none a (Saying p i l) = refl
 gives_none a (Hearing p bs r) = refl
 gives_none a (Keeping more at taken page) = refl
@@ -208,10 +208,10 @@ listened start a s t pump pump' h k (Some end) x = (x.0, inr (x.1, refl, k, stay
 
 module _ {K : Type 0} (ledger : Ledger K) (a : Option CivilMinute) (s : State) (k : K) where
   pub keeps_same : ledger.keeps k (gives a s []) k
-  keeps_same = subst (λ (y : List Delivery). ledger.keeps k y k) (gives_none a s) (ledger.keeps_none k)
+  keeps_same = subst (λ (y : Handed). ledger.keeps k y k) (gives_none a s) (ledger.keeps_none k)
 
   pub last_same : ledger.last k ≡ last_kept (gives a s []) (ledger.last k)
-  last_same = ap (λ (y : List Delivery). last_kept y (ledger.last k)) (gives_none a s)
+  last_same = ap (λ (y : Handed). last_kept y (ledger.last k)) (gives_none a s)
 
 pub some_words : (bytes : List ℕ) → 0 < length bytes → bytes ≢ []
 some_words bytes l none = absurd (omega (arith, l, ap (λ (y : List ℕ). length y) none))

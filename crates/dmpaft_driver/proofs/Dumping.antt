@@ -1,5 +1,5 @@
 -- A dump, turn by turn.
-use Rattle.std.proofs.Common.{◌≡◌, ◌≢◌, ℕ, zero, suc, ◌+◌, ◌≤◌, Bool, true, false, List, [], ◌∷◌, ◌++◌, length, refl, sym, ◌∙◌, ap, subst, inl, inr, arith, append_assoc, append-nil, Option}
+use Rattle.std.proofs.Common.{◌≡◌, ◌≢◌, ℕ, zero, suc, ◌+◌, ◌≤◌, ◌⊎◌, Bool, true, false, List, [], ◌∷◌, ◌++◌, length, refl, sym, ◌∙◌, ap, subst, inl, inr, arith, append_assoc, Option}
 use Rattle.std.specs.Prelude.{◌==◌, bytes_eq}
 use Rattle.station_base.specs.CivilMinute.{CivilMinute}
 use Rattle.vantage_frames.specs.StampFrame.{stamp_frame_of}
@@ -21,9 +21,10 @@ use Rattle.dmpaft_driver.specs.declared.pump.Pump.{Pump}
 use Rattle.dmpaft_driver.specs.Attempt.{Attempt, End, dmpaft}
 use Rattle.dmpaft_driver.specs.Batch.{slots, rising, newest, all_slots, add, batches, answered, EndsGiving}
 use Rattle.dmpaft_driver.specs.Exact.{end_of}
-use Rattle.dmpaft_driver.specs.Keeper.{Delivery, delivery, last_kept}
+use Rattle.dmpaft_driver.specs.Keeper.{Handed, one_batch, kept_all, join, count, last_kept}
 use Rattle.archive_record.specs.Reading.{stamp_in}
 use Rattle.station_base.specs.LastStamp.{Rises, last_stamp}
+use Rattle.dmpaft_driver.specs.Ledger.{Ledger}
 use Rattle.dmpaft_driver.specs.Outcome.{Ended, EndsSaying, IsCutAfter}
 use Rattle.dmpaft_driver.specs.Gathered.{keeper_answer}
 use Rattle.dmpaft_driver.specs.Page.{is_page_for, is_ahead, next_said}
@@ -40,6 +41,7 @@ use Rattle.dmpaft_driver.proofs.Finishing.{Fine}
 use Rattle.dmpaft_driver.proofs.Unrolling.{newest_joins}
 use Rattle.dmpaft_driver.proofs.Joining.{joins}
 use Rattle.dmpaft_driver.proofs.Taken.{were_taken}
+use Rattle.dmpaft_driver.proofs.Keeping.{join_none, kept_answered, one_size, last_joins, count_join, count_kept}
 use Rattle.dmpaft_driver.proofs.Pumping.{kept_none}
 use Rattle.dmpaft_driver.proofs.Rows.{rows_rise, within_self}
 use Rattle.dmpaft_driver.proofs.Steps.{rest_same, one_more, last_of_rising}
@@ -53,8 +55,8 @@ module _ (a : Option CivilMinute) where
   handed_told Heading = refl
   handed_told (Asking more at taken left b) = refl
   handed_told (Resettling more at taken left b) = refl
-  handed_told (Acking at taken) = refl
-  handed_told (GivingUp at taken trouble) = refl
+  handed_told (Acking at taken) = kept_answered (batches a at taken)
+  handed_told (GivingUp at taken trouble) = kept_answered (batches a at taken)
 
   pub handed_saying : (p : Part) (l : List TalkItem) → handed a (saying p l) ≡ all_kept a (place_in p) (taken_in p)
   handed_saying p [] = handed_told p
@@ -68,16 +70,16 @@ module _ (a : Option CivilMinute) where
   handed_batched more place taken page [] e = handed_onward more place (taken ++ page ∷ []) ∙ kept_none a place taken page e
   handed_batched more place taken page (r ∷ rows) e = refl
 
-  handed_woken : (left : ℕ) (b : Bool) → handed a (at a (woken left b)) ≡ []
+  handed_woken : (left : ℕ) (b : Bool) → handed a (at a (woken left b)) ≡ Handed.Nothing
   handed_woken left true = handed_saying Calling (message dmpaft)
   handed_woken zero false = refl
   handed_woken (suc left) false = refl
 
-  handed_called : (bs : List ℕ) (b : Bool) → handed a (at a (called bs b)) ≡ []
+  handed_called : (bs : List ℕ) (b : Bool) → handed a (at a (called bs b)) ≡ Handed.Nothing
   handed_called bs true = handed_saying Heading (message (stamp_frame_of a))
   handed_called bs false = refl
 
-  handed_headed : (y : Reply) → handed a (at a (headed y)) ≡ []
+  handed_headed : (y : Reply) → handed a (at a (headed y)) ≡ Handed.Nothing
   handed_headed (Header zero place) = refl
   handed_headed (Header (suc more) place) = refl
   handed_headed (NoHeader trouble) = refl
@@ -99,7 +101,7 @@ module _ (a : Option CivilMinute) where
   handed_next Calling full bs = handed_called bs (bytes_eq bs (6 ∷ []))
   handed_next Heading full bs = handed_headed (reply_of bs)
   handed_next (Asking more place taken left b) full bs = handed_judged more place taken left bs (is_page_for (length taken) bs) (is_ahead (length taken) bs)
-  handed_next (Resettling more place taken left b) true bs = refl
+  handed_next (Resettling more place taken left b) true bs = kept_answered (batches a place taken)
   handed_next (Resettling more place taken left b) false bs = refl
   handed_next (Acking place taken) full bs = refl
   handed_next (GivingUp place taken trouble) full bs = refl
@@ -134,13 +136,13 @@ module _ (a : Option CivilMinute) where
   handed_items Astray (x ∷ t) ne = absurd (ne (astray_stays a t []))
 
   handed_answer : (more place : ℕ) (taken : List (List ℕ)) (page : List ℕ) → batch_of a place taken page ≢ [] → (k : Stored)
-      → handed a (answered_by a more place (taken ++ page ∷ []) k) ≡ all_kept a place taken ++ delivery (batch_of a place taken page) k ∷ []
-  handed_answer more place taken page some stored.Done = handed_onward more place (taken ++ page ∷ []) ∙ one_more a place taken page some stored.Done
+      → handed a (answered_by a more place (taken ++ page ∷ []) k) ≡ join (all_kept a place taken) (one_batch k (batch_of a place taken page))
+  handed_answer more place taken page some stored.Done = handed_onward more place (taken ++ page ∷ []) ∙ sym (kept_answered (batches a place (taken ++ page ∷ []))) ∙ one_more a place taken page some stored.Done
   handed_answer more place taken page some stored.Full = one_more a place taken page some stored.Full
   handed_answer more place taken page some stored.Stale = one_more a place taken page some stored.Stale
   handed_answer more place taken page some stored.DiskFault = one_more a place taken page some stored.DiskFault
 
-  pub none_given : (s : State) → gives a s [] ≡ []
+  pub none_given : (s : State) → gives a s [] ≡ Handed.Nothing
   none_given (Saying p i l) = refl
   none_given (Hearing p bs r) = refl
   none_given (Keeping more at taken page) = refl
@@ -148,17 +150,51 @@ module _ (a : Option CivilMinute) where
   none_given Astray = refl
 
   -- what a turn hands over joins what was handed over before
-  pub handed_turn : (s : State) (t : List TalkItem) (ks : List Stored) → pump_from a s t ks ≢ Astray → IsOneStep a s t ks → handed a (pump_from a s t ks) ≡ handed a s ++ gives a s ks
+  pub handed_turn : (s : State) (t : List TalkItem) (ks : List Stored) → pump_from a s t ks ≢ Astray → IsOneStep a s t ks → handed a (pump_from a s t ks) ≡ join (handed a s) (gives a s ks)
   handed_turn s t ks ne (inl (e, call)) =
-      ap (λ (y : List Stored). handed a (pump_from a s t y)) e ∙ handed_items s t (λ z. ne (ap (λ (y : List Stored). pump_from a s t y) e ∙ z)) ∙ sym (append-nil (handed a s))
-      ∙ ap (λ (y : List Delivery). handed a s ++ y) (sym (none_given s)) ∙ ap (λ (y : List Stored). handed a s ++ gives a s y) (sym e)
+      ap (λ (y : List Stored). handed a (pump_from a s t y)) e ∙ handed_items s t (λ z. ne (ap (λ (y : List Stored). pump_from a s t y) e ∙ z)) ∙ sym (join_none (handed a s))
+      ∙ ap (λ (y : Handed). join (handed a s) y) (sym (none_given s)) ∙ ap (λ (y : List Stored). join (handed a s) (gives a s y)) (sym e)
   handed_turn s t ks ne (inr (te, k, ke, more, place, taken, page, is, some)) =
       ap (λ (y : State). handed a (pump_from a y t ks)) is ∙ ap (λ (y : List TalkItem). handed a (pump_from a (Keeping more place taken page) y ks)) te ∙ ap (λ (y : List Stored). handed a (pump_from a (Keeping more place taken page) [] y)) ke
-      ∙ handed_answer more place taken page some k ∙ ap (λ (y : List Stored). handed a (Keeping more place taken page) ++ gives a (Keeping more place taken page) y) (sym ke) ∙ ap (λ (y : State). handed a y ++ gives a y ks) (sym is)
+      ∙ handed_answer more place taken page some k ∙ ap (λ (y : List Stored). join (handed a (Keeping more place taken page)) (gives a (Keeping more place taken page) y)) (sym ke) ∙ ap (λ (y : State). join (handed a y) (gives a y ks)) (sym is)
 
-answered_cons : (rows : List (List ℕ)) (bs : List (List (List ℕ))) → answered stored.Done (rows ∷ bs) ≡ delivery rows stored.Done ∷ answered stored.Done bs
-answered_cons rows [] = refl
-answered_cons rows (x ∷ bs) = refl
+  -- in a turn nothing is handed over, or all that was handed over before was kept
+  none_or_kept : (s : State) (t : List TalkItem) (ks : List Stored) → IsOneStep a s t ks → (gives a s ks ≡ Handed.Nothing) ⊎ ((bs : List (List (List ℕ))) × (handed a s ≡ kept_all bs))
+  none_or_kept s t ks (inl (e, call)) = inl (ap (gives a s) e ∙ none_given s)
+  none_or_kept s t ks (inr (te, k, ke, more, place, taken, page, is, some)) = inr (batches a place taken, ap (handed a) is)
+
+  module _ (s : State) (t : List TalkItem) (ks : List Stored) (ne : pump_from a s t ks ≢ Astray) (one : IsOneStep a s t ks) where
+    -- where a turn hands nothing over, that stays which was handed over
+    same_turn : gives a s ks ≡ Handed.Nothing → handed a (pump_from a s t ks) ≡ handed a s
+    same_turn none = handed_turn s t ks ne one ∙ ap (λ (y : Handed). join (handed a s) y) none ∙ join_none (handed a s)
+
+    -- else it joins batches that were kept
+    more_turn : (bs : List (List (List ℕ))) → handed a s ≡ kept_all bs → handed a (pump_from a s t ks) ≡ join (kept_all bs) (gives a s ks)
+    more_turn bs kept = handed_turn s t ks ne one ∙ ap (λ (y : Handed). join y (gives a s ks)) kept
+
+    -- a keeper that took what was handed over takes what a turn hands over
+    pub keeps_turn : {K : Type 0} (ledger : Ledger K) (k0 k l : K) → ledger.keeps k0 (handed a s) k → ledger.keeps k (gives a s ks) l → (gives a s ks ≡ Handed.Nothing → l ≡ k) → ledger.keeps k0 (handed a (pump_from a s t ks)) l
+    keeps_turn {K} ledger k0 k l was now still = go (none_or_kept s t ks one)
+      where
+        go : (gives a s ks ≡ Handed.Nothing) ⊎ ((bs : List (List (List ℕ))) × (handed a s ≡ kept_all bs)) → ledger.keeps k0 (handed a (pump_from a s t ks)) l
+        go (inl none) = subst (λ (y : Handed). ledger.keeps k0 y l) (sym (same_turn none)) (subst (λ (y : K). ledger.keeps k0 (handed a s) y) (sym (still none)) was)
+        go (inr (bs, kept)) = subst (λ (y : Handed). ledger.keeps k0 y l) (sym (more_turn bs kept)) (ledger.keeps_joins k0 k l bs (gives a s ks) (subst (λ (y : Handed). ledger.keeps k0 y k) kept was) now)
+
+    -- the last record kept, after a turn
+    pub last_turn : (before : Option CivilMinute) → last_kept (handed a (pump_from a s t ks)) before ≡ last_kept (gives a s ks) (last_kept (handed a s) before)
+    last_turn before = go (none_or_kept s t ks one)
+      where
+        go : (gives a s ks ≡ Handed.Nothing) ⊎ ((bs : List (List (List ℕ))) × (handed a s ≡ kept_all bs)) → last_kept (handed a (pump_from a s t ks)) before ≡ last_kept (gives a s ks) (last_kept (handed a s) before)
+        go (inl none) = ap (λ (y : Handed). last_kept y before) (same_turn none) ∙ ap (λ (y : Handed). last_kept y (last_kept (handed a s) before)) (sym none)
+        go (inr (bs, kept)) = ap (λ (y : Handed). last_kept y before) (more_turn bs kept) ∙ last_joins bs (gives a s ks) before ∙ ap (λ (y : Handed). last_kept (gives a s ks) (last_kept y before)) (sym kept)
+
+    -- what a turn hands over is counted with what was handed over before
+    pub count_turn : count (handed a (pump_from a s t ks)) ≡ count (handed a s) + count (gives a s ks)
+    count_turn = go (none_or_kept s t ks one)
+      where
+        go : (gives a s ks ≡ Handed.Nothing) ⊎ ((bs : List (List (List ℕ))) × (handed a s ≡ kept_all bs)) → count (handed a (pump_from a s t ks)) ≡ count (handed a s) + count (gives a s ks)
+        go (inl none) = omega (arith, ap count (same_turn none), ap count none)
+        go (inr (bs, kept)) = omega (arith, ap count (more_turn bs kept), count_join bs (gives a s ks), count_kept bs, ap count kept)
 
 -- the newest stamp is not below that of the last record kept
 pub within_kept : (place : ℕ) (taken : List (List ℕ)) (a b : Option CivilMinute) → IsWithin b a → IsWithin (last_kept (all_kept a place taken) b) (newest_of a place taken)
@@ -169,40 +205,39 @@ within_kept place (p ∷ taken) a b w =
   where
     go : (rows : List (List ℕ)) → last_stamp stamp_in rows a ≡ newest a (slots place p)
         → ((c : Option CivilMinute) → IsWithin c (newest a (slots place p)) → IsWithin (last_kept (all_kept (newest a (slots place p)) 0 taken) c) (newest_of (newest a (slots place p)) 0 taken))
-        → IsWithin (last_kept (answered stored.Done (add rows (batches (newest a (slots place p)) 0 taken))) b) (newest_of (newest a (slots place p)) 0 taken)
+        → IsWithin (last_kept (kept_all (add rows (batches (newest a (slots place p)) 0 taken))) b) (newest_of (newest a (slots place p)) 0 taken)
     go [] e ih = ih b (subst (λ (y : Option CivilMinute). IsWithin b y) e w)
     go (r ∷ rows) e ih =
-        subst (λ (y : List Delivery). IsWithin (last_kept y b) (newest_of (newest a (slots place p)) 0 taken)) (sym (answered_cons (r ∷ rows) (batches (newest a (slots place p)) 0 taken)))
-        (ih (last_stamp stamp_in (r ∷ rows) b) (subst (λ (y : Option CivilMinute). IsWithin (last_stamp stamp_in (r ∷ rows) b) y) e (within_self (last_stamp stamp_in (r ∷ rows) b))))
+        ih (last_stamp stamp_in (r ∷ rows) b) (subst (λ (y : Option CivilMinute). IsWithin (last_stamp stamp_in (r ∷ rows) b) y) e (within_self (last_stamp stamp_in (r ∷ rows) b)))
 
-answered_size : (k : Stored) (bs : List (List (List ℕ))) → length (answered k bs) ≡ length bs
+answered_size : (k : Stored) (bs : List (List (List ℕ))) → count (answered k bs) ≡ length bs
 answered_size k [] = refl
-answered_size k (rows ∷ []) = refl
+answered_size k (rows ∷ []) = one_size k rows
 answered_size k (rows ∷ x ∷ bs) = omega (arith, answered_size k (x ∷ bs))
 
 add_size : (rows : List (List ℕ)) (bs : List (List (List ℕ))) → length (add rows bs) ≤ length bs + 1
 add_size [] bs = omega arith
 add_size (r ∷ rows) bs = omega arith
 
-batches_few : (a : Option CivilMinute) (place : ℕ) (taken : List (List ℕ)) → length (batches a place taken) ≤ length taken
+pub batches_few : (a : Option CivilMinute) (place : ℕ) (taken : List (List ℕ)) → length (batches a place taken) ≤ length taken
 batches_few a place [] = omega arith
 batches_few a place (p ∷ taken) = omega (arith, batches_few (newest a (slots place p)) 0 taken, add_size (rising a (slots place p)) (batches (newest a (slots place p)) 0 taken))
 
-pub kept_few : (k : Stored) (a : Option CivilMinute) (place : ℕ) (taken : List (List ℕ)) → length (answered k (batches a place taken)) ≤ length taken
+pub kept_few : (k : Stored) (a : Option CivilMinute) (place : ℕ) (taken : List (List ℕ)) → count (answered k (batches a place taken)) ≤ length taken
 kept_few k a place taken = omega (arith, answered_size k (batches a place taken), batches_few a place taken)
 
 -- the keeper can take the batch
 pub suits_at : (st : Stage) (start : Tally) (a : Option CivilMinute) (s : State) (pump : Pump) → ShowsAt st start a s pump → keeps_at st ≡ true
-    → (o b : Option CivilMinute) → o ≡ last_kept (handed a s) b → IsWithin b a → (room0 room : ℕ) → 513 ≤ room0 → room0 ≤ room + length (handed a s) → Rises stamp_in o pump.batch × (1 ≤ room)
+    → (o b : Option CivilMinute) → o ≡ last_kept (handed a s) b → IsWithin b a → (room0 room : ℕ) → 513 ≤ room0 → room0 ≤ room + count (handed a s) → Rises stamp_in o pump.batch × (1 ≤ room)
 suits_at (stage.Saying q) start a s pump h k o b e w room0 room m l = cc
 suits_at (stage.Hearing q) start a s pump h k o b e w room0 room m l = cc
 suits_at (stage.Ended end) start a s pump h k o b e w room0 room m l = cc
 suits_at (stage.Keeping more) start a s pump h k o b e w room0 room m l =
     let given : handed a s ≡ all_kept a h.place h.taken = ap (handed a) h.is in
-    let o_is : o ≡ last_kept (all_kept a h.place h.taken) b = e ∙ ap (λ (y : List Delivery). last_kept y b) given in
+    let o_is : o ≡ last_kept (all_kept a h.place h.taken) b = e ∙ ap (λ (y : Handed). last_kept y b) given in
     let within : IsWithin o (newest_of a h.place h.taken) = subst (λ (y : Option CivilMinute). IsWithin y (newest_of a h.place h.taken)) (sym o_is) (within_kept h.place h.taken a b w) in (
       subst (λ (y : List (List ℕ)). Rises stamp_in o y) (sym h.batch) (rows_rise o (newest_of a h.place h.taken) _ within),
-      omega (arith, m, l, ap (λ (y : List Delivery). length y) given, kept_few stored.Done a h.place h.taken, h.fits),
+      omega (arith, m, l, ap count given, count_kept (batches a h.place h.taken), batches_few a h.place h.taken, h.fits),
     )
 
 abbrev OverTells : Tally → Option CivilMinute → Pump → State → Type 0

@@ -1,5 +1,5 @@
 -- How a dump ends.
-use Rattle.std.proofs.Common.{◌≡◌, ◌≢◌, ℕ, ◌+◌, ◌≤◌, ◌⊎◌, List, [], ◌++◌, length, sym, ◌∙◌, ap, subst, inl, inr, arith, append-nil, Option, Some}
+use Rattle.std.proofs.Common.{◌≡◌, ◌≢◌, ℕ, ◌+◌, ◌≤◌, ◌⊎◌, List, [], ◌++◌, sym, ◌∙◌, ap, subst, inl, inr, arith, append-nil, Option, Some}
 use Rattle.station_base.specs.CivilMinute.{CivilMinute}
 use Rattle.vantage_frames.specs.StampFrame.{stamp_frame_of}
 use Rattle.serial_link.specs.Talk.{Adds}
@@ -12,7 +12,7 @@ use Rattle.dmpaft_driver.specs.declared.outcome.Tally.{Tally}
 use Rattle.dmpaft_driver.specs.declared.pump.Pump.{Pump}
 use Rattle.dmpaft_driver.specs.Attempt.{Attempt}
 use Rattle.dmpaft_driver.specs.Batch.{batches, answered, EndsGiving}
-use Rattle.dmpaft_driver.specs.Keeper.{Delivery, last_kept}
+use Rattle.dmpaft_driver.specs.Keeper.{Handed, count, last_kept}
 use Rattle.dmpaft_driver.specs.Outcome.{Ended}
 use Rattle.dmpaft_driver.specs.Gathered.{Gathers, keeper_answer, steps_of}
 use Rattle.dmpaft_driver.specs.Dump.{host, Dumped}
@@ -22,27 +22,26 @@ use Rattle.dmpaft_driver.specs.Pump.{State, Over, pump_after}
 use Rattle.dmpaft_driver.specs.Shown.{Tallied, all_kept, answer_of, Shows}
 use Rattle.dmpaft_driver.specs.Standing.{handed, gives}
 use Rattle.dmpaft_driver.specs.Turning.{Desk, Turns, EndsAt, CutsAt}
-use Rattle.dmpaft_driver.proofs.Dumping.{none_given, kept_few, over_shown, cut_shown, ended_as, ended_cut, cut_answer, answer_same, shown_no_astray, cut_front}
+use Rattle.dmpaft_driver.proofs.Dumping.{none_given, batches_few, kept_few, over_shown, cut_shown, ended_as, ended_cut, cut_answer, answer_same, shown_no_astray, cut_front}
 use Rattle.dmpaft_driver.proofs.Exactly.{sound}
+use Rattle.dmpaft_driver.proofs.Keeping.{kept_answered, count_kept}
 use Rattle.dmpaft_driver.proofs.Pumping.{all_few}
 
 module _ {L K : Type 0} (traffic : Traffic L) (ledger : Ledger K) (start : Tally) (a : Option CivilMinute) (l0 : L) (k0 : K) (old new : Desk L K)
     (t : List TalkItem) (ks : List Stored) (s : State) (at : pump_after a t ks ≡ s) (adds : Adds traffic l0 t old.link) (shown : Shows start a s old.pump)
     (given : ledger.keeps k0 (handed a s) old.keeper) (end : DumpEnd) (v : Turns traffic ledger (Some end) start a s old new) where
-  no_more : (ks : List Stored) → ks ≡ [] → handed a s ++ gives a s ks ≡ handed a s
-  no_more ks e = ap (λ (y : List Stored). handed a s ++ gives a s y) e ∙ ap (λ (y : List Delivery). handed a s ++ y) (none_given a s) ∙ append-nil (handed a s)
+  -- where nothing is answered, that is with the keeper which was handed over before
+  given_now : (steps : Handed) → v.answers ≡ [] → handed a s ≡ steps → ledger.keeps k0 steps new.keeper
+  given_now steps none e = subst (λ (y : Handed). ledger.keeps k0 y new.keeper) e (subst (λ (y : K). ledger.keeps k0 (handed a s) y) (sym (v.still (ap (gives a s) none ∙ none_given a s))) given)
 
-  given_now : (steps : List Delivery) → v.answers ≡ [] → handed a s ≡ steps → ledger.keeps k0 steps new.keeper
-  given_now steps none e = subst (λ (y : List Delivery). ledger.keeps k0 y new.keeper) (no_more v.answers none ∙ e) (ledger.keeps_joins k0 old.keeper new.keeper (handed a s) (gives a s v.answers) given v.handed)
-
-  gathered : (place : ℕ) (taken : List (List ℕ)) (steps : List Delivery) → steps ≡ steps_of end a place taken → v.answers ≡ [] → handed a s ≡ steps → new.pump ≡ old.pump → Tallied start a place taken steps old.pump
+  gathered : (place : ℕ) (taken : List (List ℕ)) (steps : Handed) → steps ≡ steps_of end a place taken → v.answers ≡ [] → handed a s ≡ steps → new.pump ≡ old.pump → Tallied start a place taken steps old.pump
       → (keeper_answer end ≢ stored.Done → EndsGiving a place taken) → Gathers ledger end a place taken k0 start new.keeper new.pump.tally
   gathered place taken steps e none h same tallied refused = record {
     handed = given_now (steps_of end a place taken) none (h ∙ e);
     refused = refused;
     pages = ap (λ (x : Pump). x.tally.pages) same ∙ tallied.pages;
     skipped = ap (λ (x : Pump). x.tally.skipped) same ∙ tallied.skipped;
-    last = ap (λ (x : Pump). x.tally.last) same ∙ tallied.last ∙ ap (λ (y : List Delivery). last_kept y start.last) e;
+    last = ap (λ (x : Pump). x.tally.last) same ∙ tallied.last ∙ ap (λ (y : Handed). last_kept y start.last) e;
   }
 
   dumped_by : (new.pump ≡ old.pump) × (EndsAt end s v.said v.answers ⊎ CutsAt end a s v.said v.answers old.pump) → Dumped (Attempt (stamp_frame_of a)) traffic ledger a end (host l0 k0 start) (host new.link new.keeper new.pump.tally)
@@ -68,7 +67,7 @@ module _ {L K : Type 0} (traffic : Traffic L) (ledger : Ledger K) (start : Tally
         taken = c.1;
         ends = ended_cut (λ u pages x. Attempt (stamp_frame_of a) u c.0 pages x) end cut (t ++ v.said) c.1 f;
         adds = adds_joins adds v.adds;
-        gathers = gathered c.0 c.1 (all_kept a c.0 c.1) (ap (λ (y : Stored). answered y (batches a c.0 c.1)) (sym (cut_answer end cut))) noks c.4 same c.3 (λ ne. absurd (ne (cut_answer end cut)));
+        gathers = gathered c.0 c.1 (all_kept a c.0 c.1) (sym (kept_answered (batches a c.0 c.1)) ∙ ap (λ (y : Stored). answered y (batches a c.0 c.1)) (sym (cut_answer end cut))) noks c.4 same c.3 (λ ne. absurd (ne (cut_answer end cut)));
       }
 
   pub dumped : Dumped (Attempt (stamp_frame_of a)) traffic ledger a end (host l0 k0 start) (host new.link new.keeper new.pump.tally)
@@ -77,22 +76,22 @@ module _ {L K : Type 0} (traffic : Traffic L) (ledger : Ledger K) (start : Tally
   Few : Type 0
   Few = (ledger.room k0 ≤ ledger.room new.keeper + 513) × (new.pump.tally.pages ≤ start.pages + 513) × (new.pump.tally.skipped ≤ start.skipped + 2565)
 
-  few_by : ledger.room k0 ≤ ledger.room old.keeper + length (handed a s) → (new.pump ≡ old.pump) × (EndsAt end s v.said v.answers ⊎ CutsAt end a s v.said v.answers old.pump) → Few
+  few_by : ledger.room k0 ≤ ledger.room old.keeper + count (handed a s) → (new.pump ≡ old.pump) × (EndsAt end s v.said v.answers ⊎ CutsAt end a s v.said v.answers old.pump) → Few
   unfolding Few
   few_by r (same, inl (place, taken, e, is, end_is, none, noks)) =
       let tells = over_shown start a s place taken e old.pump shown is in (
-        omega (arith, r, v.few, ap (λ (y : List Delivery). length y) (ap (λ (y : List Stored). gives a s y) noks ∙ none_given a s), ap (λ (y : List Delivery). length y) (ap (handed a) is), kept_few (answer_of e) a place taken, tells.0.most_pages),
+        omega (arith, r, v.few, ap count (ap (λ (y : List Stored). gives a s y) noks ∙ none_given a s), ap count (ap (handed a) is), kept_few (answer_of e) a place taken, tells.0.most_pages),
         omega (arith, ap (λ (x : Pump). x.tally.pages) same, tells.0.pages, tells.0.most_pages),
         omega (arith, ap (λ (x : Pump). x.tally.skipped) same, tells.0.skipped, all_few place taken, tells.0.most_pages),
       )
   few_by r (same, inr (cut, noks, talks, stays, says)) =
       let c = cut_shown start a s old.pump shown talks in (
-        omega (arith, r, v.few, ap (λ (y : List Delivery). length y) (ap (λ (y : List Stored). gives a s y) noks ∙ none_given a s), ap (λ (y : List Delivery). length y) c.4, kept_few stored.Done a c.0 c.1, c.3.most_pages),
+        omega (arith, r, v.few, ap count (ap (λ (y : List Stored). gives a s y) noks ∙ none_given a s), ap count c.4, count_kept (batches a c.0 c.1), batches_few a c.0 c.1, c.3.most_pages),
         omega (arith, ap (λ (x : Pump). x.tally.pages) same, c.3.pages, c.3.most_pages),
         omega (arith, ap (λ (x : Pump). x.tally.skipped) same, c.3.skipped, all_few c.0 c.1, c.3.most_pages),
       )
 
   -- one dump takes no more than one dump can
-  pub few : ledger.room k0 ≤ ledger.room old.keeper + length (handed a s) → (ledger.room k0 ≤ ledger.room new.keeper + 513) × (new.pump.tally.pages ≤ start.pages + 513) × (new.pump.tally.skipped ≤ start.skipped + 2565)
+  pub few : ledger.room k0 ≤ ledger.room old.keeper + count (handed a s) → (ledger.room k0 ≤ ledger.room new.keeper + 513) × (new.pump.tally.pages ≤ start.pages + 513) × (new.pump.tally.skipped ≤ start.skipped + 2565)
   unfolding Few
   few r = few_by r v.turns

@@ -4,9 +4,9 @@ use Rattle.std.specs.Prelude.{◌==◌}
 use Rattle.std.proofs.lemmas.Bool.{eqb-true}
 use Rattle.std.proofs.Math.Seq.{take-length}
 use Rattle.station_base.specs.CivilMinute.{CivilMinute}
-use Rattle.causes.specs.declared.stored.Stored.TheVariants.{Done}
+use Rattle.dmpaft_driver.specs.Keeper.{kept_all}
 use Rattle.dmpaft_driver.specs.Slot.{is_skipped}
-use Rattle.dmpaft_driver.specs.Batch.{slots, slots_from, rising, newest, skipped, count_if, add, batches, answered, all_slots, all_skipped}
+use Rattle.dmpaft_driver.specs.Batch.{slots, slots_from, rising, newest, skipped, count_if, add, batches, all_slots, all_skipped}
 use Rattle.dmpaft_driver.specs.Pump.{newest_of, next_place, batch_of, batched, Keeps}
 use Rattle.dmpaft_driver.specs.Shown.{all_kept}
 use Rattle.dmpaft_driver.proofs.Unrolling.{newest_joins}
@@ -60,7 +60,7 @@ batches_more a place (p ∷ q ∷ taken) page =
 -- a page with no batch leaves what was kept
 pub kept_none : (a : Option CivilMinute) (place : ℕ) (taken : List (List ℕ)) (page : List ℕ) → batch_of a place taken page ≡ [] → all_kept a place (taken ++ page ∷ []) ≡ all_kept a place taken
 kept_none a place taken page e =
-    ap (λ (x : List (List (List ℕ))). answered Done x) (batches_more a place taken page ∙ ap (λ (x : List (List ℕ)). batches a place taken ++ add x []) e ∙ append-nil (batches a place taken))
+    ap kept_all (batches_more a place taken page ∙ ap (λ (x : List (List ℕ)). batches a place taken ++ add x []) e ∙ append-nil (batches a place taken))
 
 -- one byte was heard
 pub heard_one : (bs buf : List ℕ) (x : ℕ) → length bs ≡ 1 → take (length bs) buf ≡ bs → 0 < length buf → get_or buf 0 0 ≡ x → bs ≡ x ∷ []

@@ -1,4 +1,4 @@
--- A pump that takes a delivery, and the attempt that stands where it did.
+-- A pump that takes what comes, and the attempt that stands where it did.
 use Rattle.std.proofs.Common.{◌≡◌, ◌≢◌, ℕ, ◌<◌, ◌≤◌, Bool, true, false, List, [], ◌∷◌, ◌++◌, length, length-append, map, refl, sym, ◌∙◌, ap, arith, append_assoc, append-nil, Option, eq-eqb}
 use Rattle.station_base.specs.CivilMinute.{CivilMinute}
 use Rattle.archive_record.specs.Reading.{stamp_in}
@@ -12,7 +12,7 @@ use Rattle.dmpaft_driver.specs.declared.phase.Phase.{Phase}
 use Rattle.dmpaft_driver.specs.declared.phase.Phase.TheVariants as phase
 use Rattle.dmpaft_driver.specs.declared.pump.Pump.{Pump}
 use Rattle.dmpaft_driver.specs.declared.stage.Stage.{Stage}
-use Rattle.dmpaft_driver.specs.Keeper.{Delivery, delivery, last_kept}
+use Rattle.dmpaft_driver.specs.Keeper.{Handed, one_batch, join, last_kept}
 use Rattle.station_base.specs.LastStamp.{last_stamp}
 use Rattle.dmpaft_driver.specs.Batch.{slots, rising, newest, last_if, is_newer, one_if, batches, answered}
 use Rattle.dmpaft_driver.specs.Pump.{Part, State, Saying, Hearing, Keeping, Over, Astray, words, most, next, told, begun, at, heard_if, newest_of, next_place, batch_of, pump_from}
@@ -20,7 +20,7 @@ use Rattle.dmpaft_driver.specs.Phases.{part_of, most_of, words_of}
 use Rattle.dmpaft_driver.specs.Shown.{Counts, all_kept, IsSaying, ShowsAt}
 use Rattle.dmpaft_driver.specs.Stages.{told_stage}
 use Rattle.dmpaft_driver.proofs.Judging.{not_equal}
-use Rattle.dmpaft_driver.proofs.Keeping.{answered_snoc, add_some, last_joins}
+use Rattle.dmpaft_driver.proofs.Keeping.{kept_answered, answered_snoc, add_some, last_joins}
 use Rattle.dmpaft_driver.proofs.Pumping.{batches_more, newest_more}
 use Rattle.dmpaft_driver.proofs.Rows.{last_any}
 use Rattle.dmpaft_driver.proofs.Walking.{said_in}
@@ -81,7 +81,7 @@ module _ (a : Option CivilMinute) (p : Part) where
       ∙ heard_last (bs ++ y ∷ []) (z ∷ ys) 0 (omega arith) (ap length e ∙ all) ∙ ap (λ (x : List ℕ). at a (next a p true x)) e
 
 -- where a pump stands is not counted
-pub counts_as : (start : Tally) (a : Option CivilMinute) (place : ℕ) (taken : List (List ℕ)) (steps : List Delivery) (to : Stage) (pump : Pump) → Counts start a place taken steps pump → Counts start a place taken steps (record pump { stage = to })
+pub counts_as : (start : Tally) (a : Option CivilMinute) (place : ℕ) (taken : List (List ℕ)) (steps : Handed) (to : Stage) (pump : Pump) → Counts start a place taken steps pump → Counts start a place taken steps (record pump { stage = to })
 counts_as start a place taken steps to pump h = record {
   tallied = record { asked = h.tallied.asked; most_pages = h.tallied.most_pages; pages = h.tallied.pages; skipped = h.tallied.skipped; last = h.tallied.last };
   number = h.number;
@@ -188,14 +188,14 @@ said_shows start a phase.Acking s pump h = record {
   place = h.place;
   taken = h.taken;
   is = ap (λ (x : State). pump_from a x (message (words_of a phase.Acking)) []) h.is ∙ said_all a h.place h.taken phase.Acking;
-  tallied = record { asked = h.counts.tallied.asked; most_pages = h.counts.tallied.most_pages; pages = h.counts.tallied.pages; skipped = h.counts.tallied.skipped; last = h.counts.tallied.last };
+  tallied = record { asked = h.counts.tallied.asked; most_pages = h.counts.tallied.most_pages; pages = h.counts.tallied.pages; skipped = h.counts.tallied.skipped; last = h.counts.tallied.last ∙ ap (λ (x : Handed). last_kept x start.last) (sym (kept_answered (batches a h.place h.taken))) };
   gives = λ ne. absurd (ne refl);
 }
 said_shows start a (phase.GivingUp trouble) s pump h = record {
   place = h.place;
   taken = h.taken;
   is = ap (λ (x : State). pump_from a x (message (words_of a (phase.GivingUp trouble))) []) h.is ∙ said_all a h.place h.taken (phase.GivingUp trouble);
-  tallied = record { asked = h.counts.tallied.asked; most_pages = h.counts.tallied.most_pages; pages = h.counts.tallied.pages; skipped = h.counts.tallied.skipped; last = h.counts.tallied.last };
+  tallied = record { asked = h.counts.tallied.asked; most_pages = h.counts.tallied.most_pages; pages = h.counts.tallied.pages; skipped = h.counts.tallied.skipped; last = h.counts.tallied.last ∙ ap (λ (x : Handed). last_kept x start.last) (sym (kept_answered (batches a h.place h.taken))) };
   gives = λ ne. absurd (ne refl);
 }
 
@@ -209,7 +209,7 @@ last_of_rising b (s ∷ ss) = go (is_newer b s) (last_of_rising (stamp_in s) ss)
     go false x y = y
 
 module _ (a : Option CivilMinute) (place : ℕ) (taken : List (List ℕ)) (page : List ℕ) (some : batch_of a place taken page ≢ []) where
-  pub one_more : (answer : Stored) → answered answer (batches a place (taken ++ page ∷ [])) ≡ all_kept a place taken ++ delivery (batch_of a place taken page) answer ∷ []
+  pub one_more : (answer : Stored) → answered answer (batches a place (taken ++ page ∷ [])) ≡ join (all_kept a place taken) (one_batch answer (batch_of a place taken page))
   one_more answer =
       ap (λ (x : List (List (List ℕ))). answered answer x) (batches_more a place taken page ∙ ap (λ (x : List (List (List ℕ))). batches a place taken ++ x) (add_some (batch_of a place taken page) some))
       ∙ answered_snoc answer (batches a place taken) (batch_of a place taken page)
@@ -219,13 +219,13 @@ module _ (a : Option CivilMinute) (place : ℕ) (taken : List (List ℕ)) (page 
   last_done before =
       let rows = batch_of a place taken page in
       newest_more a place taken page ∙ sym (last_of_rising (newest_of a place taken) (slots (next_place place taken) page)) ∙ last_any rows (newest_of a place taken) (last_kept (all_kept a place taken) before) some
-      ∙ sym (last_joins (all_kept a place taken) (delivery rows stored.Done ∷ []) before) ∙ ap (λ (x : List Delivery). last_kept x before) (sym (one_more stored.Done))
+      ∙ sym (last_joins (batches a place taken) (one_batch stored.Done rows) before) ∙ ap (λ (x : Handed). last_kept x before) (sym (one_more stored.Done) ∙ kept_answered (batches a place (taken ++ page ∷ [])))
 
   pub last_full : (before : Option CivilMinute) → last_kept (all_kept a place taken) before ≡ last_kept (answered stored.Full (batches a place (taken ++ page ∷ []))) before
-  last_full before = sym (last_joins (all_kept a place taken) (delivery (batch_of a place taken page) stored.Full ∷ []) before) ∙ ap (λ (x : List Delivery). last_kept x before) (sym (one_more stored.Full))
+  last_full before = sym (last_joins (batches a place taken) (one_batch stored.Full (batch_of a place taken page)) before) ∙ ap (λ (x : Handed). last_kept x before) (sym (one_more stored.Full))
 
   pub last_stale : (before : Option CivilMinute) → last_kept (all_kept a place taken) before ≡ last_kept (answered stored.Stale (batches a place (taken ++ page ∷ []))) before
-  last_stale before = sym (last_joins (all_kept a place taken) (delivery (batch_of a place taken page) stored.Stale ∷ []) before) ∙ ap (λ (x : List Delivery). last_kept x before) (sym (one_more stored.Stale))
+  last_stale before = sym (last_joins (batches a place taken) (one_batch stored.Stale (batch_of a place taken page)) before) ∙ ap (λ (x : Handed). last_kept x before) (sym (one_more stored.Stale))
 
   pub last_disk_fault : (before : Option CivilMinute) → last_kept (all_kept a place taken) before ≡ last_kept (answered stored.DiskFault (batches a place (taken ++ page ∷ []))) before
-  last_disk_fault before = sym (last_joins (all_kept a place taken) (delivery (batch_of a place taken page) stored.DiskFault ∷ []) before) ∙ ap (λ (x : List Delivery). last_kept x before) (sym (one_more stored.DiskFault))
+  last_disk_fault before = sym (last_joins (batches a place taken) (one_batch stored.DiskFault (batch_of a place taken page)) before) ∙ ap (λ (x : Handed). last_kept x before) (sym (one_more stored.DiskFault))

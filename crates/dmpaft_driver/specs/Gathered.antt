@@ -6,7 +6,7 @@ use Rattle.causes.specs.declared.stored.Stored.TheVariants as stored
 use Rattle.dmpaft_driver.specs.declared.outcome.DumpEnd.{DumpEnd}
 use Rattle.dmpaft_driver.specs.declared.outcome.DumpEnd.TheVariants as dump_end
 use Rattle.dmpaft_driver.specs.declared.outcome.Tally.{Tally}
-use Rattle.dmpaft_driver.specs.Keeper.{Delivery, last_kept}
+use Rattle.dmpaft_driver.specs.Keeper.{Handed, last_kept}
 use Rattle.dmpaft_driver.specs.Ledger.{Ledger}
 use Rattle.dmpaft_driver.specs.Batch.{batches, answered, all_skipped, EndsGiving}
 
@@ -21,15 +21,15 @@ keeper_answer dump_end.Flood = stored.Done
 keeper_answer dump_end.LinkFault = stored.Done
 keeper_answer dump_end.OutOfMemory = stored.Done
 
--- the batches of the taken pages after the last stamp, of the first page from a place on, with their answers
-abbrev pub steps_of : DumpEnd → Option CivilMinute → ℕ → List (List ℕ) → List Delivery
+-- what becomes of the batches of the taken pages after the last stamp, of the first page from a place on
+abbrev pub steps_of : DumpEnd → Option CivilMinute → ℕ → List (List ℕ) → Handed
 steps_of end last place taken = answered (keeper_answer end) (batches last place taken)
 
 -- a batch that was refused is that of the last page
 abbrev pub RefusesLast : DumpEnd → Option CivilMinute → ℕ → List (List ℕ) → Type 0
 RefusesLast end after place taken = keeper_answer end ≢ stored.Done → EndsGiving after place taken
 
--- The batches of taken pages were handed over with these answers, and the pages were tallied.
+-- The batches of taken pages were handed over, and the pages were tallied.
 pub record Gathers {K : Type 0} (ledger : Ledger K) (end : DumpEnd) (after : Option CivilMinute) (place : ℕ)
     (taken : List (List ℕ)) (k : K) (tally : Tally) (l : K) (now : Tally) : Type 0 where
   pub handed : ledger.keeps k (steps_of end after place taken) l

@@ -1,7 +1,6 @@
 -- What was said and heard tells which pages were taken, which were acknowledged, and how an attempt ended.
 use Rattle.std.specs.Prelude.{◌≡◌, ◌≢◌, ℕ, true, List, [], ◌∷◌, ◌++◌, Option}
 use Rattle.causes.specs.Lists.{IsFrontOf}
-use Rattle.causes.specs.declared.stored.Stored.TheVariants as stored
 use Rattle.station_base.specs.CivilMinute.{CivilMinute}
 use Rattle.serial_link.specs.declared.talk.TalkItem.{TalkItem}
 use Rattle.serial_link.specs.declared.talk.TalkItem.TheVariants.{Said}
@@ -9,7 +8,8 @@ use Rattle.vantage_frames.specs.StampFrame.{stamp_frame_of}
 use Rattle.wake_retry.specs.Parts.{heard}
 use Rattle.dmpaft_driver.specs.declared.outcome.DumpEnd.{DumpEnd}
 use Rattle.dmpaft_driver.specs.Attempt.{End, Attempt}
-use Rattle.dmpaft_driver.specs.Batch.{batches, answered}
+use Rattle.dmpaft_driver.specs.Batch.{batches}
+use Rattle.dmpaft_driver.specs.Keeper.{kept_in}
 use Rattle.dmpaft_driver.specs.Outcome.{Ended, IsCutAfter}
 use Rattle.dmpaft_driver.specs.Gathered.{steps_of, RefusesLast}
 
@@ -44,12 +44,12 @@ pub record IsAttempt (after : Option CivilMinute) (talk : List TalkItem) (place 
   pub ends : Ended (λ t pages e. Attempt (stamp_frame_of after) t place pages e) end talk taken
   pub refused : RefusesLast end after place taken
 
--- the batches of acknowledged pages were handed over before all others, and each of them was kept
+-- the batches of acknowledged pages were kept before all others
 abbrev pub AcknowledgedAreKept : Type 0
 AcknowledgedAreKept = (after : Option CivilMinute) (talk : List TalkItem) (place place' : ℕ)
     (taken pages : List (List ℕ)) (end : DumpEnd) → IsAttempt after talk place taken end
     → Acknowledges (stamp_frame_of after) talk place' pages
-    → IsFrontOf (answered stored.Done (batches after place' pages)) (steps_of end after place taken)
+    → IsFrontOf (batches after place' pages) (kept_in (steps_of end after place taken))
 
 -- of pages that were taken the first were acknowledged, where others were taken after them or the last was not refused
 abbrev pub TakenAreAcknowledged : Type 0

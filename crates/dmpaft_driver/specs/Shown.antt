@@ -14,7 +14,7 @@ use Rattle.dmpaft_driver.specs.declared.stage.Stage.TheVariants as stage
 use Rattle.dmpaft_driver.specs.declared.pump.Pump.{Pump}
 use Rattle.dmpaft_driver.specs.declared.action.Action.{Action}
 use Rattle.dmpaft_driver.specs.declared.action.Action.TheVariants as action
-use Rattle.dmpaft_driver.specs.Keeper.{Delivery, last_kept}
+use Rattle.dmpaft_driver.specs.Keeper.{Handed, kept_all, last_kept}
 use Rattle.dmpaft_driver.specs.Batch.{slots, newest, skipped, batches, answered, all_skipped, EndsGiving}
 use Rattle.dmpaft_driver.specs.Phases.{part_of, quiets_of, most_of, words_of, span_of, rest_of, settles, Fits, Speaks}
 use Rattle.dmpaft_driver.specs.Phases.{Hears}
@@ -26,12 +26,12 @@ abbrev pub no_tally : Tally
 no_tally = record { pages = 0; skipped = 0; last = None }
 
 -- the batches of these pages, each kept
-abbrev pub all_kept : Option CivilMinute → ℕ → List (List ℕ) → List Delivery
-all_kept after place taken = answered stored.Done (batches after place taken)
+abbrev pub all_kept : Option CivilMinute → ℕ → List (List ℕ) → Handed
+all_kept after place taken = kept_all (batches after place taken)
 
 -- Pages and skipped slots are counted on from a first tally, and the last record kept is that of these batches.
 pub record Tallied (start : Tally) (after : Option CivilMinute) (place : ℕ) (taken : List (List ℕ))
-    (steps : List Delivery) (pump : Pump) : Type 0 where
+    (steps : Handed) (pump : Pump) : Type 0 where
   pub asked : pump.after ≡ after
   pub most_pages : length taken ≤ 513
   pub pages : pump.tally.pages ≡ start.pages + length taken
@@ -40,7 +40,7 @@ pub record Tallied (start : Tally) (after : Option CivilMinute) (place : ℕ) (t
 
 -- And what is needed for the next page.
 pub record Counts (start : Tally) (after : Option CivilMinute) (place : ℕ) (taken : List (List ℕ))
-    (steps : List Delivery) (pump : Pump) : Type 0 where
+    (steps : Handed) (pump : Pump) : Type 0 where
   pub tallied : Tallied start after place taken steps pump
   pub number : pump.number ≡ length taken
   pub from : pump.from ≡ next_place place taken

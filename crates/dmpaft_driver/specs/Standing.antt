@@ -4,7 +4,7 @@ use Rattle.station_base.specs.CivilMinute.{CivilMinute}
 use Rattle.serial_link.specs.declared.talk.TalkItem.{TalkItem}
 use Rattle.causes.specs.declared.stored.Stored.{Stored}
 use Rattle.dmpaft_driver.specs.declared.pump_end.PumpEnd.{PumpEnd}
-use Rattle.dmpaft_driver.specs.Keeper.{Delivery, delivery}
+use Rattle.dmpaft_driver.specs.Keeper.{Handed, one_batch}
 use Rattle.dmpaft_driver.specs.Batch.{batches, answered}
 use Rattle.dmpaft_driver.specs.Attempt.{End}
 use Rattle.dmpaft_driver.specs.Exact.{end_of}
@@ -48,19 +48,19 @@ abbrev pub CanEnd : Option CivilMinute → State → ℕ → List (List ℕ) →
 CanEnd after s place taken = (rest : List TalkItem) × (answers : List Stored) × (end : PumpEnd)
     × (pump_from after s rest answers ≡ Over place taken end) × (end_of end ≢ End.Refused)
 
--- what the keeper was given so far
-abbrev pub handed : Option CivilMinute → State → List Delivery
+-- what was handed over so far
+abbrev pub handed : Option CivilMinute → State → Handed
 handed after (Saying part i others) = all_kept after (place_in part) (taken_in part)
 handed after (Hearing part bytes run) = all_kept after (place_in part) (taken_in part)
 handed after (Keeping more place taken page) = all_kept after place taken
 handed after (Over place taken end) = answered (answer_of end) (batches after place taken)
-handed after Astray = []
+handed after Astray = Handed.Nothing
 
--- what it is given where it answers so
-abbrev pub gives : Option CivilMinute → State → List Stored → List Delivery
-gives after (Saying part i others) answers = []
-gives after (Hearing part bytes run) answers = []
-gives after (Keeping more place taken page) [] = []
-gives after (Keeping more place taken page) (answer ∷ answers) = delivery (batch_of after place taken page) answer ∷ []
-gives after (Over place taken end) answers = []
-gives after Astray answers = []
+-- what is handed over where it is answered so
+abbrev pub gives : Option CivilMinute → State → List Stored → Handed
+gives after (Saying part i others) answers = Handed.Nothing
+gives after (Hearing part bytes run) answers = Handed.Nothing
+gives after (Keeping more place taken page) [] = Handed.Nothing
+gives after (Keeping more place taken page) (answer ∷ answers) = one_batch answer (batch_of after place taken page)
+gives after (Over place taken end) answers = Handed.Nothing
+gives after Astray answers = Handed.Nothing

@@ -1,5 +1,5 @@
 -- One turn of a pump with a link and a keeper.
-use Rattle.std.specs.Prelude.{◌≡◌, ◌≢◌, ◌⊎◌, ℕ, ◌+◌, ◌≤◌, true, List, [], ◌∷◌, length, map, Option, Some, None}
+use Rattle.std.specs.Prelude.{◌≡◌, ◌≢◌, ◌⊎◌, ℕ, ◌+◌, ◌≤◌, true, List, [], ◌∷◌, map, Option, Some, None}
 use Rattle.station_base.specs.CivilMinute.{CivilMinute}
 use Rattle.archive_record.specs.Reading.{stamp_in}
 use Rattle.serial_link.specs.declared.talk.TalkItem.{TalkItem}
@@ -14,7 +14,7 @@ use Rattle.dmpaft_driver.specs.declared.outcome.Tally.{Tally}
 use Rattle.dmpaft_driver.specs.declared.pump_end.PumpEnd.{PumpEnd}
 use Rattle.dmpaft_driver.specs.declared.pump_end.PumpEnd.TheVariants as pump_end
 use Rattle.dmpaft_driver.specs.declared.pump.Pump.{Pump}
-use Rattle.dmpaft_driver.specs.Keeper.{last_kept}
+use Rattle.dmpaft_driver.specs.Keeper.{Handed, count, last_kept}
 use Rattle.station_base.specs.LastStamp.{Rises}
 use Rattle.dmpaft_driver.specs.Outcome.{EndsSaying}
 use Rattle.dmpaft_driver.specs.Pump.{State, Keeping, Over, batch_of, pump_from}
@@ -95,8 +95,10 @@ pub record Turns {L K : Type 0} (traffic : Traffic L) (ledger : Ledger K) (resul
   pub answers : List Stored
   pub adds : Adds traffic old.link said new.link
   pub handed : ledger.keeps old.keeper (gives after s answers) new.keeper
+  -- where nothing was handed over the keeper is the same
+  pub still : gives after s answers ≡ Handed.Nothing → new.keeper ≡ old.keeper
   pub newest : ledger.last new.keeper ≡ last_kept (gives after s answers) (ledger.last old.keeper)
-  pub few : ledger.room old.keeper ≤ ledger.room new.keeper + length (gives after s answers)
+  pub few : ledger.room old.keeper ≤ ledger.room new.keeper + count (gives after s answers)
   pub turns : TurnsTo result start after s said answers old.pump new.pump
 
 -- after a listening

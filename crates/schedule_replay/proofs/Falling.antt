@@ -1,6 +1,6 @@
 -- The minutes at which the records of a schedule fall due, as far as its lines have said.
 use Rattle.std.proofs.Common.{◌≡◌, ℕ, ◌+◌, ◌-◌, ◌*◌, ◌≤◌, ◌<◌, Bool, true, false, Option, Some, None, List, [], ◌∷◌, ◌++◌, length, refl, sym, ◌∙◌, subst, arith, lit≤}
-use Rattle.std.specs.Prelude.{ℤ, nat_lt, nat_le, not, ◌||◌, if◌then◌else◌}
+use Rattle.std.specs.Prelude.{ℤ, nat_lt, nat_le, not, ◌||◌}
 use Rattle.std.specs.List.{list_any}
 use Rattle.std.proofs.lemmas.Bool.Decides.{nat_tests}
 use Rattle.station_base.specs.CivilMinute.{CivilMinute, minute_of, last_minute}

@@ -1,6 +1,8 @@
 -- Writes behind the first eight bytes of a file leave its version.
 use Rattle.std.proofs.Common.{◌≡◌, ℕ, zero, suc, ◌+◌, ◌*◌, ◌<◌, ◌≤◌, ◌==◌, Bool, true, false, if◌then◌else◌, inl, List, [], ◌∷◌, ◌++◌, length, get_or, Option, Some, None, refl, sym, ◌∙◌, ap, subst, arith, take, length-append}
 use Rattle.std.specs.Prelude.{◌&&◌, ◌||◌, codes, slice_index}
+use Rattle.causes.specs.declared.stored.Stored.{Stored}
+use Rattle.causes.specs.declared.stored.Stored.TheVariants as stored
 use Rattle.disk_model.specs.Calls.{DiskCall, attached, measured, was_read, wrote, synced}
 use Rattle.disk_model.specs.Disk.{LeavesNow}
 use Rattle.disk_model.specs.DiskState.{must_fail}
@@ -14,7 +16,7 @@ use Rattle.disk_model.specs.declared.disk.Disked.{Disked}
 use Rattle.disk_model.specs.declared.mem_disk.MemDisk.{MemDisk}
 use Rattle.disk_model.specs.declared.stopping.Stopping.{Stopping}
 use Rattle.disk_model.specs.Stored.{disk_answer}
-use Rattle.dmpaft_driver.specs.Keeper.{Delivery}
+use Rattle.dmpaft_driver.specs.Keeper.{Handed, answer_for}
 use Rattle.gated_log.proofs.Chains.{first_front}
 use Rattle.gated_log.proofs.Versions.{not_first}
 use Rattle.gated_log.specs.Calls.{up_to, four_changes}
@@ -24,7 +26,7 @@ use Rattle.gated_log.specs.Version.{version_of}
 use Rattle.gated_log.specs.declared.version.Version.TheVariants.{Second}
 use Rattle.settings_file.specs.StationSettings.{StationSettings}
 use Rattle.station_base.specs.declared.row.Row.{Row}
-use Rattle.station_session.specs.Batches.{changes_for, batch_changes, begun_for, kept_of, slots_more}
+use Rattle.station_session.specs.Batches.{changes_for, batch_changes, begun_for, slots_more}
 use Rattle.station_session.specs.Records.{stored_rows}
 use Rattle.weather_book.specs.Rows.{slot_total}
 use Rattle.weather_book.specs.Stands.{StandsOn}
@@ -146,7 +148,7 @@ second_left book d e rows calls stands went behind c now =
     let new = begins_after image (platter_within d) (platter_within e) (stop_effects (Some (stopping_state_of d)) calls) (effects_behind (Some (stopping_state_of d)) calls behind) went.platter old in
     not_first c (stand_same 0 (codes "DVARCH01") c image (λ p low high. new.same c (image_of e c now) p high) ∙ begins)
 
--- the changes of a batch, and of the batches of a round, are behind the first eight bytes
+-- the first changes of a batch, so many, are behind the first eight bytes
 four_behind : (gate len j : ℕ) (answer : Disked) → 8 ≤ gate → AreBehind (up_to (take j (four_changes gate len)) answer)
 four_behind gate len zero answer far = tt
 four_behind gate len (suc zero) answer far = (omega (arith, far), tt)
@@ -155,10 +157,15 @@ four_behind gate len (suc (suc (suc zero))) answer far = (omega (arith, far), (f
 four_behind gate len (suc (suc (suc (suc zero)))) answer far = (omega (arith, far), (far, tt))
 four_behind gate len (suc (suc (suc (suc (suc j))))) answer far = (omega (arith, far), (far, tt))
 
-pub changes_behind : (settings : StationSettings) (failed : ℕ) (rows : List Row) (steps : List Delivery) → AreBehind (changes_for settings failed rows steps)
-changes_behind settings failed rows [] = tt
-changes_behind settings failed rows (s ∷ ss) =
-    behind_join (batch_changes s.answer failed (slot_total rows) (slots_more rows (stored_rows settings s.rows)))
-    (changes_for settings failed (rows ++ stored_rows settings (kept_of s.answer s.rows)) ss)
-    (four_behind (176 * (slot_total rows + 1)) (176 * slots_more rows (stored_rows settings s.rows)) (begun_for s.answer failed) (disk_answer s.answer) (omega arith))
-    (changes_behind settings failed (rows ++ stored_rows settings (kept_of s.answer s.rows)) ss)
+-- and all of them, as it was answered
+batch_behind : (answer : Stored) (failed slots count : ℕ) → AreBehind (batch_changes answer failed slots count)
+batch_behind answer failed slots count = four_behind (176 * (slots + 1)) (176 * count) (begun_for answer failed) (disk_answer answer) (omega arith)
+
+-- and those of the batches of a round
+pub changes_behind : (settings : StationSettings) (failed : ℕ) (rows : List Row) (steps : Handed) → AreBehind (changes_for settings failed rows steps)
+changes_behind settings failed rows Handed.Nothing = tt
+changes_behind settings failed rows (Handed.Kept records more) =
+    let slots = slots_more rows (stored_rows settings records) in
+    behind_join (batch_changes stored.Done failed (slot_total rows) slots) (changes_for settings failed (rows ++ stored_rows settings records) more)
+    (batch_behind stored.Done failed (slot_total rows) slots) (changes_behind settings failed (rows ++ stored_rows settings records) more)
+changes_behind settings failed rows (Handed.Refused records why) = batch_behind (answer_for why) failed (slot_total rows) (slots_more rows (stored_rows settings records))

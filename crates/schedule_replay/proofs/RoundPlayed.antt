@@ -17,18 +17,17 @@ use Rattle.weather_book.specs.Rising.{last_stamp}
 use Rattle.weather_book.specs.Stands.{HasRows, StandsOn}
 use Rattle.weather_book.proofs.Adds.{has_rows}
 use Rattle.weather_book.specs.declared.book.Book.{Book}
-use Rattle.dmpaft_driver.specs.Keeper.{Delivery as Given}
+use Rattle.dmpaft_driver.specs.Keeper.{Handed}
 use Rattle.station_session.specs.declared.report.Report.{Report}
 use Rattle.station_session.specs.declared.session.Session.{Session}
 use Rattle.station_session.specs.declared.round_end.RoundEnd.{RoundEnd}
 use Rattle.station_session.specs.declared.round_end.RoundEnd.TheVariants as round_end
 use Rattle.station_session.specs.Session.{StandsFor as stands_for, book_of, held, settings_of}
-use Rattle.station_session.specs.Attempts.{Tried, Attempts, all_said, all_batches, page_count, skip_count}
+use Rattle.station_session.specs.Attempts.{Tried, all_said, all_batches, page_count, skip_count}
 use Rattle.station_session.specs.Batches.{Fit, IsBegun, all_records, changes_for, kept_count, kept_records, last_answer}
 use Rattle.station_session.specs.Holding.{rows_with}
 use Rattle.station_session.specs.Records.{stored_rows}
 use Rattle.station_session.specs.Round.{AnswersRound, LeavesRound, Serves, answer_by, round_host, stale_with}
-use Rattle.station_session.proofs.Ends.{in_order, kept_is}
 use Rattle.station_session.proofs.Stamps.{same_count}
 use Rattle.station_sim.specs.declared.sim.Sim.{Sim}
 use Rattle.station_sim.specs.declared.unseen.Unseen.{Unseen}
@@ -154,7 +153,7 @@ module _ (fates : code.Fates) (stop : Option Stop) (s0 s2 : Session) (l0 l1 l2 l
   sv : Serves told stopping_medium s.archive.rows end (round_host s0 l1 d1) (round_host s2 l2 d2) report
   sv = c.serves s.archive.rows may.session.stands.stands_for
 
-  abbrev batches_given : List Tried → List Given
+  abbrev batches_given : List Tried → Handed
   batches_given ts = all_batches (last_stamp s.archive.rows) ts
 
   went : (v : Line) × ConsoleTalk (fates_of fates) (all_said sv.tries) (started s.line) v × StandsFor l2 v
@@ -172,7 +171,7 @@ module _ (fates : code.Fates) (stop : Option Stop) (s0 s2 : Session) (l0 l1 l2 l
   inner_same = ap (λ (x : StoppingState). x.inner) c.armed ∙ inner_stays stop (stopping_state_of d0)
 
   passes : NotPast stop (kept_count (batches_given sv.tries))
-  passes = round_passes (settings_of s0) s.archive.rows sv.tries end stop sv.stores.failed (stopping_state_of d1) (stopping_state_of d2) sv.attempts c.is_a_stop armed sv.stores.went_on.state
+  passes = round_passes (settings_of s0) s.archive.rows sv.tries stop sv.stores.failed (stopping_state_of d1) (stopping_state_of d2) c.is_a_stop armed sv.stores.went_on.state
 
   not_link : end ≢ round_end.LinkFault
   not_link is = absurd (let z : Rose 0 0 = c.answers.fault.rose is in omega (arith, z))
@@ -262,7 +261,7 @@ module _ (fates : code.Fates) (stop : Option Stop) (s0 s2 : Session) (l0 l1 l2 l
           attempts = sv.made ∙ ap length (sym y.made) ∙ tried_count y.tried;
           pages = sv.tally.pages ∙ ap page_count (sym y.made);
           skipped = sv.tally.skipped ∙ ap skip_count (sym y.made);
-          acked_are = omega (arith, sv.kept, c.before, may.session.stands.stands_for.held_is, kept_is (last_stamp s.archive.rows) sv.tries, count, long);
+          acked_are = omega (arith, sv.kept, c.before, may.session.stands.stands_for.held_is, count, long);
           harmed = c.harmed_is went.0 went.2;
           ends = y.ends;
         };
@@ -277,19 +276,16 @@ module _ (fates : code.Fates) (stop : Option Stop) (s0 s2 : Session) (l0 l1 l2 l
   went_on : went.0.unseen ≡ None → end ≢ round_end.DiskFault → IsKnown end → AreFew records s.archive.rows (batches_given sv.tries)
       → IsPlayedOut (settings_of s0) (fates_of fates) (left_in fates.mids.items) stop openings s (round_host s0 l0 d0) (record { end = end; report = report; harmed = harmed; unseen = unseen }) (round_host s2 l3 d3)
   went_on un none known few =
-      let steps = batches_given sv.tries in
       let sure : last_answer (batches_given sv.tries) ≢ stored.DiskFault = λ z. none (answers_fault end (sym sv.answered ∙ z)) in
-      let order = in_order 0 (last_stamp s.archive.rows) sv.tries end sv.attempts in
-      let q = round_goes stopping_medium (settings_of s0) s.archive sv.tries end stop (stopping_state_of d1).pick d1 d2 (book_of s0) (book_of s2) report.marks.items (stopping_state_of d1) (stopping_state_of d2) sv.attempts none sure c.is_a_stop begun_changes sv.stores (λ failed h. h.state) (has_room few) in
+      let q = round_goes stopping_medium (settings_of s0) s.archive sv.tries end stop (stopping_state_of d1).pick d1 d2 (book_of s0) (book_of s2) report.marks.items (stopping_state_of d1) (stopping_state_of d2) none sure c.is_a_stop begun_changes sv.stores (λ failed h. h.state) (has_room few) in
       let y = session_law (settings_of s0) (fates_of fates) stop s.archive (started s.line) went.0 sv.tries end sv.attempts fit went.1 known q.0 in
       let off = c.went_on q.1.goes in
       let on2 = sv.stores.stands sure started_rows in
-      let rows_are = rows_after (settings_of s0) stop 0 s.archive (batches_given sv.tries) order sure in
+      let rows_are = rows_after (settings_of s0) stop 0 s.archive (batches_given sv.tries) sure in
       let has = reads_rows (book_of s2) d2 (rows_with (settings_of s0) s.archive.rows (batches_given sv.tries)) d2.disk.bytes.items on2 refl in
-      let takes = chain_takes (settings_of s0) s.archive.rows (batches_given sv.tries) sv.stores.failed (stopping_state_of d1) (stopping_state_of d2) order sure sv.stores.went_on.state in
+      let takes = chain_takes (settings_of s0) s.archive.rows (batches_given sv.tries) sv.stores.failed (stopping_state_of d1) (stopping_state_of d2) sure sv.stores.went_on.state in
       let keeps = calls_keep (changes_for (settings_of s0) sv.stores.failed s.archive.rows (batches_given sv.tries)) (stopping_state_of d1) (stopping_state_of d2) sv.stores.went_on.state in
-      let more = changes_after (settings_of s0) stop 0 s.archive (batches_given sv.tries) order sure in
-      let x = left_after (settings_of s0) stop 0 s.archive (batches_given sv.tries) in
+      let more = changes_after (settings_of s0) stop 0 s.archive (batches_given sv.tries) sure in
       let limits_are : limits_of d3 ≡ limits_of d0 = ap (λ (z : StoppingState). z.inner.limits) off.state ∙ keeps.limits ∙ ap (λ z. z.limits) inner_same in
       let count = same_count (settings_of s0) (kept_records (batches_given sv.tries)) (kept_read (batches_given sv.tries) (all_read (last_stamp s.archive.rows) sv.tries)) in
       let long = ap length rows_are ∙ length-append s.archive.rows (stored_rows (settings_of s0) (kept_records (batches_given sv.tries))) in
@@ -337,18 +333,17 @@ module _ (fates : code.Fates) (stop : Option Stop) (s0 s2 : Session) (l0 l1 l2 l
   stopped_at k stop_is un is few =
       let fault : last_answer (batches_given sv.tries) ≡ stored.DiskFault = sv.answered ∙ ap answer_by is in
       let begun = subst (λ (x : Stored). IsBegun x sv.stores.failed) fault sv.stores.begun in
-      let attempts = subst (Attempts 0 (last_stamp s.archive.rows) sv.tries) is sv.attempts in
       let room0 = has_room few in
       let pick_is : (stopping_state_of d1).pick ≡ k.pick = ap (λ (x : StoppingState). x.pick) c.armed ∙ ap (λ (z : Option Stop). (armed_with z (stopping_state_of d0)).pick) stop_is in
       let room : HasRoom (settings_of s0) k.change k.pick s.archive (batches_given sv.tries) (stopping_state_of d1)
       = subst (λ (n : ℕ). HasRoom (settings_of s0) n k.pick s.archive (batches_given sv.tries) (stopping_state_of d1)) (ap armed_by stop_is)
       (subst (λ (n : ℕ). HasRoom (settings_of s0) (armed_by stop) n s.archive (batches_given sv.tries) (stopping_state_of d1)) pick_is room0) in
       let cut = chain_stopped (settings_of s0) s.archive (batches_given sv.tries) sv.stores.failed (stopping_state_of d1) (stopping_state_of d2) k.change k.pick (stopping_state_of d1).inner.limits.capacity
-      (in_order 0 (last_stamp s.archive.rows) sv.tries end sv.attempts) fault begun.0 begun.1
+      fault begun.0 begun.1
       (has_armed (settings_of s0) k.change k.pick s.archive (batches_given sv.tries) (stopping_state_of d1) room)
       (has_length (settings_of s0) k.change k.pick s.archive (batches_given sv.tries) (stopping_state_of d1) room) sv.stores.went_on.state in
       let again = c.stopped cut.halted in
-      let q = round_stops stopping_medium (settings_of s0) s.archive sv.tries k d1 d2 (book_of s0) (book_of s2) report.marks.items (stopping_state_of d1) (stopping_state_of d2) again.image attempts fault begun_changes sv.stores started_rows (λ failed h. h.state) room again.left again.restart in
+      let q = round_stops stopping_medium (settings_of s0) s.archive sv.tries k d1 d2 (book_of s0) (book_of s2) report.marks.items (stopping_state_of d1) (stopping_state_of d2) again.image fault begun_changes sv.stores started_rows (λ failed h. h.state) room again.left again.restart in
       let stops_at : StopsAt stop end (kept_count (batches_given sv.tries))
       = subst (λ (z : Option Stop). StopsAt z end (kept_count (batches_given sv.tries))) (sym stop_is) (subst (λ (e : RoundEnd). StopsAt (Some k) e (kept_count (batches_given sv.tries))) (sym is) q.0) in
       let y = session_law (settings_of s0) (fates_of fates) stop s.archive (started s.line) went.0 sv.tries end sv.attempts fit went.1 (subst IsKnown (sym is) tt) stops_at in
@@ -356,7 +351,6 @@ module _ (fates : code.Fates) (stop : Option Stop) (s0 s2 : Session) (l0 l1 l2 l
       let ends : EndsAs (Some k) round_end.DiskFault y.ending = subst (λ (e : RoundEnd). EndsAs (Some k) e y.ending) is (subst (λ (z : Option Stop). EndsAs z end y.ending) stop_is y.ends) in
       let keeps = calls_keep (changes_for (settings_of s0) sv.stores.failed s.archive.rows (batches_given sv.tries)) (stopping_state_of d1) (stopping_state_of d2) sv.stores.went_on.state in
       let limits_are : limits_of d3 ≡ limits_of d0 = ap (λ (z : StoppingState). z.inner.limits) again.state ∙ keeps.limits ∙ ap (λ z. z.limits) inner_same in
-      let size_is = q.1.size in
       let at_changes = ap (λ (z : StoppingState). z.inner.changes) again.state in
       let at_bytes = ap (λ (z : StoppingState). z.inner.bytes) again.state in
       let limits_same = ap (λ (z : StoppingState). z.inner.limits) again.state in
@@ -397,7 +391,7 @@ module _ (fates : code.Fates) (stop : Option Stop) (s0 s2 : Session) (l0 l1 l2 l
 
       at_stop : (k : Option Stop) → stop ≡ k → end ≡ round_end.DiskFault → IsPlayedOut (settings_of s0) (fates_of fates) (left_in fates.mids.items) stop openings s (round_host s0 l0 d0) (record { end = end; report = report; harmed = harmed; unseen = unseen }) (round_host s2 l3 d3)
       at_stop None none is =
-          absurd (round_sure stopping_medium (settings_of s0) s.archive sv.tries end (stopping_state_of d1).pick d1 d2 (book_of s0) (book_of s2) report.marks.items (stopping_state_of d1) (stopping_state_of d2) sv.attempts sv.stores (λ failed h. h.state)
+          absurd (round_sure stopping_medium (settings_of s0) s.archive sv.tries (stopping_state_of d1).pick d1 d2 (book_of s0) (book_of s2) report.marks.items (stopping_state_of d1) (stopping_state_of d2) sv.stores (λ failed h. h.state)
           (subst (λ (n : ℕ). HasRoom (settings_of s0) n (stopping_state_of d1).pick s.archive (batches_given sv.tries) (stopping_state_of d1)) (ap armed_by none) (has_room counted.1)) (sv.answered ∙ ap answer_by is))
       at_stop (Some k) some is = stopped_at k some un is counted.1
 

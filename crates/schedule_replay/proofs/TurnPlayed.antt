@@ -1,11 +1,11 @@
 -- What one turn of a round of a run comes to.
-use Rattle.std.proofs.Common.{◌≡◌, inl, inr, Bool, true, false, List, [], ◌++◌, Option, Some, refl, ◌∙◌, ap, subst, append-nil}
+use Rattle.std.proofs.Common.{◌≡◌, ℕ, inl, inr, Bool, true, false, List, [], ◌++◌, Option, Some, refl, ◌∙◌, ap, subst, append-nil}
 use Rattle.disk_model.specs.Stopping.{stopping_medium, stopping_state_of}
 use Rattle.disk_model.specs.declared.mem_disk.MemDisk.{MemDisk}
 use Rattle.disk_model.specs.declared.stopping.Stopping.{Stopping}
 use Rattle.serial_link.specs.declared.talk.TalkItem.{TalkItem}
 use Rattle.station_base.specs.CivilMinute.{CivilMinute}
-use Rattle.dmpaft_driver.specs.Keeper.{Delivery}
+use Rattle.dmpaft_driver.specs.Keeper.{Handed, kept_all}
 use Rattle.weather_book.specs.Book.{last_of}
 use Rattle.station_session.specs.declared.round.Turn.{Turn}
 use Rattle.station_session.specs.declared.round.Turn.TheVariants as turn
@@ -53,44 +53,44 @@ is_over fates stop old end playing now line line' disk disk' u t a l = record {
 }
 
 -- what a turn said and heard, and that a turn without a batch begins no change
-talk_grew : (r : Turn) (last : Option CivilMinute) (talk : List TalkItem) (kept : List Delivery) (playing now : Playing) (line line' : Sim) (disk disk' : Stopping MemDisk) (t : TakesTurn told stopping_medium r last talk kept (desk_of playing line disk) (desk_of now line' disk'))
+talk_grew : (r : Turn) (last : Option CivilMinute) (talk : List TalkItem) (kept : List (List (List ℕ))) (playing now : Playing) (line line' : Sim) (disk disk' : Stopping MemDisk) (t : TakesTurn told stopping_medium r last talk kept (desk_of playing line disk) (desk_of now line' disk'))
     → line'.talk.items ≡ line.talk.items ++ t.said
 talk_grew r last talk kept playing now line line' disk disk' t = let e : Some line'.talk.items ≡ Some (line.talk.items ++ t.said) = t.adds.told in cc
 
-disk_still : (r : Turn) (last : Option CivilMinute) (talk : List TalkItem) (kept : List Delivery) (playing now : Playing) (line line' : Sim) (disk disk' : Stopping MemDisk) (t : TakesTurn told stopping_medium r last talk kept (desk_of playing line disk) (desk_of now line' disk'))
-    → t.given ≡ [] → stopping_medium.moment disk' ≡ stopping_medium.moment disk
+disk_still : (r : Turn) (last : Option CivilMinute) (talk : List TalkItem) (kept : List (List (List ℕ))) (playing now : Playing) (line line' : Sim) (disk disk' : Stopping MemDisk) (t : TakesTurn told stopping_medium r last talk kept (desk_of playing line disk) (desk_of now line' disk'))
+    → t.given ≡ Handed.Nothing → stopping_medium.moment disk' ≡ stopping_medium.moment disk
 disk_still r last talk kept playing now line line' disk disk' t none =
-    let whole = subst (λ (g : List Delivery). Chain (AddsBatch stopping_medium (settings_of playing.session)) (holding playing.session.book disk playing.report.marks.items) g (holding now.session.book disk' now.report.marks.items)) none t.chain in
+    let whole = subst (λ (g : Handed). Chain (AddsBatch stopping_medium (settings_of playing.session)) (holding playing.session.book disk playing.report.marks.items) g (holding now.session.book disk' now.report.marks.items)) none t.chain in
     ap (λ (h : Holding (Stopping MemDisk)). stopping_medium.moment h.disk) whole
 
 silent_talk : (line line' : Sim) (said : List TalkItem) → line'.talk.items ≡ line.talk.items ++ said → said ≡ [] → line'.talk.items ≡ line.talk.items
 silent_talk line line' said grew silent = grew ∙ ap (λ z. line.talk.items ++ z) silent ∙ append-nil line.talk.items
 
 -- one call of the link or of the disk was made
-pub one_call : (last : Option CivilMinute) (talk : List TalkItem) (kept : List Delivery) (playing now : Playing) (line line' : Sim) (disk disk' : Stopping MemDisk)
+pub one_call : (last : Option CivilMinute) (talk : List TalkItem) (kept : List (List (List ℕ))) (playing now : Playing) (line line' : Sim) (disk disk' : Stopping MemDisk)
     → TakesTurn told stopping_medium turn.More last talk kept (desk_of playing line disk) (desk_of now line' disk') → MakesOneCall line disk line' disk'
-one_call last talk kept playing now line line' disk disk' t = by t.stands.1
+one_call last talk kept playing now line line' disk disk' t = by t.stands.3
   where
     grew : line'.talk.items ≡ line.talk.items ++ t.said
     grew = talk_grew turn.More last talk kept playing now line line' disk disk' t
 
-    by : IsOneCallOrBatch t.said t.given → MakesOneCall line disk line' disk'
-    by (inl (one, none)) = inl (t.said, one, grew, disk_still turn.More last talk kept playing now line line' disk disk' t none)
+    by : IsOneCallOrBatch t.said t.stands.0 → MakesOneCall line disk line' disk'
+    by (inl (one, none)) = inl (t.said, one, grew, disk_still turn.More last talk kept playing now line line' disk disk' t (t.stands.1 ∙ ap kept_all none))
     by (inr (silent, rows, is)) = inr (silent_talk line line' t.said grew silent)
 
 -- a turn says or hears, or stores a batch, and not both
-pub says_or_stores : (r : Turn) (last : Option CivilMinute) (talk : List TalkItem) (kept : List Delivery) (playing now : Playing) (line line' : Sim) (disk disk' : Stopping MemDisk)
+pub says_or_stores : (r : Turn) (last : Option CivilMinute) (talk : List TalkItem) (kept : List (List (List ℕ))) (playing now : Playing) (line line' : Sim) (disk disk' : Stopping MemDisk)
     → TakesTurn told stopping_medium r last talk kept (desk_of playing line disk) (desk_of now line' disk') → SaysOrStores line disk line' disk'
-says_or_stores turn.More last talk kept playing now line line' disk disk' t = by t.stands.1
+says_or_stores turn.More last talk kept playing now line line' disk disk' t = by t.stands.3
   where
-    by : IsOneCallOrBatch t.said t.given → SaysOrStores line disk line' disk'
-    by (inl (one, none)) = inr (disk_still turn.More last talk kept playing now line line' disk disk' t none)
+    by : IsOneCallOrBatch t.said t.stands.0 → SaysOrStores line disk line' disk'
+    by (inl (one, none)) = inr (disk_still turn.More last talk kept playing now line line' disk disk' t (t.stands.1 ∙ ap kept_all none))
     by (inr (silent, rows, is)) = inl (silent_talk line line' t.said (talk_grew turn.More last talk kept playing now line line' disk disk' t) silent)
 says_or_stores (turn.Ended end) last talk kept playing now line line' disk disk' t = by t.stands.1
   where
     by : IsOneAtMost t.said t.given → SaysOrStores line disk line' disk'
     by (inl none) = inr (disk_still (turn.Ended end) last talk kept playing now line line' disk disk' t none)
-    by (inr (silent, step, is)) = inl (silent_talk line line' t.said (talk_grew (turn.Ended end) last talk kept playing now line line' disk disk' t) silent)
+    by (inr (silent, answer, rows, is)) = inl (silent_talk line line' t.said (talk_grew (turn.Ended end) last talk kept playing now line line' disk disk' t) silent)
 
 -- a disk that is made to rest begins no change
 pub rest_still : (disk disk' : Stopping MemDisk) → ((stopping_state_of disk).stopped ≡ false → IsDisarmed disk disk') → ((stopping_state_of disk).stopped ≡ true → IsBegunAgain disk disk') → stopping_medium.moment disk' ≡ stopping_medium.moment disk

@@ -1,12 +1,11 @@
 -- A round of a run that is taken turn by turn.
-use Rattle.std.specs.Prelude.{◌≡◌, ◌⊎◌, List, ◌++◌}
+use Rattle.std.specs.Prelude.{◌≡◌, ℕ, ◌⊎◌, List, ◌++◌}
 use Rattle.std.specs.declared.option.Option.{Option}
 use Rattle.disk_model.specs.Disk.{MayBegin, Stays}
 use Rattle.disk_model.specs.Stopping.{stopping_medium, stopping_state_of}
 use Rattle.disk_model.specs.declared.mem_disk.MemDisk.{MemDisk}
 use Rattle.disk_model.specs.declared.stopping.Stopping.{Stopping}
 use Rattle.serial_link.specs.declared.talk.TalkItem.{TalkItem}
-use Rattle.dmpaft_driver.specs.Keeper.{Delivery}
 use Rattle.dmpaft_driver.specs.Turning.{IsOneCall}
 use Rattle.weather_book.specs.Book.{IsSameBook}
 use Rattle.station_session.specs.declared.report.Report.{Report}
@@ -48,7 +47,7 @@ pub record IsUnderWay (fates : code_fates.Fates) (stop : Option Stop) (old : Hos
   pub began : Host
   pub begins : Begins fates stop old began
   pub talk : List TalkItem
-  pub kept : List Delivery
+  pub kept : List (List (List ℕ))
   pub way : UnderWay told stopping_medium began talk kept
       (desk playing.session line disk playing.round playing.report)
 

@@ -1,5 +1,5 @@
 -- On whatever line a round goes to an end.
-use Rattle.std.proofs.Common.{◌≡◌, ◌≢◌, ℕ, zero, suc, ◌+◌, ◌<◌, ◌⊎◌, inl, inr, List, [], ◌∷◌, ◌++◌, length, Option}
+use Rattle.std.proofs.Common.{◌≡◌, ◌≢◌, ℕ, zero, suc, ◌+◌, ◌<◌, ◌⊎◌, inl, inr, List, [], ◌∷◌, length, Option}
 use Rattle.std.proofs.Common.{Some, None, refl, sym, ◌∙◌, ap, subst, arith, append-nil}
 use Rattle.station_base.specs.CivilMinute.{CivilMinute}
 use Rattle.vantage_frames.specs.StampFrame.{stamp_frame_of}
@@ -8,15 +8,18 @@ use Rattle.dmpaft_driver.specs.declared.pump_end.PumpEnd.{PumpEnd}
 use Rattle.dmpaft_driver.specs.declared.pump_end.PumpEnd.TheVariants as pump_end
 use Rattle.dmpaft_driver.specs.Attempt.{Attempt}
 use Rattle.dmpaft_driver.specs.Gathered.{keeper_answer}
-use Rattle.dmpaft_driver.specs.Keeper.{Delivery}
+use Rattle.dmpaft_driver.specs.Batch.{batches}
+use Rattle.dmpaft_driver.specs.Keeper.{Handed, join}
 use Rattle.dmpaft_driver.specs.Turning.{dump_end_of}
 use Rattle.dmpaft_driver.proofs.Dumping.{ended_as}
 use Rattle.dmpaft_driver.proofs.Exactly.{sound}
+use Rattle.dmpaft_driver.proofs.Keeping.{join_none, kept_in_all}
 use Rattle.station_session.specs.declared.round_end.RoundEnd.{RoundEnd}
 use Rattle.station_session.specs.declared.round_end.RoundEnd.TheVariants as round_end
 use Rattle.station_session.specs.Attempts.{Tried, Attempts, IsTried, end_after, batches_in, stamp_after}
 use Rattle.station_session.specs.Attempts.{all_batches, all_said}
 use Rattle.station_session.specs.Batches.{kept_records, kept_count, Fit}
+use Rattle.station_session.proofs.Ends.{went_on}
 use Rattle.station_session.proofs.Parts.{count_parts}
 use Rattle.station_sim.specs.Fates.{Fates}
 use Rattle.station_sim.specs.Joining.{talks_join}
@@ -100,7 +103,7 @@ module _ (most : ℕ) (stop : Option Stop) (f : Fates) where
       → (x : Tries last held before w) (end : RoundEnd) → end_after x.tried.end ≡ Some end → IsFollowed end
       → (end ≡ round_end.DiskFault → keeper_answer x.tried.end ≡ stored.DiskFault) → Rounds made last held before w
   last_one made last held before w less x end ends followed fault =
-      let same = sym (append-nil (batches_in last x.tried)) in
+      let same = sym (join_none (batches_in last x.tried)) in
       record {
         tried = x.tried ∷ [];
         end = end;
@@ -108,9 +111,9 @@ module _ (most : ℕ) (stop : Option Stop) (f : Fates) where
         attempts = (less, x.made, inr (ends, refl));
         followed = followed;
         talks = ap (λ t. console_talk f t w) (append-nil x.tried.said) ∙ x.talks;
-        fits = subst (λ (ss : List Delivery). Fit most held ss) same x.fits;
-        not_past = subst (λ (ss : List Delivery). NotPast stop (before + kept_count ss)) same x.not_past;
-        at = λ e. subst (λ (ss : List Delivery). ComesAt stop (before + kept_count ss)) same (x.at (fault e));
+        fits = subst (λ (ss : Handed). Fit most held ss) same x.fits;
+        not_past = subst (λ (ss : Handed). NotPast stop (before + kept_count ss)) same x.not_past;
+        at = λ e. subst (λ (ss : Handed). ComesAt stop (before + kept_count ss)) same (x.at (fault e));
       }
 
   -- a round goes on after an attempt that failed
@@ -121,8 +124,11 @@ module _ (most : ℕ) (stop : Option Stop) (f : Fates) where
   one_more made last held before w less x ends y =
       let here = batches_in last x.tried in
       let rest = all_batches (stamp_after last x.tried) y.tried in
-      let count : before + kept_count here + kept_count rest ≡ before + kept_count (here ++ rest)
-      = omega (arith, count_parts (batches_in last x.tried) (all_batches (stamp_after last x.tried) y.tried)) in
+      let bs = batches last x.tried.place x.tried.taken in
+      let all = went_on last x.tried ends in
+      let both = ap (λ (ss : Handed). kept_count (join ss rest)) all in
+      let count : before + kept_count here + kept_count rest ≡ before + kept_count (join here rest)
+      = omega (arith, both, count_parts bs rest, ap kept_count all, ap length (kept_in_all bs)) in
       record {
         tried = x.tried ∷ y.tried;
         end = y.end;

@@ -3,10 +3,9 @@ use Rattle.std.proofs.Common.{◌≡◌, ◌≢◌, ◌⊎◌, ℕ, ◌+◌, Lis
 use Rattle.causes.specs.declared.stored.Stored.{Stored}
 use Rattle.causes.specs.declared.stored.Stored.TheVariants as stored
 use Rattle.dmpaft_driver.specs.Attempt.{Attempt, End}
-use Rattle.dmpaft_driver.specs.Batch.{answered, batches}
+use Rattle.dmpaft_driver.specs.Batch.{batches}
 use Rattle.dmpaft_driver.specs.Exact.{AllDone, RefusesGiven, end_of}
-use Rattle.dmpaft_driver.specs.Gathered.{keeper_answer}
-use Rattle.dmpaft_driver.specs.Keeper.{Delivery, last_kept}
+use Rattle.dmpaft_driver.specs.Keeper.{Handed, kept_all, last_kept}
 use Rattle.dmpaft_driver.specs.OneAttempt.{IsAttempt}
 use Rattle.dmpaft_driver.specs.Pump.{State, Saying, Hearing, Keeping, Over, Astray, Settling, answered_by, begun, onward, pump_from, step}
 use Rattle.dmpaft_driver.specs.Turning.{dump_end_of}
@@ -23,7 +22,7 @@ use Rattle.station_base.specs.CivilMinute.{CivilMinute}
 use Rattle.station_session.specs.Attempts.{Attempts, EndsBefore, IsTried, Tried, all_said, batches_in, end_after, stamp_after}
 use Rattle.station_session.specs.declared.round_end.RoundEnd.{RoundEnd}
 use Rattle.station_session.specs.declared.round_end.RoundEnd.TheVariants as round
-use Rattle.station_session.proofs.Ends.{goes_on}
+use Rattle.station_session.proofs.Ends.{went_on}
 use Rattle.vantage_frames.specs.StampFrame.{stamp_frame_of}
 use Rattle.wake_retry.proofs.Endings.{same_front}
 
@@ -172,9 +171,8 @@ place_same last p q (page ∷ ps) same = ap (λ (n : ℕ). batches last n (page 
 stamps_same : (last : Option CivilMinute) (t s : Tried) → t.taken ≡ s.taken → (t.taken ≢ [] → t.place ≡ s.place) → end_after t.end ≡ None → end_after s.end ≡ None → stamp_after last t ≡ stamp_after last s
 stamps_same last t s pages places one two =
     let given : batches last t.place t.taken ≡ batches last s.place s.taken = place_same last t.place s.place t.taken places ∙ ap (λ (ps : List (List ℕ)). batches last s.place ps) pages in
-    let told : keeper_answer t.end ≡ keeper_answer s.end = goes_on t.end one ∙ sym (goes_on s.end two) in
-    let steps : batches_in last t ≡ batches_in last s = ap (λ (k : Stored). answered k (batches last t.place t.taken)) told ∙ ap (λ (bs : List (List (List ℕ))). answered (keeper_answer s.end) bs) given in
-    ap (λ (ss : List Delivery). last_kept ss last) steps
+    let steps : batches_in last t ≡ batches_in last s = went_on last t one ∙ ap kept_all given ∙ sym (went_on last s two) in
+    ap (λ (h : Handed). last_kept h last) steps
 
 module _ (last : Option CivilMinute) (t s : Tried) (it : IsTried last t) (is : IsTried last s) (how : (end_after s.end ≡ None) ⊎ (end_after s.end ≡ Some round.Done)) where
   -- a last attempt whose talk begins with an attempt that is whole or failed

@@ -2,20 +2,21 @@
 use Rattle.std.proofs.Common.{◌≡◌, ◌≢◌, ℕ, zero, suc, ◌+◌, ◌-◌, ◌<◌, ◌⊎◌, inl, inr, List, [], ◌∷◌, ◌++◌, length, Option, Some, None, refl, sym, ◌∙◌, ap, subst, arith, append-nil}
 use Rattle.std.proofs.lemmas.Option.{same_Some}
 use Rattle.causes.specs.Cause.{Rose}
-use Rattle.causes.specs.declared.stored.Stored.{Stored}
 use Rattle.causes.specs.declared.stored.Stored.TheVariants as kept
 use Rattle.station_base.specs.CivilMinute.{CivilMinute}
 use Rattle.vantage_frames.specs.StampFrame.{stamp_frame_of}
 use Rattle.dmpaft_driver.specs.Attempt.{Attempt, End}
 use Rattle.dmpaft_driver.specs.Gathered.{keeper_answer}
-use Rattle.dmpaft_driver.specs.Keeper.{Delivery}
+use Rattle.dmpaft_driver.specs.Keeper.{Refusal, Handed, join}
+use Rattle.dmpaft_driver.specs.Batch.{batches, records_in}
+use Rattle.dmpaft_driver.proofs.Keeping.{join_none}
 use Rattle.dmpaft_driver.specs.declared.outcome.DumpEnd.{DumpEnd}
 use Rattle.dmpaft_driver.specs.declared.outcome.DumpEnd.TheVariants as dump_end
 use Rattle.station_session.specs.declared.round_end.RoundEnd.{RoundEnd}
 use Rattle.station_session.specs.declared.round_end.RoundEnd.TheVariants as round_end
 use Rattle.station_session.specs.Attempts.{Tried, IsTried, Attempts, EndsBefore, end_after, batches_in, stamp_after, all_batches, all_said}
-use Rattle.station_session.specs.Batches.{kept_of, kept_records, last_answer, Fits, Fit}
-use Rattle.station_session.proofs.Ends.{last_in}
+use Rattle.station_session.specs.Batches.{last_answer, Fit}
+use Rattle.station_session.proofs.Ends.{last_in, went_on}
 use Rattle.station_session.proofs.Parts.{fit_parts}
 use Rattle.station_session.specs.declared.report.Report.{Report}
 use Rattle.station_session.specs.Round.{RoundHost, Serves, AnswersRound}
@@ -44,10 +45,12 @@ use Rattle.station_replay.proofs.Pages.{goes_unseen}
 use Rattle.station_replay.proofs.Rounds.{IsPlain, end_of, plain_ended}
 
 -- no batch that was judged is refused as stale
-stale_fits : (most held : ℕ) (ss : List Delivery) → Fit most held ss → last_answer ss ≡ kept.Stale → ⊥
-stale_fits most held [] fit is = cc
-stale_fits most held (s ∷ []) fit is = subst (λ (a : Stored). Fits a most (held + length s.rows)) is fit.0
-stale_fits most held (s ∷ n ∷ ss) fit is = stale_fits most (held + length (kept_of s.answer s.rows)) (n ∷ ss) fit.1 is
+stale_fits : (most held : ℕ) (ss : Handed) → Fit most held ss → last_answer ss ≡ kept.Stale → ⊥
+stale_fits most held Handed.Nothing fit is = cc
+stale_fits most held (Handed.Kept rows more) fit is = stale_fits most (held + length rows) more fit.1 is
+stale_fits most held (Handed.Refused rows Refusal.Full) fit is = cc
+stale_fits most held (Handed.Refused rows Refusal.Stale) fit is = fit
+stale_fits most held (Handed.Refused rows Refusal.DiskFault) fit is = cc
 
 -- an attempt with which a round need not end is failed
 failed_end : (e : DumpEnd) → end_after e ≡ None → IsPlain e × ((end_of e ≡ End.Whole) ⊎ (end_of e ≡ End.Refused) → ⊥)
@@ -158,7 +161,10 @@ module _ (f : Fates) (ok : AreSound f) (failed short : Type 0) where
         | inl z ↦ z
         | inr z ↦ absurd (b.1 z)
       ] in
-      let q = attempts_over most (held + length (kept_records (batches_in last t))) (made + 1) (stamp_after last t) ts end m.0 v more (fit_parts most held (batches_in last t) (all_batches (stamp_after last t) ts) fit).1
+      let bs = batches last t.place t.taken in
+      let rest = all_batches (stamp_after last t) ts in
+      let parts = fit_parts most held bs rest (subst (λ (h : Handed). Fit most held (join h rest)) (went_on last t none) fit) in
+      let q = attempts_over most (held + length (records_in bs)) (made + 1) (stamp_after last t) ts end m.0 v more parts.1
       disk (λ some. memory (omega arith)) link (sound_talk f ok t.said w m.0 m.1 sound) one.0 m.2 un in
       record {
         each = (m.0, m.1, inl harm, q.each);
@@ -171,7 +177,8 @@ module _ (f : Fates) (ok : AreSound f) (failed short : Type 0) where
       }
   attempts_over most held made last (t ∷ ts) end w v (less, tried, inr (ends, none)) fit disk memory link sound calm e un =
       let said : t.said ≡ t.said ++ all_said ts = rw none (sym (append-nil t.said)) in
-      let fresh : t.end ≡ dump_end.Stale → ⊥ = λ is. stale_fits most held (batches_in last t) (fit_parts most held (batches_in last t) (all_batches (stamp_after last t) ts) fit).0 (last_in last t tried ∙ ap keeper_answer is) in
+      let one : all_batches last (t ∷ ts) ≡ batches_in last t = ap (λ (xs : List Tried). all_batches last (t ∷ xs)) none ∙ join_none (batches_in last t) in
+      let fresh : t.end ≡ dump_end.Stale → ⊥ = λ is. stale_fits most held (batches_in last t) (subst (λ (h : Handed). Fit most held h) one fit) (last_in last t tried ∙ ap keeper_answer is) in
       subst (λ (xs : List Tried). Over made w (t ∷ xs) end v) (sym none)
       (last_over made last t end w v t.end refl ends tried fresh disk (memory (omega arith)) link sound calm (ap (λ x. console_talk f x w) said ∙ e) un)
 

@@ -9,17 +9,13 @@ use Rattle.disk_model.specs.declared.disk.Disked.TheVariants.{Done}
 use Rattle.gated_log.specs.Calls.{up_to, four_changes}
 use Rattle.station_base.specs.declared.row.Row.{Row}
 use Rattle.settings_file.specs.StationSettings.{StationSettings}
-use Rattle.dmpaft_driver.specs.Keeper.{Delivery as Given}
-use Rattle.causes.specs.declared.stored.Stored.{Stored}
+use Rattle.dmpaft_driver.specs.Keeper.{Refusal, Handed}
 use Rattle.causes.specs.declared.stored.Stored.TheVariants as kept
 use Rattle.weather_book.specs.Rows.{slot_total}
 use Rattle.weather_book.specs.Rising.{last_stamp}
-use Rattle.station_session.specs.Batches.{kept_of, kept_count, kept_records, last_answer, batch_changes, changes_for, slots_more}
+use Rattle.station_session.specs.Batches.{kept_count, kept_records, last_answer, changes_for, slots_more}
 use Rattle.station_session.specs.Records.{stored_rows}
-use Rattle.station_session.specs.Attempts.{Tried, Attempts, all_batches}
-use Rattle.station_session.specs.declared.round_end.RoundEnd.{RoundEnd}
-use Rattle.station_session.proofs.Ends.{in_order}
-use Rattle.station_session.proofs.StoredBatches.{InOrder}
+use Rattle.station_session.specs.Attempts.{Tried, all_batches}
 use Rattle.station_replay.specs.Session.{NotPast}
 use Rattle.station_replay.specs.Schedule.{Stop}
 use Rattle.station_replay.specs.Stopped.{armed_by, IsStop}
@@ -115,38 +111,22 @@ batch_passes s u gate len h =
       omega (arith, e1, e2, e3, e4),
     )
 
-kept_one : (x : Given) → x.answer ≡ kept.Done → kept_count (x ∷ []) ≡ 1
-kept_one x is = rw is refl
-
 -- nor do those of all batches of a round
-pub chain_passes : (settings : StationSettings) (rows : List Row) (steps : List Given) (failed : ℕ) (s u : StoppingState) → InOrder steps → after_stops (Some s) (changes_for settings failed rows steps) ≡ Some u → 1 ≤ s.armed → 4 * kept_count steps < s.armed
-chain_passes settings rows [] failed s u order h some = omega (arith, some)
-chain_passes settings rows (x ∷ []) failed s u order h some = by x.answer refl
-  where
-    by : (a : Stored) → x.answer ≡ a → 4 * kept_count (x ∷ []) < s.armed
-    by kept.Done e =
-        let calls : changes_for settings failed rows (x ∷ []) ≡ up_to (four_changes (176 * (slot_total rows + 1)) (176 * slots_more rows (stored_rows settings x.rows))) Done
-        = append-nil (batch_changes x.answer failed (slot_total rows) (slots_more rows (stored_rows settings x.rows))) ∙ ap (λ (y : Stored). batch_changes y failed (slot_total rows) (slots_more rows (stored_rows settings x.rows))) e in
-        let q = batch_passes s u (176 * (slot_total rows + 1)) (176 * slots_more rows (stored_rows settings x.rows)) (ap (λ (y : List DiskCall). after_stops (Some s) y) (sym calls) ∙ h) in
-        omega (arith, q.0 some, kept_one x e)
-    by kept.Full e = let z : kept_count (x ∷ []) ≡ 0 = rw e refl in omega (arith, some, z)
-    by kept.Stale e = let z : kept_count (x ∷ []) ≡ 0 = rw e refl in omega (arith, some, z)
-    by kept.DiskFault e = let z : kept_count (x ∷ []) ≡ 0 = rw e refl in omega (arith, some, z)
-chain_passes settings rows (x ∷ y ∷ ss) failed s u order h some =
-    let calls : changes_for settings failed rows (x ∷ y ∷ ss) ≡ up_to (four_changes (176 * (slot_total rows + 1)) (176 * slots_more rows (stored_rows settings x.rows))) Done ++ changes_for settings failed (rows ++ stored_rows settings x.rows) (y ∷ ss)
-    = ap (λ (z : Stored). batch_changes z failed (slot_total rows) (slots_more rows (stored_rows settings x.rows)) ++ changes_for settings failed (rows ++ stored_rows settings (kept_of z x.rows)) (y ∷ ss)) order.0 in
-    let p = stops_part (Some s) (up_to (four_changes (176 * (slot_total rows + 1)) (176 * slots_more rows (stored_rows settings x.rows))) Done) (changes_for settings failed (rows ++ stored_rows settings x.rows) (y ∷ ss)) u (ap (λ (z : List DiskCall). after_stops (Some s) z) (sym calls) ∙ h) in
-    let q = batch_passes s p.0 (176 * (slot_total rows + 1)) (176 * slots_more rows (stored_rows settings x.rows)) p.1 in
-    let r = chain_passes settings (rows ++ stored_rows settings x.rows) (y ∷ ss) failed p.0 u order.1 p.2 (omega (arith, q.0 some, q.1)) in
-    let one : kept_count (x ∷ y ∷ ss) ≡ 1 + kept_count (y ∷ ss) = rw order.0 refl in
-    omega (arith, r, q.0 some, q.1, one)
+chain_passes : (settings : StationSettings) (rows : List Row) (steps : Handed) (failed : ℕ) (s u : StoppingState) → after_stops (Some s) (changes_for settings failed rows steps) ≡ Some u → 1 ≤ s.armed → 4 * kept_count steps < s.armed
+chain_passes settings rows Handed.Nothing failed s u h some = omega (arith, some)
+chain_passes settings rows (Handed.Refused records why) failed s u h some = omega (arith, some)
+chain_passes settings rows (Handed.Kept records more) failed s u h some =
+    let p = stops_part (Some s) (up_to (four_changes (176 * (slot_total rows + 1)) (176 * slots_more rows (stored_rows settings records))) Done) (changes_for settings failed (rows ++ stored_rows settings records) more) u h in
+    let q = batch_passes s p.0 (176 * (slot_total rows + 1)) (176 * slots_more rows (stored_rows settings records)) p.1 in
+    let r = chain_passes settings (rows ++ stored_rows settings records) more failed p.0 u p.2 (omega (arith, q.0 some, q.1)) in
+    omega (arith, r, q.0 some, q.1)
 
 -- a round passes over no stop, whatever room its disk has
-pub round_passes : (settings : StationSettings) (rows : List Row) (ts : List Tried) (end : RoundEnd) (stop : Option Stop) (failed : ℕ) (s u : StoppingState) → Attempts 0 (last_stamp rows) ts end → IsStop stop → s.armed ≡ armed_by stop
+pub round_passes : (settings : StationSettings) (rows : List Row) (ts : List Tried) (stop : Option Stop) (failed : ℕ) (s u : StoppingState) → IsStop stop → s.armed ≡ armed_by stop
     → after_stops (Some s) (changes_for settings failed rows (all_batches (last_stamp rows) ts)) ≡ Some u → NotPast stop (kept_count (all_batches (last_stamp rows) ts))
-round_passes settings rows ts end stop failed s u attempts is armed h =
+round_passes settings rows ts stop failed s u is armed h =
     not_past stop (kept_count (all_batches (last_stamp rows) ts)) is
-    (λ some. omega (arith, armed, chain_passes settings rows (all_batches (last_stamp rows) ts) failed s u (in_order 0 (last_stamp rows) ts end attempts) h (omega (arith, armed, some))))
+    (λ some. omega (arith, armed, chain_passes settings rows (all_batches (last_stamp rows) ts) failed s u h (omega (arith, armed, some))))
 
 -- what a batch that was kept takes of the record's room
 batch_takes : (s u : StoppingState) (gate len : ℕ) → after_stops (Some s) (up_to (four_changes gate len) Done) ≡ Some u → (s.inner.changes ≤ u.inner.changes + 4) × (s.inner.bytes ≤ u.inner.bytes + (len + 1))
@@ -161,43 +141,28 @@ batch_takes s u gate len h =
     (omega (arith, w1.changes, w2.changes, w3.changes, w4.changes), omega (arith, w1.bytes, w2.bytes, w3.bytes, w4.bytes))
 
 -- What batches that were kept take of the record's room: four changes each, and the bytes of their slots and of a gate.
-pub record Takes (settings : StationSettings) (rows : List Row) (steps : List Given) (s u : StoppingState) : Type 0 where
+pub record Takes (settings : StationSettings) (rows : List Row) (steps : Handed) (s u : StoppingState) : Type 0 where
   pub changes : s.inner.changes ≤ u.inner.changes + 4 * kept_count steps
   pub bytes : s.inner.bytes + 176 * slot_total rows ≤ u.inner.bytes + 176 * slot_total (rows ++ stored_rows settings (kept_records steps)) + kept_count steps
 
-takes_none : (settings : StationSettings) (rows : List Row) (steps : List Given) (s u : StoppingState) → Some s ≡ Some u → kept_records steps ≡ [] → Takes settings rows steps s u
+takes_none : (settings : StationSettings) (rows : List Row) (steps : Handed) (s u : StoppingState) → Some s ≡ Some u → kept_records steps ≡ [] → Takes settings rows steps s u
 takes_none settings rows steps s u is none =
     let e = same_Some s u is in
     let z : slot_total (rows ++ stored_rows settings (kept_records steps)) ≡ slot_total rows = ap (λ (x : List (List ℕ)). slot_total (rows ++ stored_rows settings x)) none ∙ ap slot_total (append-nil rows) in
     record { changes = omega (arith, ap (λ (x : StoppingState). x.inner.changes) e); bytes = omega (arith, ap (λ (x : StoppingState). x.inner.bytes) e, z) }
 
-pub chain_takes : (settings : StationSettings) (rows : List Row) (steps : List Given) (failed : ℕ) (s u : StoppingState) → InOrder steps → last_answer steps ≢ kept.DiskFault → after_stops (Some s) (changes_for settings failed rows steps) ≡ Some u → Takes settings rows steps s u
-chain_takes settings rows [] failed s u order sure h = takes_none settings rows [] s u h refl
-chain_takes settings rows (x ∷ []) failed s u order sure h = by x.answer refl
-  where
-    by : (a : Stored) → x.answer ≡ a → Takes settings rows (x ∷ []) s u
-    by kept.Done e =
-        let calls : changes_for settings failed rows (x ∷ []) ≡ up_to (four_changes (176 * (slot_total rows + 1)) (176 * slots_more rows (stored_rows settings x.rows))) Done
-        = append-nil (batch_changes x.answer failed (slot_total rows) (slots_more rows (stored_rows settings x.rows))) ∙ ap (λ (y : Stored). batch_changes y failed (slot_total rows) (slots_more rows (stored_rows settings x.rows))) e in
-        let q = batch_takes s u (176 * (slot_total rows + 1)) (176 * slots_more rows (stored_rows settings x.rows)) (ap (λ (y : List DiskCall). after_stops (Some s) y) (sym calls) ∙ h) in
-        let kept_is : kept_records (x ∷ []) ≡ x.rows = ap (λ (y : Stored). kept_of y x.rows ++ []) e ∙ append-nil x.rows in
-        let z = ap (λ (y : List (List ℕ)). slot_total (rows ++ stored_rows settings y)) kept_is in
-        let one = kept_one x e in
-        record { changes = omega (arith, q.0, one); bytes = omega (arith, q.1, z, one, total_grows rows (stored_rows settings x.rows)) }
-    by kept.Full e = takes_none settings rows (x ∷ []) s u (let z : after_stops (Some s) (changes_for settings failed rows (x ∷ [])) ≡ Some s = rw e refl in sym z ∙ h) (rw e refl)
-    by kept.Stale e = takes_none settings rows (x ∷ []) s u (let z : after_stops (Some s) (changes_for settings failed rows (x ∷ [])) ≡ Some s = rw e refl in sym z ∙ h) (rw e refl)
-    by kept.DiskFault e = absurd (sure e)
-chain_takes settings rows (x ∷ y ∷ ss) failed s u order sure h =
-    let calls : changes_for settings failed rows (x ∷ y ∷ ss) ≡ up_to (four_changes (176 * (slot_total rows + 1)) (176 * slots_more rows (stored_rows settings x.rows))) Done ++ changes_for settings failed (rows ++ stored_rows settings x.rows) (y ∷ ss)
-    = ap (λ (z : Stored). batch_changes z failed (slot_total rows) (slots_more rows (stored_rows settings x.rows)) ++ changes_for settings failed (rows ++ stored_rows settings (kept_of z x.rows)) (y ∷ ss)) order.0 in
-    let p = stops_part (Some s) (up_to (four_changes (176 * (slot_total rows + 1)) (176 * slots_more rows (stored_rows settings x.rows))) Done) (changes_for settings failed (rows ++ stored_rows settings x.rows) (y ∷ ss)) u (ap (λ (z : List DiskCall). after_stops (Some s) z) (sym calls) ∙ h) in
-    let q = batch_takes s p.0 (176 * (slot_total rows + 1)) (176 * slots_more rows (stored_rows settings x.rows)) p.1 in
-    let r = chain_takes settings (rows ++ stored_rows settings x.rows) (y ∷ ss) failed p.0 u order.1 sure p.2 in
-    let one : kept_count (x ∷ y ∷ ss) ≡ 1 + kept_count (y ∷ ss) = rw order.0 refl in
-    let rows_are : rows ++ stored_rows settings (kept_records (x ∷ y ∷ ss)) ≡ (rows ++ stored_rows settings x.rows) ++ stored_rows settings (kept_records (y ∷ ss))
-    = ap (λ (z : Stored). rows ++ stored_rows settings (kept_of z x.rows ++ kept_records (y ∷ ss))) order.0 ∙ ap (λ (z : List Row). rows ++ z) (stored_append settings x.rows (kept_records (y ∷ ss)))
-    ∙ sym (append_assoc rows (stored_rows settings x.rows) (stored_rows settings (kept_records (y ∷ ss)))) in
+pub chain_takes : (settings : StationSettings) (rows : List Row) (steps : Handed) (failed : ℕ) (s u : StoppingState) → last_answer steps ≢ kept.DiskFault → after_stops (Some s) (changes_for settings failed rows steps) ≡ Some u → Takes settings rows steps s u
+chain_takes settings rows Handed.Nothing failed s u sure h = takes_none settings rows Handed.Nothing s u h refl
+chain_takes settings rows (Handed.Refused records Refusal.Full) failed s u sure h = takes_none settings rows (Handed.Refused records Refusal.Full) s u h refl
+chain_takes settings rows (Handed.Refused records Refusal.Stale) failed s u sure h = takes_none settings rows (Handed.Refused records Refusal.Stale) s u h refl
+chain_takes settings rows (Handed.Refused records Refusal.DiskFault) failed s u sure h = absurd (sure refl)
+chain_takes settings rows (Handed.Kept records more) failed s u sure h =
+    let p = stops_part (Some s) (up_to (four_changes (176 * (slot_total rows + 1)) (176 * slots_more rows (stored_rows settings records))) Done) (changes_for settings failed (rows ++ stored_rows settings records) more) u h in
+    let q = batch_takes s p.0 (176 * (slot_total rows + 1)) (176 * slots_more rows (stored_rows settings records)) p.1 in
+    let r = chain_takes settings (rows ++ stored_rows settings records) more failed p.0 u sure p.2 in
+    let rows_are : rows ++ stored_rows settings (kept_records (Handed.Kept records more)) ≡ (rows ++ stored_rows settings records) ++ stored_rows settings (kept_records more)
+    = ap (λ (z : List Row). rows ++ z) (stored_append settings records (kept_records more)) ∙ sym (append_assoc rows (stored_rows settings records) (stored_rows settings (kept_records more))) in
     record {
-      changes = omega (arith, q.0, r.changes, one);
-      bytes = omega (arith, q.1, r.bytes, one, ap slot_total rows_are, total_grows rows (stored_rows settings x.rows));
+      changes = omega (arith, q.0, r.changes);
+      bytes = omega (arith, q.1, r.bytes, ap slot_total rows_are, total_grows rows (stored_rows settings records));
     }

@@ -1,5 +1,5 @@
 -- What a round gives, kept or not, and that it does not flood.
-use Rattle.std.proofs.Common.{◌≡◌, ◌≢◌, ℕ, ◌+◌, ◌≤◌, inl, inr, List, [], ◌∷◌, ◌++◌, length, Some, None, refl, sym, ◌∙◌, ap, subst, arith, append_assoc, append-nil, length-append}
+use Rattle.std.proofs.Common.{◌≡◌, ◌≢◌, ℕ, ◌+◌, ◌<◌, ◌≤◌, inl, inr, List, [], ◌∷◌, ◌++◌, length, Some, None, refl, sym, ◌∙◌, ap, subst, arith, append_assoc, append-nil, length-append}
 use Rattle.std.proofs.lemmas.Option.{same_Some}
 use Rattle.station_base.specs.declared.row.Row.{Row}
 use Rattle.settings_file.specs.StationSettings.{StationSettings}
@@ -10,9 +10,10 @@ use Rattle.console_model.specs.Valid.{EachFollows}
 use Rattle.dmpaft_driver.specs.Attempt.{Attempt, End}
 use Rattle.dmpaft_driver.specs.Batch.{batches, records_in, answered}
 use Rattle.dmpaft_driver.specs.Gathered as outcome
-use Rattle.dmpaft_driver.specs.Keeper.{Delivery}
+use Rattle.dmpaft_driver.specs.Keeper.{Handed, one_batch, kept_all, join, count}
 use Rattle.dmpaft_driver.specs.declared.outcome.DumpEnd.{DumpEnd}
 use Rattle.dmpaft_driver.specs.declared.outcome.DumpEnd.TheVariants as dump_end
+use Rattle.dmpaft_driver.proofs.Keeping.{join_none, one_size, count_join}
 use Rattle.weather_book.specs.Rising.{last_stamp}
 use Rattle.station_session.specs.declared.round_end.RoundEnd.{RoundEnd}
 use Rattle.station_session.specs.declared.round_end.RoundEnd.TheVariants as round_end
@@ -20,7 +21,7 @@ use Rattle.station_session.specs.Attempts.{Tried, Attempts, IsTried, all_said, a
 use Rattle.station_session.specs.Batches.{Fit, all_records, kept_count, kept_records}
 use Rattle.station_session.specs.Records.{stored_rows, AllRead}
 use Rattle.station_session.proofs.Parts.{fit_parts, count_parts}
-use Rattle.station_session.proofs.Ends.{kept_append}
+use Rattle.station_session.proofs.Ends.{kept_append, went_on}
 use Rattle.station_sim.specs.Fates.{Fates}
 use Rattle.station_sim.specs.Falling.{FallDue}
 use Rattle.station_sim.specs.Joining.{talks_part}
@@ -35,35 +36,54 @@ use Rattle.station_replay.specs.Room.{AreFew}
 use Rattle.station_replay.specs.Round.{Attempted, IsAttempted}
 use Rattle.station_replay.proofs.Attempts.{attempt_dry}
 use Rattle.station_replay.proofs.Batches.{frame_long}
-use Rattle.station_replay.proofs.Bridge.{attempted_by, went, none_end, said_one}
+use Rattle.station_replay.proofs.Bridge.{attempted_by, went, said_one}
 use Rattle.station_replay.proofs.Counting.{few_of, stamp_of}
 use Rattle.station_replay.proofs.Pages.{goes_unseen}
 use Rattle.station_replay.proofs.Giving.{keeps_part}
 use Rattle.station_replay.proofs.Room.{AllSome, batches_some}
 use Rattle.station_replay.proofs.Rounds.{IsPlain, plain_ended, one_law, gathered_join, batches_of, rows_length}
 
--- the records of batches, however they were answered
+-- the records of one batch, however it was answered
+one_all : (a : Stored) (b : List (List ℕ)) → all_records (one_batch a b) ≡ b ++ []
+one_all kept.Done b = refl
+one_all kept.Full b = sym (append-nil b)
+one_all kept.Stale b = sym (append-nil b)
+one_all kept.DiskFault b = sym (append-nil b)
+
+-- and of some of which the last was answered so
 pub answered_all : (a : Stored) (bs : List (List (List ℕ))) → all_records (answered a bs) ≡ records_in bs
 answered_all a [] = refl
-answered_all a (b ∷ []) = refl
+answered_all a (b ∷ []) = one_all a b
 answered_all a (b ∷ c ∷ bs) = ap (λ x. b ++ x) (answered_all a (c ∷ bs))
 
-answered_count : (a : Stored) (bs : List (List (List ℕ))) → AllSome bs → length (answered a bs) ≤ length (records_in bs)
+-- one that was kept has a record
+one_kept : (a : Stored) (b : List (List ℕ)) → 0 < length b → kept_count (one_batch a b) ≤ length (kept_records (one_batch a b))
+one_kept kept.Done b h = omega (arith, h, length-append b [])
+one_kept kept.Full b h = omega arith
+one_kept kept.Stale b h = omega arith
+one_kept kept.DiskFault b h = omega arith
+
+-- batches of which none is empty are no more than their records, however the last was answered
+answered_count : (a : Stored) (bs : List (List (List ℕ))) → AllSome bs → count (answered a bs) ≤ length (records_in bs)
 answered_count a [] h = omega arith
-answered_count a (b ∷ []) h = omega (arith, h.0, length-append b [])
+answered_count a (b ∷ []) h = omega (arith, h.0, one_size a b, length-append b [])
 answered_count a (b ∷ c ∷ bs) h = omega (arith, h.0, length-append b (records_in (c ∷ bs)), answered_count a (c ∷ bs) h.1)
 
+-- and of those that were kept the same is so
 answered_kept : (a : Stored) (bs : List (List (List ℕ))) → AllSome bs → kept_count (answered a bs) ≤ length (kept_records (answered a bs))
 answered_kept a [] h = omega arith
-answered_kept kept.Done (b ∷ []) h = omega (arith, h.0, length-append b [])
-answered_kept kept.Full (b ∷ []) h = omega arith
-answered_kept kept.Stale (b ∷ []) h = omega arith
-answered_kept kept.DiskFault (b ∷ []) h = omega arith
+answered_kept a (b ∷ []) h = one_kept a b h.0
 answered_kept a (b ∷ c ∷ bs) h = omega (arith, h.0, length-append b (kept_records (answered a (c ∷ bs))), answered_kept a (c ∷ bs) h.1)
 
-pub all_append : (xs ys : List Delivery) → all_records (xs ++ ys) ≡ all_records xs ++ all_records ys
+-- the records of batches behind others that were kept
+all_append : (xs : List (List (List ℕ))) (ys : Handed) → all_records (join (kept_all xs) ys) ≡ records_in xs ++ all_records ys
 all_append [] ys = refl
-all_append (x ∷ xs) ys = ap (λ z. x.rows ++ z) (all_append xs ys) ∙ sym (append_assoc x.rows (all_records xs) (all_records ys))
+all_append (x ∷ xs) ys = ap (λ z. x ++ z) (all_append xs ys) ∙ sym (append_assoc x (records_in xs) (all_records ys))
+
+-- batches of which none is empty are no more than their records
+some_many : (bs : List (List (List ℕ))) → AllSome bs → length bs ≤ length (records_in bs)
+some_many [] h = omega arith
+some_many (b ∷ bs) h = omega (arith, h.0, length-append b (records_in bs), some_many bs h.1)
 
 -- a round that neither the link nor want of memory ended had a last attempt that they did not end
 plain_last : (e : DumpEnd) (end : RoundEnd) → end_after e ≡ Some end → end ≢ round_end.LinkFault → end ≢ round_end.OutOfMemory → IsPlain e
@@ -142,13 +162,12 @@ module _ (settings : StationSettings) (f : Fates) (ok : AreSound f) (left : ℕ 
   round_few n m d a w v [] end (inr (three, gave)) fit talks link memory fresh calm sound now un g =
       (none_floods end gave, record { few = omega (arith, few_of settings r rises are d a.rows g); each = omega arith; kept = omega arith })
   round_few n m d a w v (t ∷ ts) end (less, tried, inl (none, again)) fit talks link memory fresh calm sound now un g =
-      let here = batches_in (last_stamp a.rows) t in
+      let bs = batches (last_stamp a.rows) t.place t.taken in
       let rest = all_batches (stamp_after (last_stamp a.rows) t) ts in
-      let parts = fit_parts settings.most (length a.rows) here rest fit in
+      let parted : all_batches (last_stamp a.rows) (t ∷ ts) ≡ join (kept_all bs) rest = ap (λ (h : Handed). join h rest) (went_on (last_stamp a.rows) t none) in
+      let parts = fit_parts settings.most (length a.rows) bs rest (subst (λ (h : Handed). Fit settings.most (length a.rows) h) parted fit) in
       let p = talks_part f t.said (all_said ts) w v talks in
       let o = went settings f None m a w p.0 t tried none parts.0 tt p.1 in
-      let failed = none_end t.end none in
-      let failed_is : t.end ≡ dump_end.Failed failed.1.0 = failed.1.1 in
       let plain : IsPlain o.x.made.end = subst IsPlain (sym o.failed.1) tt in
       let u = goes_unseen f (all_said ts) p.0 v p.2 un in
       let k = keeps_part settings None m a o.x.batches (Rattle.station_replay.specs.Keeping.Keeping.Goes o.count o.b) o.keeps in
@@ -157,23 +176,19 @@ module _ (settings : StationSettings) (f : Fates) (ok : AreSound f) (left : ℕ 
       (subst (λ z. Attempts (n + 1) z ts end) o.stamp again)
       (subst (λ z. Fit settings.most (length o.b.rows) (all_batches z ts)) o.stamp (subst (λ (z : ℕ). Fit settings.most z rest) o.long parts.1))
       p.2 link memory fresh one.calm one.sound one.now un (gathered_join settings r d (pairs_of o.x.dumps o.x.gained) [] a.rows o.b.rows g one.gathers) in
-      let one_is = one_few d a w p.0 t tried (subst IsPlain (sym failed_is) tt) p.1 calm sound now u g in
-      let rest_is : all_batches (stamp_after (last_stamp a.rows) t) ts ≡ all_batches (last_stamp o.b.rows) ts = ap (λ z. all_batches z ts) o.stamp in
-      let all_here : all_records here ≡ records_in (batches (last_stamp a.rows) t.place t.taken) = answered_all (outcome.keeper_answer t.end) (batches (last_stamp a.rows) t.place t.taken) in
-      let x_is : o.x.batches ≡ batches (last_stamp a.rows) o.x.made.place o.x.made.taken = o.is_attempted.batches in
-      let b_is : o.x.batches ≡ batches (last_stamp a.rows) t.place t.taken = x_is ∙ ap (λ y. batches (last_stamp a.rows) y.place y.taken) o.is_made in
-      let long : length o.b.rows ≡ length a.rows + length (records_in o.x.batches) = rows_length settings f ok left falls all up r more whole a.rows o.b.rows (records_in o.x.batches) (read_of_batches a.rows o.b.rows w p.0 o.x o.is_attempted) k.0 in (
+      let later : AreFew (length r) o.b.rows rest = subst (λ z. AreFew (length r) o.b.rows (all_batches z ts)) (sym o.stamp) q.1 in
+      let many = some_many bs (batches_some (last_stamp a.rows) t.place t.taken) in (
         q.0,
-        record {
-          few = omega (arith, q.1.few, long, ap (λ y. length (records_in y)) b_is, ap length all_here, ap length (all_append here rest), length-append (all_records here) (all_records rest), ap (λ y. length (all_records y)) rest_is);
-          each = omega (arith, q.1.each, one_is.each, ap length (all_append here rest), length-append (all_records here) (all_records rest), ap (λ y. length (all_records y)) rest_is, length-append here rest, ap length rest_is);
-          kept = omega (arith, q.1.kept, one_is.kept, ap length (kept_append here rest), length-append (kept_records here) (kept_records rest), count_parts here rest, ap (λ y. kept_count y) rest_is, ap (λ y. length (kept_records y)) rest_is);
-        },
+        subst (AreFew (length r) a.rows) (sym parted) (record {
+          few = omega (arith, later.few, o.long, ap length (all_append bs rest), length-append (records_in bs) (all_records rest));
+          each = omega (arith, later.each, many, ap length (all_append bs rest), length-append (records_in bs) (all_records rest), count_join bs rest);
+          kept = omega (arith, later.kept, many, ap length (kept_append bs rest), length-append (records_in bs) (kept_records rest), count_parts bs rest);
+        }),
       )
   round_few n m d a w v (t ∷ ts) end (less, tried, inr (ends, none)) fit talks link memory fresh calm sound now un g =
       let plain = plain_last t.end end ends link memory in
       let said = said_one f t w v (ap (λ z. console_talk f (all_said (t ∷ z)) w) (sym none) ∙ talks) in
-      let one : batches_in (last_stamp a.rows) t ≡ all_batches (last_stamp a.rows) (t ∷ ts) = sym (ap (λ z. all_batches (last_stamp a.rows) (t ∷ z)) none ∙ append-nil (batches_in (last_stamp a.rows) t)) in (
+      let one : batches_in (last_stamp a.rows) t ≡ all_batches (last_stamp a.rows) (t ∷ ts) = sym (ap (λ z. all_batches (last_stamp a.rows) (t ∷ z)) none ∙ join_none (batches_in (last_stamp a.rows) t)) in (
         (λ floods.
             let is = flood_last t.end (ends ∙ ap Some floods) in
             let at : Attempt (stamp_frame_of (last_stamp a.rows)) t.said t.place t.taken End.Flooded

@@ -5,19 +5,16 @@ use Rattle.disk_model.specs.declared.stopping.Stopping.{Stopping}
 use Rattle.disk_model.specs.Stopping.{stopping_medium}
 use Rattle.settings_file.specs.StationSettings.{StationSettings}
 use Rattle.weather_book.specs.declared.book.Book.{Book}
-use Rattle.weather_book.specs.Rising.{last_stamp}
 use Rattle.station_session.specs.declared.report.Mark.{Mark}
-use Rattle.station_session.specs.declared.round_end.RoundEnd.{RoundEnd}
-use Rattle.station_session.specs.Attempts.{Tried, Attempts}
+use Rattle.station_session.specs.Attempts.{Tried}
 use Rattle.station_session.specs.Holding.{Stores, holding}
 use Rattle.station_replay.specs.Keeping.{Archive}
 use Rattle.station_replay.specs.Session.{handed}
 
--- The attempts of a round that ended so, and two books: the batches were stored from the one on the one disk to the
--- other on the other.
-pub record RoundOn (settings : StationSettings) (a : Archive) (ts : List Tried) (end : RoundEnd)
-    (old new : Stopping MemDisk) : Type 0 where
-  pub attempts : Attempts 0 (last_stamp a.rows) ts end
+-- The attempts of a round, and two books: the batches were stored from the one on the one disk to the other on the
+-- other.
+pub record RoundOn (settings : StationSettings) (a : Archive) (ts : List Tried) (old new : Stopping MemDisk)
+    : Type 0 where
   pub book : Book
   pub next : Book
   pub marks : List Mark

@@ -18,11 +18,11 @@ use Rattle.gated_log.specs.Appending.{ByGate, Moved, OnAppended, OnRefused}
 use Rattle.weather_book.specs.Stands.{HasRows, NowHasRows, RowsOldOrAll, StandsOn, StandsToReadOn}
 use Rattle.causes.specs.declared.stored.Stored.{Stored}
 use Rattle.causes.specs.declared.stored.Stored.TheVariants as stored
-use Rattle.dmpaft_driver.specs.Keeper.{delivery}
 use Rattle.station_session.specs.declared.report.Mark.{Mark}
 use Rattle.station_session.specs.Records.{stored_rows, AllRead}
 use Rattle.station_session.specs.Report.{mark, mark_for}
 use Rattle.station_session.specs.Holding.{holding}
+use Rattle.station_session.specs.Batches.{delivery}
 use Rattle.station_session.specs.OneBatch.{AddsBatch}
 use Rattle.station_session.proofs.Stamps.{same_count, last_is}
 

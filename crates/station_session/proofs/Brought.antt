@@ -7,7 +7,7 @@ use Rattle.causes.specs.declared.stored.Stored.{Stored}
 use Rattle.dmpaft_driver.specs.Attempt.{End, Attempt}
 use Rattle.dmpaft_driver.specs.Batch.{batches, answered, all_skipped}
 use Rattle.dmpaft_driver.specs.Gathered.{steps_of}
-use Rattle.dmpaft_driver.specs.Keeper.{Delivery, last_kept}
+use Rattle.dmpaft_driver.specs.Keeper.{Handed, last_kept}
 use Rattle.dmpaft_driver.specs.OneAttempt.{IsAttempt}
 use Rattle.dmpaft_driver.specs.Pump.{State, Over, pump_after}
 use Rattle.dmpaft_driver.specs.Shown.{answer_of, Shows, talks_at}
@@ -19,9 +19,10 @@ use Rattle.dmpaft_driver.specs.declared.pump.Pump.{Pump}
 use Rattle.dmpaft_driver.specs.declared.pump_end.PumpEnd.{PumpEnd}
 use Rattle.dmpaft_driver.proofs.Dumping.{over_shown, cut_shown, ended_as, ended_cut, cut_answer, answer_same, shown_no_astray, cut_front}
 use Rattle.dmpaft_driver.proofs.Exactly.{sound}
+use Rattle.dmpaft_driver.proofs.Keeping.{kept_answered}
 
 -- the attempt of this talk, the batches that it gave, and its part of the tally
-pub record Brought (start : Tally) (a : Option CivilMinute) (talk : List TalkItem) (end : DumpEnd) (given : List Delivery) (tally : Tally) : Type 0 where
+pub record Brought (start : Tally) (a : Option CivilMinute) (talk : List TalkItem) (end : DumpEnd) (given : Handed) (tally : Tally) : Type 0 where
   pub place : ℕ
   pub taken : List (List ℕ)
   pub attempt : IsAttempt a talk place taken end
@@ -52,7 +53,7 @@ module _ (start : Tally) (a : Option CivilMinute) (t : List TalkItem) (ks : List
         few = tells.0.most_pages;
         pages = tells.0.pages;
         skipped = tells.0.skipped;
-        newest = tells.0.last ∙ ap (λ (y : List Delivery). last_kept y start.last) (sym given);
+        newest = tells.0.last ∙ ap (λ (y : Handed). last_kept y start.last) (sym given);
       }
 
   -- the link failed
@@ -67,11 +68,11 @@ module _ (start : Tally) (a : Option CivilMinute) (t : List TalkItem) (ks : List
           ends = ended_cut (grammar a c.0) end cut (t ++ u) c.1 f;
           refused = λ ne. absurd (ne (cut_answer end cut));
         };
-        given_are = ap (λ (y : Stored). answered y (batches a c.0 c.1)) (cut_answer end cut) ∙ sym c.4;
+        given_are = ap (λ (y : Stored). answered y (batches a c.0 c.1)) (cut_answer end cut) ∙ kept_answered (batches a c.0 c.1) ∙ sym c.4;
         few = c.3.most_pages;
         pages = c.3.pages;
         skipped = c.3.skipped;
-        newest = c.3.last ∙ ap (λ (y : List Delivery). last_kept y start.last) (sym c.4);
+        newest = c.3.last ∙ ap (λ (y : Handed). last_kept y start.last) (sym c.4);
       }
 
   -- nothing more is to be done, or the link failed

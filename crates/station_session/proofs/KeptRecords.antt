@@ -4,19 +4,20 @@ use Rattle.station_base.specs.CivilMinute.{CivilMinute}
 use Rattle.dmpaft_driver.specs.Batch.{slots, is_newer, one_if, last_if, rising, newest, batches, records_in, all_slots, answered, add}
 use Rattle.station_base.specs.LastStamp.{last_stamp}
 use Rattle.archive_record.specs.Reading.{stamp_in}
-use Rattle.dmpaft_driver.specs.Keeper.{last_kept}
+use Rattle.dmpaft_driver.specs.Keeper.{Handed, kept_all, join, last_kept}
 use Rattle.dmpaft_driver.specs.Gathered as gathered
 use Rattle.causes.specs.declared.stored.Stored.{Stored}
 use Rattle.causes.specs.declared.stored.Stored.TheVariants.{Done}
 use Rattle.dmpaft_driver.specs.declared.outcome.DumpEnd.{DumpEnd}
 use Rattle.dmpaft_driver.specs.declared.outcome.DumpEnd.TheVariants as dump_end
+use Rattle.dmpaft_driver.proofs.Keeping.{join_none, kept_answered}
 use Rattle.dmpaft_driver.proofs.Rising.{rising_joins, batches_rise}
 use Rattle.station_session.specs.declared.round_end.RoundEnd.{RoundEnd}
 use Rattle.station_session.specs.Attempts.{Tried, Attempts, batches_in, stamp_after, all_batches, but_last, kept_batches}
 use Rattle.station_session.specs.Batches.{kept_records, last_answer}
 use Rattle.causes.specs.Lists.{IsFrontOf}
 use Rattle.station_session.specs.SlotsTaken.{slots_taken}
-use Rattle.station_session.proofs.Ends.{goes_on, went_on, last_in, last_join, kept_append, kept_done, kept_in}
+use Rattle.station_session.proofs.Ends.{goes_on, last_in, last_behind, kept_append, kept_done, kept_by_end}
 
 -- the batches of an attempt, put together
 joined_rise : (last : Option CivilMinute) (place : ℕ) (taken : List (List ℕ)) → records_in (batches last place taken) ≡ rising last (all_slots place taken)
@@ -35,18 +36,17 @@ last_rising a (s ∷ ss) = by_test (is_newer a s) refl (λ b. last_rising b ss)
     by_test true e behind = ap (λ (t : Bool). last_stamp stamp_in (one_if t s ++ rising (last_if t a s) ss) a) e ∙ behind (last_if true a s) ∙ ap (λ (t : Bool). newest (last_if t a s) ss) (sym e)
     by_test false e behind = ap (λ (t : Bool). last_stamp stamp_in (one_if t s ++ rising (last_if t a s) ss) a) e ∙ behind a ∙ ap (λ (t : Bool). newest (last_if t a s) ss) (sym e)
 
-kept_first : (r : List (List ℕ)) (bs : List (List (List ℕ))) (a : Option CivilMinute) → last_kept (answered Done (add r bs)) a ≡ last_kept (answered Done bs) (last_stamp stamp_in r a)
+kept_first : (r : List (List ℕ)) (bs : List (List (List ℕ))) (a : Option CivilMinute) → last_kept (kept_all (add r bs)) a ≡ last_kept (kept_all bs) (last_stamp stamp_in r a)
 kept_first [] bs a = refl
-kept_first (x ∷ r) [] a = refl
-kept_first (x ∷ r) (b ∷ bs) a = refl
+kept_first (x ∷ r) bs a = refl
 
 -- the stamp of the last record kept, where every batch was
-newest_kept : (a : Option CivilMinute) (place : ℕ) (taken : List (List ℕ)) → last_kept (answered Done (batches a place taken)) a ≡ newest a (all_slots place taken)
+newest_kept : (a : Option CivilMinute) (place : ℕ) (taken : List (List ℕ)) → last_kept (kept_all (batches a place taken)) a ≡ newest a (all_slots place taken)
 newest_kept a place [] = refl
 newest_kept a place (page ∷ more) =
     let b = newest a (slots place page) in
     kept_first (rising a (slots place page)) (batches b 0 more) a
-    ∙ ap (λ (x : Option CivilMinute). last_kept (answered Done (batches b 0 more)) x) (last_rising a (slots place page))
+    ∙ ap (λ (x : Option CivilMinute). last_kept (kept_all (batches b 0 more)) x) (last_rising a (slots place page))
     ∙ newest_kept b 0 more ∙ sym (newest_joins a (slots place page) (all_slots 0 more))
 
 front_whole : (xs ys : List (List ℕ)) → xs ≡ ys → IsFrontOf xs ys
@@ -73,19 +73,27 @@ front_kept dump_end.OutOfMemory bs = front_whole (records_in bs) (records_in bs)
 -- the records kept of one attempt
 front_of_one : (last : Option CivilMinute) (t : Tried) → IsFrontOf (kept_records (batches_in last t)) (rising last (all_slots t.place t.taken))
 front_of_one last t =
-    subst (λ (x : List (List ℕ)). IsFrontOf x (rising last (all_slots t.place t.taken))) (sym (kept_in t.end (batches last t.place t.taken)))
+    subst (λ (x : List (List ℕ)). IsFrontOf x (rising last (all_slots t.place t.taken))) (sym (kept_by_end t.end (batches last t.place t.taken)))
     (subst (λ (x : List (List ℕ)). IsFrontOf (records_in (kept_batches t.end (batches last t.place t.taken))) x) (joined_rise last t.place t.taken)
     (front_kept t.end (batches last t.place t.taken)))
 
 module _ (last : Option CivilMinute) (t : Tried) (all : gathered.keeper_answer t.end ≡ Done) where
+  all_kept : batches_in last t ≡ kept_all (batches last t.place t.taken)
+  all_kept = ap (λ (a : Stored). answered a (batches last t.place t.taken)) all ∙ kept_answered (batches last t.place t.taken)
+
   -- all of them, where no batch was refused
   whole_of_one : kept_records (batches_in last t) ≡ rising last (all_slots t.place t.taken)
-  whole_of_one = ap (λ (a : Stored). kept_records (answered a (batches last t.place t.taken))) all ∙ kept_done (batches last t.place t.taken) ∙ joined_rise last t.place t.taken
+  whole_of_one = ap kept_records all_kept ∙ kept_done (batches last t.place t.taken) ∙ joined_rise last t.place t.taken
 
   stamp_then : stamp_after last t ≡ newest last (all_slots t.place t.taken)
-  stamp_then = ap (λ (a : Stored). last_kept (answered a (batches last t.place t.taken)) last) all ∙ newest_kept last t.place t.taken
+  stamp_then = ap (λ (h : Handed). last_kept h last) all_kept ∙ newest_kept last t.place t.taken
 
   -- and those of the attempts behind it
+  kept_more : (behind : Handed) → kept_records (join (batches_in last t) behind) ≡ kept_records (batches_in last t) ++ kept_records behind
+  kept_more behind =
+      ap (λ (h : Handed). kept_records (join h behind)) all_kept ∙ kept_append (batches last t.place t.taken) behind
+      ∙ ap (λ (x : List (List ℕ)). x ++ kept_records behind) (sym (ap kept_records all_kept ∙ kept_done (batches last t.place t.taken)))
+
   with_more : (ts : List Tried) → rising last (slots_taken (t ∷ ts)) ≡ kept_records (batches_in last t) ++ rising (stamp_after last t) (slots_taken ts)
   with_more ts =
       rising_joins last (all_slots t.place t.taken) (slots_taken ts)
@@ -93,7 +101,7 @@ module _ (last : Option CivilMinute) (t : Tried) (all : gathered.keeper_answer t
       ∙ ap (λ (x : Option CivilMinute). kept_records (batches_in last t) ++ rising x (slots_taken ts)) (sym stamp_then)
 
 alone : (last : Option CivilMinute) (t : Tried) → kept_records (all_batches last (t ∷ [])) ≡ kept_records (batches_in last t)
-alone last t = ap kept_records (append-nil (batches_in last t))
+alone last t = ap kept_records (join_none (batches_in last t))
 
 slots_alone : (last : Option CivilMinute) (t : Tried) → rising last (slots_taken (t ∷ [])) ≡ rising last (all_slots t.place t.taken)
 slots_alone last t = ap (λ (x : List (List ℕ)). rising last x) (append-nil (all_slots t.place t.taken))
@@ -101,7 +109,7 @@ slots_alone last t = ap (λ (x : List (List ℕ)). rising last x) (append-nil (a
 pub front_of_round : (made : ℕ) (last : Option CivilMinute) (ts : List Tried) (end : RoundEnd) → Attempts made last ts end → IsFrontOf (kept_records (all_batches last ts)) (rising last (slots_taken ts))
 front_of_round made last [] end h = ([], refl)
 front_of_round made last (t ∷ ts) end (less, attempt, inl (e, more)) =
-    subst (λ (x : List (List ℕ)). IsFrontOf x (rising last (slots_taken (t ∷ ts)))) (sym (kept_append (batches_in last t) (all_batches (stamp_after last t) ts)))
+    subst (λ (x : List (List ℕ)). IsFrontOf x (rising last (slots_taken (t ∷ ts)))) (sym (kept_more last t (goes_on t.end e) (all_batches (stamp_after last t) ts)))
     (subst (λ (x : List (List ℕ)). IsFrontOf (kept_records (batches_in last t) ++ kept_records (all_batches (stamp_after last t) ts)) x) (sym (with_more last t (goes_on t.end e) ts))
     (front_behind (kept_records (batches_in last t)) (kept_records (all_batches (stamp_after last t) ts)) (rising (stamp_after last t) (slots_taken ts))
     (front_of_round (made + 1) (stamp_after last t) ts end more)))
@@ -113,12 +121,12 @@ front_of_round made last (t ∷ ts) end (less, attempt, inr (e, none)) =
 pub whole_of_round : (made : ℕ) (last : Option CivilMinute) (ts : List Tried) (end : RoundEnd) → Attempts made last ts end → last_answer (all_batches last ts) ≡ Done → kept_records (all_batches last ts) ≡ rising last (slots_taken ts)
 whole_of_round made last [] end h done = refl
 whole_of_round made last (t ∷ ts) end (less, attempt, inl (e, more)) done =
-    let behind = sym (last_join (batches_in last t) (all_batches (stamp_after last t) ts) (went_on last t e)) ∙ done in
-    kept_append (batches_in last t) (all_batches (stamp_after last t) ts)
+    let behind = sym (last_behind last t (all_batches (stamp_after last t) ts) e) ∙ done in
+    kept_more last t (goes_on t.end e) (all_batches (stamp_after last t) ts)
     ∙ ap (λ (x : List (List ℕ)). kept_records (batches_in last t) ++ x) (whole_of_round (made + 1) (stamp_after last t) ts end more behind)
     ∙ sym (with_more last t (goes_on t.end e) ts)
 whole_of_round made last (t ∷ ts) end (less, attempt, inr (e, none)) done =
     let one : last_answer (all_batches last (t ∷ [])) ≡ Done = subst (λ (x : List Tried). last_answer (all_batches last (t ∷ x)) ≡ Done) none done in
-    let all : gathered.keeper_answer t.end ≡ Done = sym (last_in last t attempt) ∙ ap last_answer (sym (append-nil (batches_in last t))) ∙ one in
+    let all : gathered.keeper_answer t.end ≡ Done = sym (last_in last t attempt) ∙ ap last_answer (sym (join_none (batches_in last t))) ∙ one in
     subst (λ (x : List Tried). kept_records (all_batches last (t ∷ x)) ≡ rising last (slots_taken (t ∷ x))) (sym none)
     (alone last t ∙ whole_of_one last t all ∙ sym (slots_alone last t))

@@ -1,5 +1,5 @@
 -- A round that was begun, and turned to its end.
-use Rattle.std.proofs.Common.{◌≡◌, true, false, List, [], ◌++◌, refl, sym, ◌∙◌, ap, subst, arith}
+use Rattle.std.proofs.Common.{◌≡◌, ℕ, true, false, List, [], refl, sym, ◌∙◌, ap, subst, arith}
 use Rattle.disk_model.specs.Medium.{Medium}
 use Rattle.serial_link.specs.Traffic.{Traffic}
 use Rattle.serial_link.specs.Talk.{Adds}
@@ -10,7 +10,7 @@ use Rattle.serial_link.proofs.Growing.{adds_joins}
 use Rattle.station_base.specs.declared.row.Row.{Row}
 use Rattle.settings_file.specs.StationSettings.{StationSettings}
 use Rattle.weather_book.specs.Book.{IsSameBook, last_of}
-use Rattle.dmpaft_driver.specs.Keeper.{Delivery}
+use Rattle.dmpaft_driver.specs.Keeper.{Handed, kept_all, join}
 use Rattle.station_session.specs.declared.round.Turn.{Turn}
 use Rattle.station_session.specs.declared.round.Turn.TheVariants as turn
 use Rattle.station_session.specs.declared.report.Report.{Report}
@@ -27,7 +27,7 @@ use Rattle.station_session.specs.UnderWay.{InStep, UnderWay, MakesRound}
 use Rattle.station_session.proofs.WholeRound.{serves, not_stale, cause, waited, stale_is, most_is, begun_is}
 
 -- the attempts of a round that is over, by its last turn
-made_all : {L D : Type 0} {traffic : Traffic L} {medium : Medium D} {settings : StationSettings} {link link' : L} {k l : Holding D} {last : Option CivilMinute} {talk : List TalkItem} {given : List Delivery} {end : RoundEnd} {report : Report} → last_of k.book ≡ last
+made_all : {L D : Type 0} {traffic : Traffic L} {medium : Medium D} {settings : StationSettings} {link link' : L} {k l : Holding D} {last : Option CivilMinute} {talk : List TalkItem} {given : Handed} {end : RoundEnd} {report : Report} → last_of k.book ≡ last
     → Adds traffic link talk link' → Chain (AddsBatch medium settings) k given l → EndsRound last talk given end report → MakesAttempts traffic medium settings end k link l link' report.attempts report.tally report.troubles.items
 made_all {L} {D} {traffic} {medium} {settings} {link} {link'} {k} {l} {last} {talk} {given} {end} {report} stamp adds chain e =
     let x : EndsRound (last_of k.book) talk given end report = subst (λ (o : Option CivilMinute). EndsRound o talk given end report) (sym stamp) e in
@@ -35,21 +35,21 @@ made_all {L} {D} {traffic} {medium} {settings} {link} {link'} {k} {l} {last} {ta
       tries = x.tries;
       attempts = x.attempts;
       adds = subst (λ (y : List TalkItem). Adds traffic link y link') x.talk_is adds;
-      chain = subst (λ (y : List Delivery). Chain (AddsBatch medium settings) k y l) x.given_are chain;
+      chain = subst (λ (y : Handed). Chain (AddsBatch medium settings) k y l) x.given_are chain;
       count = x.made;
       counted = x.tally;
       noted = x.troubles;
     }
 
 -- the chain of a round and of a turn
-pub chain_on : {L D : Type 0} {traffic : Traffic L} {medium : Medium D} {result : Turn} {began : RoundHost L D} {talk : List TalkItem} {kept : List Delivery} {last : Option CivilMinute} {old new : Desk L D} → InStep medium began kept old
+pub chain_on : {L D : Type 0} {traffic : Traffic L} {medium : Medium D} {result : Turn} {began : RoundHost L D} {talk : List TalkItem} {kept : List (List (List ℕ))} {last : Option CivilMinute} {old new : Desk L D} → InStep medium began kept old
     → (t : TakesTurn traffic medium result last talk kept old new)
-    → Chain (AddsBatch medium (settings_of began.session)) (holding began.session.book began.disk []) (kept ++ t.given) (holding new.session.book new.disk new.report.marks.items)
+    → Chain (AddsBatch medium (settings_of began.session)) (holding began.session.book began.disk []) (join (kept_all kept) t.given) (holding new.session.book new.disk new.report.marks.items)
 chain_on {L} {D} {traffic} {medium} {result} {began} {talk} {kept} {last} {old} {new} u t =
     chain_joins (AddsBatch medium (settings_of began.session)) (holding began.session.book began.disk []) (holding old.session.book old.disk old.report.marks.items) (holding new.session.book new.disk new.report.marks.items) kept t.given u.chain
     (subst (λ (x : StationSettings). Chain (AddsBatch medium x) (holding old.session.book old.disk old.report.marks.items) t.given (holding new.session.book new.disk new.report.marks.items)) u.settings t.chain)
 
-module _ {L D : Type 0} {traffic : Traffic L} {medium : Medium D} {before began : Session} {link : L} {disk : D} {talk : List TalkItem} {kept : List Delivery} {end : RoundEnd} {old new : Desk L D}
+module _ {L D : Type 0} {traffic : Traffic L} {medium : Medium D} {before began : Session} {link : L} {disk : D} {talk : List TalkItem} {kept : List (List (List ℕ))} {end : RoundEnd} {old new : Desk L D}
     (same : IsSameBook before.book began.book) (settings : settings_of began ≡ settings_of before) (u : UnderWay traffic medium (round_host began link disk) talk kept old)
     (t : TakesTurn traffic medium (turn.Ended end) (last_of began.book) talk kept old new) (a : AnswersTurn traffic medium (turn.Ended end) old new) (l : LeavesTurn medium (turn.Ended end) old new) where
   fresh : is_stale before ≡ false

@@ -1,5 +1,5 @@
 -- What one turn of a round comes to.
-use Rattle.std.proofs.Common.{◌≡◌, ◌+◌, ◌-◌, ◌*◌, ◌^◌, ◌<◌, ◌≤◌, Bool, false, inl, inr, List, [], ◌∷◌, ◌++◌, length, vec_len, vec_capacity, refl, sym, ◌∙◌, ap, subst, arith, length-append, Option, Some, None}
+use Rattle.std.proofs.Common.{◌≡◌, ℕ, ◌+◌, ◌-◌, ◌*◌, ◌^◌, ◌<◌, ◌≤◌, Bool, false, inl, inr, List, [], ◌∷◌, ◌++◌, length, vec_len, vec_capacity, refl, sym, ◌∙◌, ap, subst, arith, length-append, Option, Some, None}
 use Rattle.causes.specs.Cause.{Cause}
 use Rattle.causes.specs.Stored.{stale_after}
 use Rattle.causes.specs.declared.stored.Stored.{Stored}
@@ -11,10 +11,11 @@ use Rattle.serial_link.proofs.Growing.{adds_joins}
 use Rattle.serial_link.specs.declared.talk.TalkItem.{TalkItem}
 use Rattle.station_base.specs.CivilMinute.{CivilMinute}
 use Rattle.weather_book.specs.Book.{last_of, spare, len_of}
-use Rattle.dmpaft_driver.specs.Keeper.{Delivery, delivery, last_kept}
+use Rattle.dmpaft_driver.specs.Keeper.{Handed, kept_all, join, count, last_kept}
 use Rattle.dmpaft_driver.specs.Pump.{State}
 use Rattle.dmpaft_driver.specs.Shown.{Shows}
 use Rattle.dmpaft_driver.specs.Standing.{gives}
+use Rattle.dmpaft_driver.proofs.Keeping.{one_size, last_joins, count_kept}
 use Rattle.dmpaft_driver.specs.declared.outcome.DumpEnd.{DumpEnd}
 use Rattle.dmpaft_driver.specs.declared.outcome.DumpEnd.TheVariants as dump_end
 use Rattle.dmpaft_driver.specs.declared.outcome.Tally.{Tally}
@@ -31,21 +32,24 @@ use Rattle.station_session.specs.Round.{RoundHost}
 use Rattle.station_session.specs.RoundAt.{RoundAt, tally_of}
 use Rattle.station_session.specs.Session.{settings_of, most_of, held, is_stale}
 use Rattle.station_session.specs.Stepping.{bench, StepsAttempt, GoesOn, round_end_of}
-use Rattle.station_session.specs.Turning.{Desk, TakesTurn, TurnsTo, IsOneCallOrBatch, AnswersTurn, LeavesTurn, stale_by as turn_stale}
-use Rattle.station_session.proofs.BookAfter.{chain_last, chain_most, chain_faults, chain_begun, chain_moved, chain_stale, chain_rose, chain_never_stale, last_kept_append}
+use Rattle.station_session.specs.Turning.{Desk, TakesTurn, TurnsTo, IsOneCallOrBatch, AnswersTurn, LeavesTurn, IsOneAtMost, stale_by as turn_stale}
+use Rattle.station_session.proofs.BookAfter.{chain_last, chain_most, chain_faults, chain_begun, chain_moved, chain_stale, chain_rose, chain_never_stale}
 use Rattle.station_session.proofs.Ends.{answer_at}
 use Rattle.station_session.proofs.SoFar.{last_is, few_kept}
 use Rattle.station_session.proofs.LastTurn.{chain_on, makes_round}
-use Rattle.station_session.proofs.StoredBatches.{InOrder}
 use Rattle.station_session.specs.UnderWay.{UnderWay, GoesOnFrom}
-use Rattle.station_session.proofs.Turned.{stays, tries_again, refuses, refused_batch, ends, no_batch, mild_end, link_fault, no_memory, no_link_end}
+use Rattle.station_session.proofs.Turned.{kept_on, stays, tries_again, refuses, refused_batch, ends, no_batch, mild_end, link_fault, no_memory, no_link_end}
 use Rattle.station_session.proofs.WholeRound.{same_book, stale_by}
 
-no_given : (given : List Delivery) → given ≡ [] → InOrder given × (length given ≤ 1)
-no_given given e = subst (λ (x : List Delivery). InOrder x × (length x ≤ 1)) (sym e) (tt, omega arith)
+-- one batch at most was kept
+few_more : (said : List TalkItem) (more : List (List (List ℕ))) → IsOneCallOrBatch said more → length more ≤ 1
+few_more said more (inl (call, none)) = omega (arith, ap (λ (x : List (List (List ℕ))). length x) none)
+few_more said more (inr (silent, rows, one)) = omega (arith, ap (λ (x : List (List (List ℕ))). length x) one)
 
-lone_given : (s : Delivery) (given : List Delivery) → given ≡ s ∷ [] → InOrder given × (length given ≤ 1)
-lone_given s given e = subst (λ (x : List Delivery). InOrder x × (length x ≤ 1)) (sym e) (tt, omega arith)
+-- one batch at most was given
+few_given : (said : List TalkItem) (given : Handed) → IsOneAtMost said given → count given ≤ 1
+few_given said given (inl none) = omega (arith, ap count none)
+few_given said given (inr (silent, answer, rows, one)) = omega (arith, ap count one, one_size answer rows)
 
 -- a turn: one step of the attempt, and what the round did then
 pub record HasTurned {L D : Type 0} (traffic : Traffic L) (medium : Medium D) (end : Option DumpEnd) (result : Turn) (old new : Desk L D) : Type 0 where
@@ -91,14 +95,15 @@ abbrev answer_by_turn : Turn → Stored
 answer_by_turn turn.More = stored.Done
 answer_by_turn (turn.Ended end) = answer_at end
 
-kept_done : (said : List TalkItem) (given : List Delivery) → IsOneCallOrBatch said given → last_answer given ≡ stored.Done
-kept_done said given (inl x) = ap last_answer x.1
-kept_done said given (inr x) = ap last_answer x.2
+-- of batches that were kept the last was
+last_done : (kept : List (List (List ℕ))) → last_answer (kept_all kept) ≡ stored.Done
+last_done [] = refl
+last_done (rows ∷ kept) = last_done kept
 
 -- one turn, the room that it took, and how its batch was answered
-record Taken {L D : Type 0} (traffic : Traffic L) (medium : Medium D) (result : Turn) (last : Option CivilMinute) (talk : List TalkItem) (kept : List Delivery) (old new : Desk L D) : Type 0 where
+record Taken {L D : Type 0} (traffic : Traffic L) (medium : Medium D) (result : Turn) (last : Option CivilMinute) (talk : List TalkItem) (kept : List (List (List ℕ))) (old new : Desk L D) : Type 0 where
   pub turn : TakesTurn traffic medium result last talk kept old new
-  pub spare : spare old.session.book ≤ spare new.session.book + 5 * length turn.given
+  pub spare : spare old.session.book ≤ spare new.session.book + 5 * count turn.given
   pub answered : last_answer turn.given ≡ answer_by_turn result
 
 -- a turn answers a fault of the link, or its want of memory, as the step does
@@ -117,28 +122,28 @@ memory_by end result last mid round goes e = by_end end (subst (λ (x : Turn). G
     by_end (Some d) g = let z : round_end_of d ≡ round_end.OutOfMemory = cc in ap (λ (x : DumpEnd). Some x) (no_memory d z)
 
 module _ {L D : Type 0} {traffic : Traffic L} {medium : Medium D} {end : Option DumpEnd} {result : Turn} {old new : Desk L D} (h : HasTurned traffic medium end result old new) where
-  abbrev steps_from : Option DumpEnd → {last : Option CivilMinute} {talk : List TalkItem} {kept : List Delivery} → RoundAt last talk kept old.round → Type 0
+  abbrev steps_from : Option DumpEnd → {last : Option CivilMinute} {talk : List TalkItem} {kept : List (List (List ℕ))} → RoundAt last talk kept old.round → Type 0
   steps_from end {last} {talk} {kept} r = StepsAttempt traffic medium (settings_of old.session) end (tally_of last r.tries) (stamp_behind last r.tries) r.state
       (bench old.round.pump old.link (holding old.session.book old.disk old.report.marks.items)) (bench h.mid.pump new.link (holding new.session.book new.disk new.report.marks.items))
 
   -- the stamp of the last record kept, behind the batch that was given
-  new_last : {last : Option CivilMinute} {talk : List TalkItem} {kept : List Delivery} → RoundAt last talk kept old.round → (given : List Delivery)
+  new_last : {last : Option CivilMinute} {talk : List TalkItem} {kept : List (List (List ℕ))} → RoundAt last talk kept old.round → (given : Handed)
       → Chain (AddsBatch medium (settings_of old.session)) (holding old.session.book old.disk old.report.marks.items) given (holding new.session.book new.disk new.report.marks.items)
-      → last_of new.session.book ≡ last_kept (kept ++ given) last
+      → last_of new.session.book ≡ last_kept (join (kept_all kept) given) last
   new_last {last} {talk} {kept} r given chain =
       chain_last medium (settings_of old.session) (holding old.session.book old.disk old.report.marks.items) given (holding new.session.book new.disk new.report.marks.items) chain
-      ∙ ap (λ (x : Option CivilMinute). last_kept given x) (h.fits.last ∙ sym (last_is r)) ∙ sym (last_kept_append kept given last)
+      ∙ ap (λ (x : Option CivilMinute). last_kept given x) (h.fits.last ∙ sym (last_is r)) ∙ sym (last_joins kept given last)
 
-  takes_by : (end : Option DumpEnd) (result : Turn) → GoesOn end result (last_of new.session.book) h.mid new.round → {last : Option CivilMinute} {talk : List TalkItem} {kept : List Delivery} (r : RoundAt last talk kept old.round)
+  takes_by : (end : Option DumpEnd) (result : Turn) → GoesOn end result (last_of new.session.book) h.mid new.round → {last : Option CivilMinute} {talk : List TalkItem} {kept : List (List (List ℕ))} (r : RoundAt last talk kept old.round)
       → steps_from end r → Taken traffic medium result last talk kept old new
   takes_by None turn.More (inl stay) {last} {talk} {kept} r v =
       let one = stays r refl v h.mid new.round refl h.more h.noted stay in
-      record { turn = record { said = v.said; given = gives (stamp_behind last r.tries) r.state v.answers; adds = v.adds; chain = v.chain; stands = one }; spare = v.spare; answered = kept_done v.said (gives (stamp_behind last r.tries) r.state v.answers) one.1 }
+      record { turn = record { said = v.said; given = gives (stamp_behind last r.tries) r.state v.answers; adds = v.adds; chain = v.chain; stands = one }; spare = v.spare; answered = ap last_answer one.1 ∙ last_done one.0 }
   takes_by None turn.More (inr again) {last} {talk} {kept} r v =
       let one = tries_again r refl v h.mid new.round refl h.more h.noted (last_of new.session.book) (new_last r (gives (stamp_behind last r.tries) r.state v.answers) v.chain) again in
       record {
         spare = v.spare;
-        answered = kept_done v.said (gives (stamp_behind last r.tries) r.state v.answers) one.1;
+        answered = ap last_answer one.1 ∙ last_done one.0;
         turn = record {
           said = v.said;
           given = gives (stamp_behind last r.tries) r.state v.answers;
@@ -171,26 +176,26 @@ module _ {L D : Type 0} {traffic : Traffic L} {medium : Medium D} {end : Option 
     };
   }
 
-  taken : {last : Option CivilMinute} {talk : List TalkItem} {kept : List Delivery} → RoundAt last talk kept old.round → Taken traffic medium result last talk kept old new
+  taken : {last : Option CivilMinute} {talk : List TalkItem} {kept : List (List (List ℕ))} → RoundAt last talk kept old.round → Taken traffic medium result last talk kept old new
   taken {last} {talk} {kept} r = takes_by end result h.goes r (h.steps (tally_of last r.tries) (stamp_behind last r.tries) r.state r.shows)
 
-  pub takes : {last : Option CivilMinute} {talk : List TalkItem} {kept : List Delivery} → RoundAt last talk kept old.round → TakesTurn traffic medium result last talk kept old new
+  pub takes : {last : Option CivilMinute} {talk : List TalkItem} {kept : List (List (List ℕ))} → RoundAt last talk kept old.round → TakesTurn traffic medium result last talk kept old new
   takes r = (taken r).turn
 
-  abbrev TheChain : List Delivery → Type 0
+  abbrev TheChain : Handed → Type 0
   TheChain given = Chain (AddsBatch medium (settings_of old.session)) (holding old.session.book old.disk old.report.marks.items) given (holding new.session.book new.disk new.report.marks.items)
 
   -- where the round goes on the book is not stale, and a mark was noted for a batch, which took four changes
-  fresh_more : (said : List TalkItem) (given : List Delivery) → TheChain given → IsOneCallOrBatch said given
-      → (is_stale new.session ≡ false) × (length new.report.marks.items ≡ length old.report.marks.items + length given) × (medium.moment new.disk ≡ medium.moment old.disk + 4 * length given)
-  fresh_more said given chain (inl (call, none)) =
-      let c : TheChain [] = subst (λ (x : List Delivery). TheChain x) none chain in
-      (ap (λ (x : Holding D). Rattle.weather_book.specs.Book.is_stale x.book) c ∙ h.fits.fresh, omega (arith, ap (λ (x : Holding D). length x.marks) c, ap (λ (x : List Delivery). length x) none), omega (arith, ap (λ (x : Holding D). medium.moment x.disk) c, ap (λ (x : List Delivery). length x) none))
-  fresh_more said given chain (inr (silent, rows, one)) =
-      let c : TheChain (delivery rows stored.Done ∷ []) = subst (λ (x : List Delivery). TheChain x) one chain in (
+  fresh_more : (said : List TalkItem) (more : List (List (List ℕ))) → TheChain (kept_all more) → IsOneCallOrBatch said more
+      → (is_stale new.session ≡ false) × (length new.report.marks.items ≡ length old.report.marks.items + length more) × (medium.moment new.disk ≡ medium.moment old.disk + 4 * length more)
+  fresh_more said more chain (inl (call, none)) =
+      let c : TheChain Handed.Nothing = subst (λ (x : List (List (List ℕ))). TheChain (kept_all x)) none chain in
+      (ap (λ (x : Holding D). Rattle.weather_book.specs.Book.is_stale x.book) c ∙ h.fits.fresh, omega (arith, ap (λ (x : Holding D). length x.marks) c, ap (λ (x : List (List (List ℕ))). length x) none), omega (arith, ap (λ (x : Holding D). medium.moment x.disk) c, ap (λ (x : List (List (List ℕ))). length x) none))
+  fresh_more said more chain (inr (silent, rows, one)) =
+      let c : TheChain (Handed.Kept rows Handed.Nothing) = subst (λ (x : List (List (List ℕ))). TheChain (kept_all x)) one chain in (
         ap (λ (x : Holding D). Rattle.weather_book.specs.Book.is_stale x.book) c.2 ∙ c.1.stale ∙ h.fits.fresh,
-        omega (arith, ap (λ (x : Holding D). length x.marks) c.2, ap (λ (x : List Rattle.station_session.specs.declared.report.Mark.Mark). length x) c.1.noted, length-append old.report.marks.items (Rattle.station_session.specs.Report.mark_for stored.Done (medium.moment c.0.disk) (len_of old.session.book + length rows)), ap (λ (x : List Delivery). length x) one),
-        omega (arith, ap (λ (x : Holding D). medium.moment x.disk) c.2, c.1.moved, ap (λ (x : List Delivery). length x) one),
+        omega (arith, ap (λ (x : Holding D). length x.marks) c.2, ap (λ (x : List Rattle.station_session.specs.declared.report.Mark.Mark). length x) c.1.noted, length-append old.report.marks.items (Rattle.station_session.specs.Report.mark_for stored.Done (medium.moment c.0.disk) (len_of old.session.book + length rows)), ap (λ (x : List (List (List ℕ))). length x) one),
+        omega (arith, ap (λ (x : Holding D). medium.moment x.disk) c.2, c.1.moved, ap (λ (x : List (List (List ℕ))). length x) one),
       )
 
   pub fits_then : result ≡ turn.More → Fits new.session new.round new.report
@@ -198,37 +203,39 @@ module _ {L D : Type 0} {traffic : Traffic L} {medium : Medium D} {end : Option 
       let r = h.fits.marked.at in
       let k : Taken traffic medium turn.More h.fits.marked.last h.fits.marked.talk h.fits.marked.kept old new = subst (λ (x : Turn). Taken traffic medium x h.fits.marked.last h.fits.marked.talk h.fits.marked.kept old new) more (taken r) in
       let t = k.turn in
-      let f = fresh_more t.said t.given t.chain t.stands.1 in
-      let count : vec_len new.report.marks ≡ vec_len old.report.marks + length t.given = omega (arith, f.1, new.report.marks.ok.0, old.report.marks.ok.0) in
+      let now = t.stands.0 in
+      let f = fresh_more t.said now (subst TheChain t.stands.1 t.chain) t.stands.3 in
+      let noted : vec_len new.report.marks ≡ vec_len old.report.marks + length now = omega (arith, f.1, new.report.marks.ok.0, old.report.marks.ok.0) in
       record {
         fresh = f.0;
-        last = new_last r t.given t.chain ∙ last_is t.stands.0;
+        last = new_last r t.given t.chain ∙ ap (λ (x : Handed). last_kept x h.fits.marked.last) (kept_on h.fits.marked.kept now t.given t.stands.1) ∙ last_is t.stands.2;
         attempts = h.attempts;
         tally = h.tally;
         troubles = h.troubles;
         marked = record {
           last = h.fits.marked.last;
           talk = h.fits.marked.talk ++ t.said;
-          kept = h.fits.marked.kept ++ t.given;
-          at = t.stands.0;
-          count_is = omega (arith, count, h.fits.marked.count_is, length-append h.fits.marked.kept t.given);
+          kept = h.fits.marked.kept ++ now;
+          at = t.stands.2;
+          count_is = omega (arith, noted, h.fits.marked.count_is, length-append h.fits.marked.kept now);
         };
-        rows = omega (arith, h.fits.rows, k.spare, count);
+        rows = omega (arith, h.fits.rows, k.spare, noted, ap count t.stands.1, count_kept now);
         marks = omega (arith, h.fits.marks, h.capacity);
       }
 
   pub room_then : result ≡ turn.More → medium.moment old.disk + 4 * (1539 - vec_len old.report.marks) < 2 ^ 64 → medium.moment new.disk + 4 * (1539 - vec_len new.report.marks) < 2 ^ 64
   room_then more room =
       let t : TakesTurn traffic medium turn.More h.fits.marked.last h.fits.marked.talk h.fits.marked.kept old new = subst (λ (x : Turn). TakesTurn traffic medium x h.fits.marked.last h.fits.marked.talk h.fits.marked.kept old new) more (takes h.fits.marked.at) in
-      let f = fresh_more t.said t.given t.chain t.stands.1 in
-      omega (arith, room, f.1, f.2, new.report.marks.ok.0, old.report.marks.ok.0, few_kept t.stands.0, h.fits.marked.count_is, length-append h.fits.marked.kept t.given)
+      let now = t.stands.0 in
+      let f = fresh_more t.said now (subst TheChain t.stands.1 t.chain) t.stands.3 in
+      omega (arith, room, f.1, f.2, new.report.marks.ok.0, old.report.marks.ok.0, few_kept t.stands.2, h.fits.marked.count_is, length-append h.fits.marked.kept now)
 
   -- at most one batch was given
-  one_given : (result : Turn) {last : Option CivilMinute} {talk : List TalkItem} {kept : List Delivery} → (t : TakesTurn traffic medium result last talk kept old new) → InOrder t.given × (length t.given ≤ 1)
-  one_given turn.More t = elim t.stands.1 [ inl x ↦ no_given t.given x.1 | inr x ↦ lone_given (delivery x.1 stored.Done) t.given x.2 ]
-  one_given (turn.Ended e) t = elim t.stands.1 [ inl x ↦ no_given t.given x | inr x ↦ lone_given x.1 t.given x.2 ]
+  one_given : (result : Turn) {last : Option CivilMinute} {talk : List TalkItem} {kept : List (List (List ℕ))} → (t : TakesTurn traffic medium result last talk kept old new) → count t.given ≤ 1
+  one_given turn.More t = omega (arith, ap count t.stands.1, count_kept t.stands.0, few_more t.said t.stands.0 t.stands.3)
+  one_given (turn.Ended e) t = few_given t.said t.given t.stands.1
 
-  leaves_by : (given : List Delivery) → TheChain given → length given ≤ 1 → (most_of new.session ≡ most_of old.session) × Begins medium 4 old.disk new.disk
+  leaves_by : (given : Handed) → TheChain given → count given ≤ 1 → (most_of new.session ≡ most_of old.session) × Begins medium 4 old.disk new.disk
   leaves_by given chain one =
       let K = holding old.session.book old.disk old.report.marks.items in
       let M = holding new.session.book new.disk new.report.marks.items in (
@@ -237,7 +244,7 @@ module _ {L D : Type 0} {traffic : Traffic L} {medium : Medium D} {end : Option 
       )
 
   most_and_begun : (most_of new.session ≡ most_of old.session) × Begins medium 4 old.disk new.disk
-  most_and_begun = let t = takes h.fits.marked.at in leaves_by t.given t.chain (one_given result t).1
+  most_and_begun = let t = takes h.fits.marked.at in leaves_by t.given t.chain (one_given result t)
 
   stale_with_turn : (result : Turn) → stale_after (answer_by_turn result) false ≡ turn_stale result
   stale_with_turn turn.More = refl
@@ -247,7 +254,7 @@ module _ {L D : Type 0} {traffic : Traffic L} {medium : Medium D} {end : Option 
   stale_then : is_stale new.session ≡ turn_stale result
   stale_then =
       let k = taken h.fits.marked.at in
-      chain_stale medium (settings_of old.session) (holding old.session.book old.disk old.report.marks.items) k.turn.given (holding new.session.book new.disk new.report.marks.items) (one_given result k.turn).0 k.turn.chain
+      chain_stale medium (settings_of old.session) (holding old.session.book old.disk old.report.marks.items) k.turn.given (holding new.session.book new.disk new.report.marks.items) k.turn.chain
       ∙ ap (λ (x : Stored). stale_after x (is_stale old.session)) k.answered ∙ ap (λ (x : Bool). stale_after (answer_by_turn result) x) h.fits.fresh ∙ stale_with_turn result
 
   disk_fault : Faults medium old.disk new.disk (result ≡ turn.Ended round_end.DiskFault)
@@ -261,7 +268,7 @@ module _ {L D : Type 0} {traffic : Traffic L} {medium : Medium D} {end : Option 
   never_stale : result ≡ turn.Ended round_end.Stale → ⊥
   never_stale e =
       let k = taken h.fits.marked.at in
-      chain_never_stale medium (settings_of old.session) (holding old.session.book old.disk old.report.marks.items) k.turn.given (holding new.session.book new.disk new.report.marks.items) (one_given result k.turn).0 h.fits.fresh (k.answered ∙ ap answer_by_turn e) k.turn.chain
+      chain_never_stale medium (settings_of old.session) (holding old.session.book old.disk old.report.marks.items) k.turn.given (holding new.session.book new.disk new.report.marks.items) h.fits.fresh (k.answered ∙ ap answer_by_turn e) k.turn.chain
 
   pub answers : Cause (traffic.faults old.link) (traffic.faults new.link) (end ≡ Some dump_end.LinkFault) → Cause (traffic.shortages old.link) (traffic.shortages new.link) (end ≡ Some dump_end.OutOfMemory) → AnswersTurn traffic medium result old new
   answers fault shortage = record {
@@ -276,20 +283,26 @@ module _ {L D : Type 0} {traffic : Traffic L} {medium : Medium D} {end : Option 
 
   -- a round that was under way goes on, or did all that a round does
   pub goes_on : new.report.rows_after ≡ held new.session → Cause (traffic.faults old.link) (traffic.faults new.link) (end ≡ Some dump_end.LinkFault) → Cause (traffic.shortages old.link) (traffic.shortages new.link) (end ≡ Some dump_end.OutOfMemory)
-      → (began : RoundHost L D) (talk : List TalkItem) (kept : List Delivery) → UnderWay traffic medium began talk kept old → GoesOnFrom traffic medium result began talk kept new
+      → (began : RoundHost L D) (talk : List TalkItem) (kept : List (List (List ℕ))) → UnderWay traffic medium began talk kept old → GoesOnFrom traffic medium result began talk kept new
   goes_on after fault shortage began talk kept u = by_result result (takes u.at) (answers fault shortage) (leaves after)
     where
       by_result : (result : Turn) → TakesTurn traffic medium result (last_of began.session.book) talk kept old new → AnswersTurn traffic medium result old new → LeavesTurn medium result old new → GoesOnFrom traffic medium result began talk kept new
       by_result turn.More t a l = (
         t.said,
-        t.given,
-        t.stands.1,
+        t.stands.0,
+        t.stands.3,
         record {
-          at = t.stands.0;
+          at = t.stands.2;
           adds = adds_joins u.adds t.adds;
           faults = omega (arith, u.faults, fault.never_falls);
           shortages = omega (arith, u.shortages, shortage.never_falls);
-          in_step = record { fresh = u.in_step.fresh; settings = h.settings ∙ u.in_step.settings; before = h.before ∙ u.in_step.before; chain = chain_on u.in_step t };
+          in_step = record {
+            fresh = u.in_step.fresh;
+            settings = h.settings ∙ u.in_step.settings;
+            before = h.before ∙ u.in_step.before;
+            chain = subst (λ (x : Handed). Chain (AddsBatch medium (settings_of began.session)) (holding began.session.book began.disk []) x (holding new.session.book new.disk new.report.marks.items))
+                (kept_on kept t.stands.0 t.given t.stands.1) (chain_on u.in_step t);
+          };
         },
       )
       by_result (turn.Ended e) t a l = makes_round (same_book began.session.book) refl u t a l

@@ -6,11 +6,11 @@ use Rattle.disk_model.specs.Medium.{Medium}
 use Rattle.serial_link.specs.Traffic.{Traffic}
 use Rattle.settings_file.specs.StationSettings.{StationSettings}
 use Rattle.serial_link.specs.declared.talk.TalkItem.{TalkItem}
-use Rattle.causes.specs.declared.stored.Stored.{Stored}
 use Rattle.causes.specs.declared.stored.Stored.TheVariants.{Done}
 use Rattle.dmpaft_driver.specs.Attempt.{End}
+use Rattle.dmpaft_driver.specs.Batch.{batches}
 use Rattle.dmpaft_driver.specs.Exact.{end_of}
-use Rattle.dmpaft_driver.specs.Keeper.{Delivery, last_kept}
+use Rattle.dmpaft_driver.specs.Keeper.{Handed, kept_all, count, last_kept}
 use Rattle.dmpaft_driver.specs.Phases.{part_of}
 use Rattle.dmpaft_driver.specs.Pump.{State, Hearing, Keeping, Over, Settling, begun}
 use Rattle.dmpaft_driver.specs.Shown.{answer_of, end_at, Shows, ShowsAt, Stands, Tallied, talks_at, all_kept}
@@ -24,6 +24,7 @@ use Rattle.dmpaft_driver.specs.declared.stage.Stage.{Stage}
 use Rattle.dmpaft_driver.specs.declared.stage.Stage.TheVariants as stage
 use Rattle.dmpaft_driver.proofs.Cutting.{begun_not_over}
 use Rattle.dmpaft_driver.proofs.Dumping.{cut_shown, kept_few, suits_at}
+use Rattle.dmpaft_driver.proofs.Keeping.{kept_answered, count_kept}
 use Rattle.dmpaft_driver.proofs.Pumping.{all_few}
 use Rattle.dmpaft_driver.proofs.Rows.{within_self}
 use Rattle.dmpaft_driver.proofs.Trials.{mild_runs}
@@ -33,10 +34,9 @@ use Rattle.station_session.specs.Attempts.{stamp_behind, all_batches}
 use Rattle.station_session.specs.Fits.{first_some, last_so_far}
 use Rattle.station_session.specs.RoundAt.{RoundAt, tally_of}
 use Rattle.station_session.specs.Stepping.{Bench, StepsAttempt}
-use Rattle.station_session.proofs.BookAfter.{last_kept_append}
 use Rattle.station_session.proofs.Ends.{batch_count}
 use Rattle.station_session.proofs.LastStamps.{first_joins, handed_tells, all_tell}
-use Rattle.station_session.proofs.Rounds.{behind_is, few_skips}
+use Rattle.station_session.proofs.Rounds.{behind_is, newest_behind, count_behind, few_skips}
 
 -- a pump knows the stamp asked for, and what it counted
 record Known (start : Tally) (a : Option CivilMinute) (s : State) (pump : Pump) : Type 0 where
@@ -44,17 +44,21 @@ record Known (start : Tally) (a : Option CivilMinute) (s : State) (pump : Pump) 
   pub pages : pump.tally.pages ≤ start.pages + 513
   pub skipped : pump.tally.skipped ≤ start.skipped + 2565
   pub newest : pump.tally.last ≡ last_kept (handed a s) start.last
-  pub few : length (handed a s) ≤ 513
+  pub few : count (handed a s) ≤ 513
 
-known_as : (start : Tally) (a : Option CivilMinute) (s : State) (pump : Pump) (k : Stored) (place : ℕ) (taken all : List (List ℕ)) (steps : List Delivery) → Tallied start a place all steps pump
-    → handed a s ≡ steps → length steps ≤ length all → Known start a s pump
-known_as start a s pump k place taken all steps t e few = record {
+known_as : (start : Tally) (a : Option CivilMinute) (s : State) (pump : Pump) (place : ℕ) (all : List (List ℕ)) (steps : Handed) → Tallied start a place all steps pump
+    → handed a s ≡ steps → count steps ≤ length all → Known start a s pump
+known_as start a s pump place all steps t e few = record {
   asked = t.asked;
   pages = omega (arith, t.pages, t.most_pages);
   skipped = omega (arith, t.skipped, all_few place all, t.most_pages);
-  newest = t.last ∙ ap (λ (y : List Delivery). last_kept y start.last) (sym e);
-  few = omega (arith, few, t.most_pages, ap (λ (y : List Delivery). length y) e);
+  newest = t.last ∙ ap (λ (y : Handed). last_kept y start.last) (sym e);
+  few = omega (arith, few, t.most_pages, ap count e);
 }
+
+-- of pages there are no more batches than pages
+few_batches : (a : Option CivilMinute) (place : ℕ) (taken : List (List ℕ)) → count (all_kept a place taken) ≤ length taken
+few_batches a place taken = omega (arith, kept_few Done a place taken, ap count (kept_answered (batches a place taken)))
 
 known : (start : Tally) (a : Option CivilMinute) (s : State) (pump : Pump) → Shows start a s pump → Known start a s pump
 known start a s pump h = by_stage pump.stage refl
@@ -62,17 +66,17 @@ known start a s pump h = by_stage pump.stage refl
     by_stage : (st : Stage) → pump.stage ≡ st → Known start a s pump
     by_stage (stage.Saying q) e =
         let c = cut_shown start a s pump h (ap talks_at e) in
-        known_as start a s pump Done c.0 c.1 c.1 (all_kept a c.0 c.1) c.3 c.4 (kept_few Done a c.0 c.1)
+        known_as start a s pump c.0 c.1 (all_kept a c.0 c.1) c.3 c.4 (few_batches a c.0 c.1)
     by_stage (stage.Hearing q) e =
         let c = cut_shown start a s pump h (ap talks_at e) in
-        known_as start a s pump Done c.0 c.1 c.1 (all_kept a c.0 c.1) c.3 c.4 (kept_few Done a c.0 c.1)
+        known_as start a s pump c.0 c.1 (all_kept a c.0 c.1) c.3 c.4 (few_batches a c.0 c.1)
     by_stage (stage.Keeping more) e =
         let k = subst (λ (x : Stage). ShowsAt x start a s pump) e h in
-        known_as start a s pump Done k.place k.taken (k.taken ++ k.page ∷ []) (all_kept a k.place k.taken) k.counts.tallied (ap (handed a) k.is)
-        (omega (arith, kept_few Done a k.place k.taken, length-append k.taken (k.page ∷ [])))
+        known_as start a s pump k.place (k.taken ++ k.page ∷ []) (all_kept a k.place k.taken) k.counts.tallied (ap (handed a) k.is)
+        (omega (arith, few_batches a k.place k.taken, length-append k.taken (k.page ∷ [])))
     by_stage (stage.Ended end) e =
         let k = subst (λ (x : Stage). ShowsAt x start a s pump) e h in
-        known_as start a s pump (answer_of end) k.place k.taken k.taken _ k.tallied (ap (handed a) k.is) (kept_few (answer_of end) a k.place k.taken)
+        known_as start a s pump k.place k.taken _ k.tallied (ap (handed a) k.is) (kept_few (answer_of end) a k.place k.taken)
 
 -- what is over is so at the pump's stage, and the other way round
 pub end_shown : (start : Tally) (a : Option CivilMinute) (s : State) (pump : Pump) → Shows start a s pump → (place : ℕ) (taken : List (List ℕ)) (e : PumpEnd) → s ≡ Over place taken e → end_at pump.stage ≡ Some e
@@ -114,7 +118,7 @@ twice (Some y) x = refl
 pub room_least : (spare moment capacity count bl : ℕ) → 5 * bl ≤ spare → moment + 4 * bl < 2 ^ 64 → bl ≤ capacity - count → bl ≤ min (spare / 5) (min ((2 ^ 64 - 1 - moment) / 4) (capacity - count))
 room_least spare moment capacity count bl h k m = omega arith
 
-module _ {last : Option CivilMinute} {talk : List TalkItem} {kept : List Delivery} {round : Round} (r : RoundAt last talk kept round) where
+module _ {last : Option CivilMinute} {talk : List TalkItem} {kept : List (List (List ℕ))} {round : Round} (r : RoundAt last talk kept round) where
   knows : Known (tally_of last r.tries) (stamp_behind last r.tries) r.state round.pump
   knows = known (tally_of last r.tries) (stamp_behind last r.tries) r.state round.pump r.shows
 
@@ -127,28 +131,27 @@ module _ {last : Option CivilMinute} {talk : List TalkItem} {kept : List Deliver
   never_refused place taken e is = subst Mild (r.stands ∙ is) (mild_runs (stamp_behind last r.tries) (begun (stamp_behind last r.tries) Settling) r.said r.answers tt r.done)
 
   -- the stamp of the last record kept, by what the pump knows
-  pub last_is : last_kept kept last ≡ last_so_far round
+  pub last_is : last_kept (kept_all kept) last ≡ last_so_far round
   last_is =
       let T = all_batches last r.tries in
       let a = stamp_behind last r.tries in
       let H = handed a r.state in
       let h = last_kept H None in
       let t = last_kept T None in
-      let A : a ≡ first_some t last = behind_is last r.tries ∙ all_tell last r.tries last in
+      let A : a ≡ first_some t last = behind_is last r.tries r.failed ∙ all_tell last r.tries last in
       let B : first_some t a ≡ a = ap (λ (x : Option CivilMinute). first_some t x) A ∙ twice t last ∙ sym A in
       let C : round.pump.tally.last ≡ first_some h t = knows.newest ∙ handed_tells a r.state t in
-      ap (λ (x : List Delivery). last_kept x last) r.kept_are ∙ last_kept_append T H last ∙ ap (λ (x : Option CivilMinute). last_kept H x) (sym (behind_is last r.tries)) ∙ handed_tells a r.state a
+      ap (λ (x : Handed). last_kept x last) r.kept_are ∙ newest_behind last r.tries r.failed H last ∙ ap (λ (x : Option CivilMinute). last_kept H x) (sym (behind_is last r.tries r.failed)) ∙ handed_tells a r.state a
       ∙ ap (λ (x : Option CivilMinute). first_some h x) (sym B) ∙ first_joins h t a ∙ ap (λ (x : Option CivilMinute). first_some x a) (sym C) ∙ ap (λ (x : Option CivilMinute). first_some round.pump.tally.last x) (sym knows.asked)
 
   -- that of the attempt under way
-  last_here : last_kept kept last ≡ last_kept (handed (stamp_behind last r.tries) r.state) (stamp_behind last r.tries)
+  last_here : last_kept (kept_all kept) last ≡ last_kept (handed (stamp_behind last r.tries) r.state) (stamp_behind last r.tries)
   last_here =
-      let T = all_batches last r.tries in
       let H = handed (stamp_behind last r.tries) r.state in
-      ap (λ (x : List Delivery). last_kept x last) r.kept_are ∙ last_kept_append T H last ∙ ap (λ (x : Option CivilMinute). last_kept H x) (sym (behind_is last r.tries))
+      ap (λ (x : Handed). last_kept x last) r.kept_are ∙ newest_behind last r.tries r.failed H last ∙ ap (λ (x : Option CivilMinute). last_kept H x) (sym (behind_is last r.tries r.failed))
 
-  kept_length : length kept ≡ length (all_batches last r.tries) + length (handed (stamp_behind last r.tries) r.state)
-  kept_length = ap (λ (x : List Delivery). length x) r.kept_are ∙ length-append (all_batches last r.tries) (handed (stamp_behind last r.tries) r.state)
+  kept_length : length kept ≡ count (all_batches last r.tries) + count (handed (stamp_behind last r.tries) r.state)
+  kept_length = sym (count_kept kept) ∙ ap count r.kept_are ∙ count_behind last r.tries r.failed (handed (stamp_behind last r.tries) r.state)
 
   -- a round has no more batches than pages
   pub few_kept : length kept ≤ 1539
@@ -158,7 +161,7 @@ module _ {last : Option CivilMinute} {talk : List TalkItem} {kept : List Deliver
   pub suits : (o : Option CivilMinute) (room : ℕ) → o ≡ last_so_far round → 1539 - length kept ≤ room → Suits o room round.pump
   suits o room e few = λ k.
       let a = stamp_behind last r.tries in
-      suits_at round.pump.stage (tally_of last r.tries) a r.state round.pump r.shows k o a (e ∙ sym last_is ∙ last_here) (within_self a) (room + length (handed a r.state)) room
+      suits_at round.pump.stage (tally_of last r.tries) a r.state round.pump r.shows k o a (e ∙ sym last_is ∙ last_here) (within_self a) (room + count (handed a r.state)) room
       (omega (arith, few, kept_length, batch_count last r.tries, r.pages, r.few)) (omega arith)
 
   pub few_pages : round.pump.tally.pages ≤ 1539

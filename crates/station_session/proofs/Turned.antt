@@ -9,7 +9,7 @@ use Rattle.causes.specs.declared.stored.Stored.{Stored}
 use Rattle.causes.specs.declared.stored.Stored.TheVariants as stored
 use Rattle.dmpaft_driver.specs.Attempt.{End}
 use Rattle.dmpaft_driver.specs.Exact.{AllDone, end_of}
-use Rattle.dmpaft_driver.specs.Keeper.{Delivery, delivery, last_kept}
+use Rattle.dmpaft_driver.specs.Keeper.{Handed, one_batch, kept_all, join, last_kept}
 use Rattle.dmpaft_driver.specs.Pump.{State, Hearing, Keeping, Over, Settling, begun, pump_from, answered_by, batch_of}
 use Rattle.dmpaft_driver.specs.Shown.{Shows, end_at}
 use Rattle.dmpaft_driver.specs.Standing.{handed, gives}
@@ -23,6 +23,7 @@ use Rattle.dmpaft_driver.specs.declared.pump_end.PumpEnd.{PumpEnd}
 use Rattle.dmpaft_driver.specs.declared.pump_end.PumpEnd.TheVariants as pump_end
 use Rattle.dmpaft_driver.proofs.Dumping.{goes_on, handed_turn, none_given, shown_no_astray}
 use Rattle.dmpaft_driver.proofs.Finishing.{Mild}
+use Rattle.dmpaft_driver.proofs.Keeping.{join_assoc, join_none, kept_join}
 use Rattle.dmpaft_driver.proofs.Trials.{all_done, mild_runs}
 use Rattle.station_session.specs.declared.report.Report.{Report}
 use Rattle.station_session.specs.declared.round.Round.{Round}
@@ -31,13 +32,13 @@ use Rattle.station_session.specs.declared.round_end.RoundEnd.TheVariants as roun
 use Rattle.station_session.specs.Attempts.{Tried, Attempts, end_after, stamp_behind, all_batches, all_said}
 use Rattle.station_session.specs.Batches.{last_answer}
 use Rattle.station_session.specs.Round.{IsTally}
-use Rattle.station_session.specs.RoundAt.{HasFailed, RoundAt, tally_of}
+use Rattle.station_session.specs.RoundAt.{AllFailed, HasFailed, RoundAt, tally_of}
 use Rattle.station_session.specs.Stepping.{Bench, StepsAttempt, StaysAt, TriesAgain, IsRefused, Notes, refused_by, round_end_of}
 use Rattle.station_session.specs.Troubles.{trouble_of, troubles_of}
 use Rattle.station_session.specs.Turning.{IsOneCallOrBatch, IsOneAtMost, EndsRound}
 use Rattle.station_session.proofs.Brought.{Brought, over_brought, ended_brought}
 use Rattle.station_session.proofs.Rounds.{all, all_length, said_is, given_is, troubles_is, all_pages, counted, tally_is, all_failed, round_ends, gives_up, behind_is}
-use Rattle.station_session.proofs.Ends.{answer_at}
+use Rattle.station_session.proofs.Ends.{answer_at, last_one}
 use Rattle.station_session.proofs.SoFar.{end_shown, over_at_end, never_refused}
 
 refused_after : (e : PumpEnd) (end : RoundEnd) → refused_by e ≡ Some end → end_after (dump_end_of e) ≡ Some end
@@ -116,6 +117,10 @@ refusal_at stored.Full ne a more place taken = (pump_end.Full, round_end.Archive
 refusal_at stored.Stale ne a more place taken = (pump_end.Stale, round_end.Stale, refl, refl, refl)
 refusal_at stored.DiskFault ne a more place taken = (pump_end.DiskFault, round_end.DiskFault, refl, refl, refl)
 
+-- batches that were kept, and more of them
+pub kept_on : (kept more : List (List (List ℕ))) (given : Handed) → given ≡ kept_all more → join (kept_all kept) given ≡ kept_all (kept ++ more)
+kept_on kept more given e = ap (λ (x : Handed). join (kept_all kept) x) e ∙ sym (kept_join kept more)
+
 pub is_done : (k : Stored) → (k ≡ stored.Done) ⊎ (k ≢ stored.Done)
 is_done stored.Done = inl refl
 is_done stored.Full = inr (λ e. cc)
@@ -124,12 +129,13 @@ is_done stored.DiskFault = inr (λ e. cc)
 
 module _ (start : Tally) (a : Option CivilMinute) (s : State) (t : List TalkItem) (ks : List Stored) (pump : Pump) (shown : Shows start a (pump_from a s t ks) pump) where
   -- where the batch was not refused, it was kept
-  pub not_refused : ((e : PumpEnd) → end_at pump.stage ≡ Some e → refused_by e ≡ None) → IsOneStep a s t ks → AllDone ks × IsOneCallOrBatch t (gives a s ks)
-  not_refused mild (inl (none, call)) = (subst AllDone (sym none) tt, inl (call, ap (gives a s) none ∙ none_given a s))
+  pub not_refused : ((e : PumpEnd) → end_at pump.stage ≡ Some e → refused_by e ≡ None) → IsOneStep a s t ks → AllDone ks × (more : List (List (List ℕ))) × (gives a s ks ≡ kept_all more) × IsOneCallOrBatch t more
+  not_refused mild (inl (none, call)) = (subst AllDone (sym none) tt, [], ap (gives a s) none ∙ none_given a s, inl (call, refl))
   not_refused mild (inr (none, k, is, more, place, taken, page, at, some)) = elim (is_done k) [
     | inl done ↦
         let one : ks ≡ stored.Done ∷ [] = is ∙ ap (λ (x : Stored). x ∷ []) done in
-        (subst AllDone (sym one) (refl, tt), inr (none, batch_of a place taken page, ap (λ (x : State). gives a x ks) at ∙ ap (gives a (Keeping more place taken page)) one))
+        let rows = batch_of a place taken page in
+        (subst AllDone (sym one) (refl, tt), rows ∷ [], ap (λ (x : State). gives a x ks) at ∙ ap (gives a (Keeping more place taken page)) one, inr (none, rows, refl))
     | inr ne ↦
         let r = refusal_at k ne a more place (taken ++ page ∷ []) in
         let over : pump_from a s t ks ≡ Over place (taken ++ page ∷ []) r.0 =
@@ -142,9 +148,9 @@ module _ (start : Tally) (a : Option CivilMinute) (s : State) (t : List TalkItem
   pub one_at_most : IsOneStep a s t ks → IsOneAtMost t (gives a s ks)
   one_at_most (inl (none, call)) = inl (ap (gives a s) none ∙ none_given a s)
   one_at_most (inr (none, k, is, more, place, taken, page, at, some)) =
-      inr (none, delivery (batch_of a place taken page) k, ap (λ (x : State). gives a x ks) at ∙ ap (gives a (Keeping more place taken page)) is)
+      inr (none, k, batch_of a place taken page, ap (λ (x : State). gives a x ks) at ∙ ap (gives a (Keeping more place taken page)) is)
 
-module _ {last : Option CivilMinute} {talk : List TalkItem} {kept : List Delivery} {round : Round} (r : RoundAt last talk kept round) where
+module _ {last : Option CivilMinute} {talk : List TalkItem} {kept : List (List (List ℕ))} {round : Round} (r : RoundAt last talk kept round) where
   abbrev start : Tally
   start = tally_of last r.tries
 
@@ -155,8 +161,8 @@ module _ {last : Option CivilMinute} {talk : List TalkItem} {kept : List Deliver
   less = omega (arith, r.few)
 
   -- the attempt that is over, behind those that failed
-  module _ (t : List TalkItem) (given : List Delivery) (s : State) (end : DumpEnd) (tally : Tally) (b : Brought start a (r.said ++ t) end (handed a s) tally)
-      (more_given : handed a s ≡ handed a r.state ++ given) where
+  module _ (t : List TalkItem) (given : Handed) (s : State) (end : DumpEnd) (tally : Tally) (b : Brought start a (r.said ++ t) end (handed a s) tally)
+      (more_given : handed a s ≡ join (handed a r.state) given) where
     tries : List Tried
     tries = all last r.tries (r.said ++ t) end (handed a s) tally r.failed less b
 
@@ -166,11 +172,11 @@ module _ {last : Option CivilMinute} {talk : List TalkItem} {kept : List Deliver
         ap (λ (x : List TalkItem). x ++ t) r.talk_is ∙ append_assoc (all_said r.tries) r.said t
         ∙ sym (said_is last r.tries (r.said ++ t) end (handed a s) tally r.failed less b)
 
-    kept_are : kept ++ given ≡ all_batches last tries
+    kept_are : join (kept_all kept) given ≡ all_batches last tries
     unfolding tries
     kept_are =
-        ap (λ (x : List Delivery). x ++ given) r.kept_are ∙ append_assoc (all_batches last r.tries) (handed a r.state) given
-        ∙ ap (λ (x : List Delivery). all_batches last r.tries ++ x) (sym more_given)
+        ap (λ (x : Handed). join x given) r.kept_are ∙ join_assoc (all_batches last r.tries) (handed a r.state) given
+        ∙ ap (λ (x : Handed). join (all_batches last r.tries) x) (sym more_given)
         ∙ sym (given_is last r.tries (r.said ++ t) end (handed a s) tally r.failed less b)
 
     troubles_are : (noted : List Trouble) → noted ≡ round.troubles.items ++ trouble_of end → noted ≡ troubles_of tries
@@ -179,7 +185,7 @@ module _ {last : Option CivilMinute} {talk : List TalkItem} {kept : List Deliver
         is ∙ ap (λ (x : List Trouble). x ++ trouble_of end) r.troubles ∙ sym (troubles_is last r.tries (r.said ++ t) end (handed a s) tally r.failed less b)
 
     pub ends_round : (e : RoundEnd) → (end_after end ≡ Some e) ⊎ ((end_after end ≡ None) × (e ≡ round_end.GaveUp) × (round.more ≡ 0)) → (report : Report) → report.attempts + round.more ≡ 3 → report.tally ≡ tally
-        → report.troubles.items ≡ round.troubles.items ++ trouble_of end → EndsRound last (talk ++ t) (kept ++ given) e report
+        → report.troubles.items ≡ round.troubles.items ++ trouble_of end → EndsRound last (talk ++ t) (join (kept_all kept) given) e report
     unfolding tries
     ends_round e how report made counts noted = record {
       tries = tries;
@@ -200,15 +206,16 @@ module _ {last : Option CivilMinute} {talk : List TalkItem} {kept : List Deliver
             (gives_up last r.tries (r.said ++ t) end (handed a s) tally r.failed less b none (omega (arith, zero, r.few)))
 
     -- it failed, and the next one begins
-    pub again : (mid : Round) → end_after end ≡ None → mid.more ≡ round.more → mid.pump.tally ≡ tally → (o : Option CivilMinute) → o ≡ last_kept (kept ++ given) last
-        → (round' : Round) → round.more ≡ round'.more + 1 → Shows tally o (begun o Settling) round'.pump → round'.troubles.items ≡ round.troubles.items ++ trouble_of end → RoundAt last (talk ++ t) (kept ++ given) round'
+    pub again : (now : List (List (List ℕ))) → given ≡ kept_all now → (mid : Round) → end_after end ≡ None → mid.more ≡ round.more → mid.pump.tally ≡ tally → (o : Option CivilMinute) → o ≡ last_kept (join (kept_all kept) given) last
+        → (round' : Round) → round.more ≡ round'.more + 1 → Shows tally o (begun o Settling) round'.pump → round'.troubles.items ≡ round.troubles.items ++ trouble_of end → RoundAt last (talk ++ t) (kept ++ now) round'
     unfolding tries
-    again mid none more counts o is round' fewer shows noted =
-        let stamp : stamp_behind last tries ≡ o = behind_is last tries ∙ ap (λ (x : List Delivery). last_kept x last) (sym kept_are) ∙ sym is in
+    again now all_kept mid none more counts o is round' fewer shows noted =
+        let failed : AllFailed last tries = all_failed last r.tries (r.said ++ t) end (handed a s) tally r.failed less b none in
+        let stamp : stamp_behind last tries ≡ o = behind_is last tries failed ∙ ap (λ (x : Handed). last_kept x last) (sym kept_are) ∙ sym is in
         let same : tally ≡ tally_of last tries = tally_is last r.tries (r.said ++ t) end (handed a s) tally r.failed less b in
         record {
           tries = tries;
-          failed = all_failed last r.tries (r.said ++ t) end (handed a s) tally r.failed less b none;
+          failed = failed;
           few = omega (arith, fewer, r.few, all_length last r.tries (r.said ++ t) end (handed a s) tally r.failed less b);
           pages = omega (arith, r.pages, all_length last r.tries (r.said ++ t) end (handed a s) tally r.failed less b, all_pages last r.tries (r.said ++ t) end (handed a s) tally r.failed less b);
           said = [];
@@ -219,30 +226,34 @@ module _ {last : Option CivilMinute} {talk : List TalkItem} {kept : List Deliver
           shows = subst (λ (x : Option CivilMinute). Shows (tally_of last tries) x (begun x Settling) round'.pump) (sym stamp) (subst (λ (x : Tally). Shows x o (begun o Settling) round'.pump) same shows);
           goes_on = λ f. let z : Hearing Settling [] 0 ≡ Over f.0 f.1 (pump_end.Failed f.2) = f.3 in cc;
           talk_is = talk_is ∙ sym (append-nil (all_said tries));
-          kept_are = kept_are ∙ sym (append-nil (all_batches last tries));
+          kept_are = sym (kept_on kept now given all_kept) ∙ kept_are ∙ sym (join_none (all_batches last tries));
           troubles = troubles_are round'.troubles.items noted;
         }
 
   -- a step after which nothing ended
   module _ {L D : Type 0} {traffic : Traffic L} {medium : Medium D} {settings : StationSettings} {old new : Bench L D} (same : old.pump ≡ round.pump) (v : StepsAttempt traffic medium settings None start a r.state old new) where
-    abbrev given : List Delivery
-    given = gives a r.state v.answers
-
     abbrev state : State
     state = pump_from a r.state v.said v.answers
 
-    given_more : handed a (pump_from a r.state v.said v.answers) ≡ handed a r.state ++ gives a r.state v.answers
+    -- the round goes on, and what it was given was kept
+    abbrev GoesOnBy : Round → Type 0
+    GoesOnBy round' =
+        (more : List (List (List ℕ))) × (gives a r.state v.answers ≡ kept_all more) × RoundAt last (talk ++ v.said) (kept ++ more) round' × IsOneCallOrBatch v.said more
+
+    given_more : handed a (pump_from a r.state v.said v.answers) ≡ join (handed a r.state) (gives a r.state v.answers)
     given_more = handed_turn a r.state v.said v.answers (shown_no_astray start a state new.pump v.turns.0) v.turns.1
 
     at : Rattle.dmpaft_driver.specs.Pump.pump_after a (r.said ++ v.said) (r.answers ++ v.answers) ≡ pump_from a r.state v.said v.answers
     at = goes_on a r.said v.said r.answers v.answers r.state r.stands (shown_no_astray start a r.state round.pump r.shows)
 
     -- the attempt goes on
-    pub stays : (mid round' : Round) → mid.pump ≡ new.pump → mid.more ≡ round.more → mid.troubles.items ≡ round.troubles.items → StaysAt mid round' → RoundAt last (talk ++ v.said) (kept ++ gives a r.state v.answers) round' × IsOneCallOrBatch v.said (gives a r.state v.answers)
+    pub stays : (mid round' : Round) → mid.pump ≡ new.pump → mid.more ≡ round.more → mid.troubles.items ≡ round.troubles.items → StaysAt mid round' → GoesOnBy round'
     stays mid round' pump more noted (is, mild, zero) =
         let shown : Shows start a state mid.pump = subst (λ (x : Pump). Shows start a state x) (sym pump) v.turns.0 in
         let one = not_refused start a r.state v.said v.answers mid.pump shown mild v.turns.1 in (
-          subst (λ (x : Round). RoundAt last (talk ++ v.said) (kept ++ gives a r.state v.answers) x) (sym is) (record {
+          one.1,
+          one.2,
+          subst (λ (x : Round). RoundAt last (talk ++ v.said) (kept ++ one.1) x) (sym is) (record {
             tries = r.tries;
             failed = r.failed;
             few = omega (arith, r.few, more);
@@ -256,11 +267,12 @@ module _ {last : Option CivilMinute} {talk : List TalkItem} {kept : List Deliver
             goes_on = λ f. zero f.2 (end_shown start a state mid.pump shown f.0 f.1 (pump_end.Failed f.2) f.3);
             talk_is = ap (λ (x : List TalkItem). x ++ v.said) r.talk_is ∙ append_assoc (all_said r.tries) r.said v.said;
             kept_are =
-                ap (λ (x : List Delivery). x ++ gives a r.state v.answers) r.kept_are ∙ append_assoc (all_batches last r.tries) (handed a r.state) (gives a r.state v.answers)
-                ∙ ap (λ (x : List Delivery). all_batches last r.tries ++ x) (sym given_more);
+                sym (kept_on kept one.1 (gives a r.state v.answers) one.2)
+                ∙ ap (λ (x : Handed). join x (gives a r.state v.answers)) r.kept_are ∙ join_assoc (all_batches last r.tries) (handed a r.state) (gives a r.state v.answers)
+                ∙ ap (λ (x : Handed). join (all_batches last r.tries) x) (sym given_more);
             troubles = noted ∙ r.troubles;
           }),
-          one.1,
+          one.3,
         )
 
     -- the attempt ended so
@@ -270,8 +282,7 @@ module _ {last : Option CivilMinute} {talk : List TalkItem} {kept : List Deliver
         over_brought start a (r.said ++ v.said) (r.answers ++ v.answers) state new.pump at v.turns.0 o.0 o.1 e o.2
 
     -- it failed, and the next one begins
-    pub tries_again : (mid round' : Round) → mid.pump ≡ new.pump → mid.more ≡ round.more → mid.troubles.items ≡ round.troubles.items → (o : Option CivilMinute) → o ≡ last_kept (kept ++ gives a r.state v.answers) last → TriesAgain o mid round'
-        → RoundAt last (talk ++ v.said) (kept ++ gives a r.state v.answers) round' × IsOneCallOrBatch v.said (gives a r.state v.answers)
+    pub tries_again : (mid round' : Round) → mid.pump ≡ new.pump → mid.more ≡ round.more → mid.troubles.items ≡ round.troubles.items → (o : Option CivilMinute) → o ≡ last_kept (join (kept_all kept) (gives a r.state v.answers)) last → TriesAgain o mid round' → GoesOnBy round'
     tries_again mid round' pump more before o is (trouble, failed, fewer, shows, noted) =
         let ended : end_at new.pump.stage ≡ Some (pump_end.Failed trouble) = sym (ap (λ (x : Pump). end_at x.stage) pump) ∙ failed in
         let b = brought (pump_end.Failed trouble) ended in
@@ -279,10 +290,12 @@ module _ {last : Option CivilMinute} {talk : List TalkItem} {kept : List Deliver
         λ e k. let z : Some (pump_end.Failed trouble) ≡ Some e = sym ended ∙ k in let w : pump_end.Failed trouble ≡ e = cc in sym (ap refused_by w) in
         let one = not_refused start a r.state v.said v.answers new.pump v.turns.0 mild v.turns.1 in
         let counts : mid.pump.tally ≡ new.pump.tally = ap (λ (x : Pump). x.tally) pump in (
-          again v.said (gives a r.state v.answers) state (dump_end.Failed trouble) new.pump.tally b given_more mid refl more counts o is round' (omega (arith, fewer, more))
+          one.1,
+          one.2,
+          again v.said (gives a r.state v.answers) state (dump_end.Failed trouble) new.pump.tally b given_more one.1 one.2 mid refl more counts o is round' (omega (arith, fewer, more))
               (subst (λ (x : Tally). Shows x o (begun o Settling) round'.pump) counts shows)
               (noted ∙ ap (λ (x : List Trouble). x ++ trouble ∷ []) before),
-          one.1,
+          one.3,
         )
 
     -- where each batch was kept the attempt is over by no refusal
@@ -310,12 +323,12 @@ module _ {last : Option CivilMinute} {talk : List TalkItem} {kept : List Deliver
               let z : x.0 ≡ e = cc in
               let w : Some x.1 ≡ Some end = sym x.3 ∙ ap refused_by z ∙ refused in
               let u : x.1 ≡ end = cc in
-              ap last_answer (ap (λ (q : State). gives a q v.answers) keeps ∙ ap (gives a (Keeping more place taken page)) is) ∙ x.4 ∙ ap answer_at u
+              ap last_answer (ap (λ (q : State). gives a q v.answers) keeps ∙ ap (gives a (Keeping more place taken page)) is) ∙ last_one k (batch_of a place taken page) ∙ x.4 ∙ ap answer_at u
         ]
 
     -- its batch was refused
     pub refuses : (mid round' : Round) → mid.pump ≡ new.pump → mid.more ≡ round.more → mid.troubles.items ≡ round.troubles.items → (end : RoundEnd) → IsRefused end mid round' → (report : Report) → report.attempts + round'.more ≡ 3 → report.tally ≡ round'.pump.tally
-        → report.troubles.items ≡ round'.troubles.items → EndsRound last (talk ++ v.said) (kept ++ gives a r.state v.answers) end report × IsOneAtMost v.said (gives a r.state v.answers)
+        → report.troubles.items ≡ round'.troubles.items → EndsRound last (talk ++ v.said) (join (kept_all kept) (gives a r.state v.answers)) end report × IsOneAtMost v.said (gives a r.state v.answers)
     refuses mid round' pump more before end (is, e, at_end, refused) report made counts noted =
         let ended : end_at new.pump.stage ≡ Some e = sym (ap (λ (x : Pump). end_at x.stage) pump) ∙ at_end in
         let b = brought e ended in
@@ -328,7 +341,7 @@ module _ {last : Option CivilMinute} {talk : List TalkItem} {kept : List Deliver
 
   -- a step that answered the end
   module _ {L D : Type 0} {traffic : Traffic L} {medium : Medium D} {settings : StationSettings} {old new : Bench L D} (same : old.pump ≡ round.pump) (end : DumpEnd) (v : StepsAttempt traffic medium settings (Some end) start a r.state old new) where
-    none_was_given : EndsAt end r.state v.said v.answers ⊎ CutsAt end a r.state v.said v.answers old.pump → gives a r.state v.answers ≡ []
+    none_was_given : EndsAt end r.state v.said v.answers ⊎ CutsAt end a r.state v.said v.answers old.pump → gives a r.state v.answers ≡ Handed.Nothing
     none_was_given (inl (place, taken, e, is, end_is, none, noks)) = ap (gives a r.state) noks ∙ none_given a r.state
     none_was_given (inr (cut, noks, talks, stays, says)) = ap (gives a r.state) noks ∙ none_given a r.state
 
@@ -336,7 +349,7 @@ module _ {last : Option CivilMinute} {talk : List TalkItem} {kept : List Deliver
     has_failed (inl (place, taken, e, is, end_is, none, noks)) h = let f = failure e (sym (ap end_after end_is) ∙ h) in (place, taken, f.0, is ∙ ap (λ (x : PumpEnd). Over place taken x) f.1)
     has_failed (inr (cut, noks, talks, stays, says)) h = absurd (not_cut end cut h)
 
-    pub no_batch : gives a r.state v.answers ≡ []
+    pub no_batch : gives a r.state v.answers ≡ Handed.Nothing
     no_batch = none_was_given v.turns.1
 
     -- and none was refused before
@@ -348,11 +361,11 @@ module _ {last : Option CivilMinute} {talk : List TalkItem} {kept : List Deliver
         by_end (inr (cut, noks, talks, stays, says)) = cut_answer end cut
 
     pub ends : (mid round' : Round) → mid.pump ≡ new.pump → mid.more ≡ round.more → mid.troubles.items ≡ round.troubles.items → Notes end mid round' → (report : Report) → report.attempts + round'.more ≡ 3 → report.tally ≡ round'.pump.tally
-        → report.troubles.items ≡ round'.troubles.items → EndsRound last (talk ++ v.said) (kept ++ gives a r.state v.answers) (round_end_of end) report × IsOneAtMost v.said (gives a r.state v.answers)
+        → report.troubles.items ≡ round'.troubles.items → EndsRound last (talk ++ v.said) (join (kept_all kept) (gives a r.state v.answers)) (round_end_of end) report × IsOneAtMost v.said (gives a r.state v.answers)
     ends mid round' pump more before is report made counts noted =
         let how = subst (λ (x : Pump). EndsAt end r.state v.said v.answers ⊎ CutsAt end a r.state v.said v.answers x) same v.turns.1 in
         let b : Brought start a (r.said ++ v.said) end (handed a r.state) round.pump.tally = ended_brought start a r.said r.answers r.state round.pump r.stands r.shows v.said v.answers end how in
-        let all_given : handed a r.state ≡ handed a r.state ++ gives a r.state v.answers = sym (append-nil (handed a r.state)) ∙ ap (λ (x : List Delivery). handed a r.state ++ x) (sym no_batch) in
+        let all_given : handed a r.state ≡ join (handed a r.state) (gives a r.state v.answers) = sym (join_none (handed a r.state)) ∙ ap (λ (x : Handed). join (handed a r.state) x) (sym no_batch) in
         let tallies : round'.pump.tally ≡ round.pump.tally = ap (λ (x : Pump). x.tally) (is.0 ∙ pump ∙ v.turns.0 ∙ same) in
         let left : round'.more ≡ round.more = is.1 ∙ more in
         let by : (end_after end ≡ Some (round_end_of end)) ⊎ ((end_after end ≡ None) × (round_end_of end ≡ round_end.GaveUp) × (round.more ≡ 0)) = elim (fails_or_ends end) [

@@ -15,26 +15,26 @@ use Rattle.weather_book.specs.Stands.{StandsOn}
 use Rattle.causes.specs.declared.stored.Stored.{Stored}
 use Rattle.causes.specs.declared.stored.Stored.TheVariants.{Done}
 use Rattle.dmpaft_driver.specs.declared.outcome.Tally.{Tally}
-use Rattle.dmpaft_driver.specs.Keeper.{Delivery}
+use Rattle.dmpaft_driver.specs.Keeper.{Handed}
 use Rattle.station_session.specs.declared.report.Mark.{Mark}
 use Rattle.station_session.specs.declared.report.Report.{Report}
 use Rattle.station_session.specs.declared.round_end.RoundEnd.{RoundEnd}
 use Rattle.station_session.specs.declared.round_end.RoundEnd.TheVariants as round
 use Rattle.station_session.specs.declared.session.Session.{Session}
-use Rattle.station_session.specs.Attempts.{Attempts, EndsBefore, all_batches, kept_total}
+use Rattle.station_session.specs.Attempts.{Attempts, EndsBefore, all_batches}
 use Rattle.causes.specs.Stored.{stale_after}
-use Rattle.station_session.specs.Batches.{last_answer, Fit}
+use Rattle.station_session.specs.Batches.{kept_records, last_answer, Fit}
 use Rattle.station_session.specs.Report.{rows_marked, marks_for, acked, IsNew}
 use Rattle.station_session.specs.declared.limits.TheConstants.{MOST_BATCHES, MOST_CHANGES}
 use Rattle.station_session.specs.Holding.{Holding, holding, Stores}
 use Rattle.station_session.specs.Round.{IsTally, round_host, Serves, answer_by, stale_with}
 use Rattle.station_session.specs.Acknowledged.{AcknowledgedAreMarked}
 use Rattle.station_session.specs.AttemptsMade.{MakesAttempts}
-use Rattle.station_session.proofs.StoredBatches.{InOrder, stores_none, stores_all}
+use Rattle.station_session.proofs.StoredBatches.{stores_none, stores_all}
 use Rattle.station_session.proofs.BookAfter.{chain_most, chain_faults, chain_begun, chain_moved, chain_stale, chain_never_stale, chain_rose}
 use Rattle.station_session.proofs.Marked.{marked_for}
 use Rattle.station_session.proofs.Acknowledging.{acknowledged_are_marked}
-use Rattle.station_session.proofs.Ends.{in_order, last_by, answer_at, gave_up_quiets, kept_is, batch_count}
+use Rattle.station_session.proofs.Ends.{last_by, answer_at, gave_up_quiets, batch_count}
 
 answer_is : (end : RoundEnd) → (end ≡ round.Stale → ⊥) → answer_at end ≡ answer_by end
 answer_is round.Done h = refl
@@ -71,7 +71,7 @@ module _ {D : Type 0} (medium : Medium D) where
   shows old b disk rows same st = record { stands_for = same.rows rows st.stands_for; current = same.version ∙ st.current; slots = st.slots; rows_are = st.rows_are; log = st.log }
 
   -- the same, of a book that stands for the same
-  stores_from : (settings : StationSettings) (old b : Book) (disk : D) (marks : List Mark) (rows : List Row) (ss : List Delivery) (l : Holding D) → IsSameBook old b → marks ≡ []
+  stores_from : (settings : StationSettings) (old b : Book) (disk : D) (marks : List Mark) (rows : List Row) (ss : Handed) (l : Holding D) → IsSameBook old b → marks ≡ []
       → Stores medium settings rows ss (holding b disk marks) l → Stores medium settings rows ss (holding old disk []) l
   stores_from settings old b disk marks rows ss l same none x = record {
     fit = subst (λ (n : ℕ). Fit n (length rows) ss) same.most x.fit;
@@ -92,29 +92,23 @@ module _ {L D : Type 0} {traffic : Traffic L} {medium : Medium D} where
   module _ {old : Session} {b b' : Book} {link link' : L} {disk disk' : D} {marks : List Mark} {end : RoundEnd} (report : Report)
       (same : IsSameBook old.book b) (fresh : is_stale old.book ≡ false) (none : marks ≡ []) (some : 0 < report.attempts)
       (made : MakesAttempts traffic medium old.settings end (holding b disk marks) link (holding b' disk' report.marks.items) link' report.attempts report.tally report.troubles.items) where
-    batches : List Delivery
-    batches = all_batches (last_of b) made.tries
-
-    order : InOrder (all_batches (last_of b) made.tries)
-    order = in_order 0 (last_of b) made.tries end made.attempts
-
     last : last_answer (all_batches (last_of b) made.tries) ≡ answer_at end
     last = last_by (last_of b) made.tries end (omega (arith, some, made.count)) made.attempts
 
     stores : (rows : List Row) → StandsFor old.book rows → Stores medium old.settings rows (all_batches (last_of b) made.tries) (holding old.book disk []) (holding b' disk' report.marks.items)
     stores rows h =
         stores_from medium old.settings old.book b disk marks rows (all_batches (last_of b) made.tries) (holding b' disk' report.marks.items) same none
-        (stores_all medium old.settings rows (holding b disk marks) (all_batches (last_of b) made.tries) (holding b' disk' report.marks.items) order made.chain (same.rows rows h) (same.stale ∙ fresh))
+        (stores_all medium old.settings rows (holding b disk marks) (all_batches (last_of b) made.tries) (holding b' disk' report.marks.items) made.chain (same.rows rows h) (same.stale ∙ fresh))
 
     pub not_stale : end ≡ round.Stale → ⊥
-    not_stale e = chain_never_stale medium old.settings (holding b disk marks) (all_batches (last_of b) made.tries) (holding b' disk' report.marks.items) order (same.stale ∙ fresh) (last ∙ ap answer_at e) made.chain
+    not_stale e = chain_never_stale medium old.settings (holding b disk marks) (all_batches (last_of b) made.tries) (holding b' disk' report.marks.items) (same.stale ∙ fresh) (last ∙ ap answer_at e) made.chain
 
     -- what is said of a round, by the stamp that it began after
     record Served (rows : List Row) (stamp : Option CivilMinute) : Type 0 where
       pub attempts : Attempts 0 stamp made.tries end
       pub stores : Stores medium old.settings rows (all_batches stamp made.tries) (holding old.book disk []) (holding b' disk' report.marks.items)
       pub tally : IsTally stamp made.tries report.tally
-      pub kept : acked report ≡ report.rows_before + kept_total stamp made.tries
+      pub kept : acked report ≡ report.rows_before + length (kept_records (all_batches stamp made.tries))
       pub answered : last_answer (all_batches stamp made.tries) ≡ answer_by end
       pub acknowledged : AcknowledgedAreMarked stamp made.tries report.rows_before report.marks.items
 
@@ -127,8 +121,8 @@ module _ {L D : Type 0} {traffic : Traffic L} {medium : Medium D} where
           tally = made.counted;
           kept =
               ap (λ (x : List Mark). rows_marked report.rows_before x) (stores rows h).noted ∙ ap (λ (n : ℕ). rows_marked n (marks_for (medium.moment disk) (length rows) (all_batches (last_of b) made.tries))) count
-              ∙ marked_for (medium.moment disk) (length rows) (all_batches (last_of b) made.tries) order
-              ∙ omega (arith, count, kept_is (last_of b) made.tries);
+              ∙ marked_for (medium.moment disk) (length rows) (all_batches (last_of b) made.tries)
+              ∙ ap (λ (n : ℕ). n + length (kept_records (all_batches (last_of b) made.tries))) (sym count);
           answered = last ∙ answer_is end not_stale;
           acknowledged =
               acknowledged_are_marked (last_of b) made.tries end (medium.moment disk) report.rows_before report.marks.items made.attempts
@@ -163,7 +157,7 @@ module _ {L D : Type 0} {traffic : Traffic L} {medium : Medium D} where
 
     pub stale_is : is_stale b' ≡ stale_with end (is_stale old.book)
     stale_is =
-        chain_stale medium old.settings (holding b disk marks) (all_batches (last_of b) made.tries) (holding b' disk' report.marks.items) order made.chain
+        chain_stale medium old.settings (holding b disk marks) (all_batches (last_of b) made.tries) (holding b' disk' report.marks.items) made.chain
         ∙ ap (λ (a : Stored). stale_after a (is_stale b)) last ∙ stale_by end (is_stale b) ∙ ap (λ (x : Bool). stale_with end x) same.stale
 
     pub most_is : most_of b' ≡ most_of old.book
@@ -184,8 +178,8 @@ module _ {L D : Type 0} {traffic : Traffic L} {medium : Medium D} where
     adds = adds_none traffic link;
     stores =
         let x = stores_none medium old.settings rows (holding new.book disk []) (same.rows rows h) in
-        subst (λ (m : List Mark). Stores medium old.settings rows [] (holding old.book disk []) (holding new.book disk m)) (sym fresh.marks)
-        (stores_from medium old.settings old.book new.book disk [] rows [] (holding new.book disk []) same refl x);
+        subst (λ (m : List Mark). Stores medium old.settings rows Handed.Nothing (holding old.book disk []) (holding new.book disk m)) (sym fresh.marks)
+        (stores_from medium old.settings old.book new.book disk [] rows Handed.Nothing (holding new.book disk []) same refl x);
     answered = none_by end before;
     made = fresh.attempts;
     tally = record { pages = ap (λ (t : Tally). t.pages) fresh.tally; skipped = ap (λ (t : Tally). t.skipped) fresh.tally; newest = ap (λ (t : Tally). t.last) fresh.tally };

@@ -1,28 +1,26 @@
 -- What was stored and marked before a page was acknowledged.
 use Rattle.std.specs.Prelude.{◌≡◌, ℕ, ◌+◌, List, ◌∷◌, ◌++◌, length, Option}
 use Rattle.causes.specs.Lists.{IsFrontOf}
-use Rattle.causes.specs.declared.stored.Stored.TheVariants as stored
 use Rattle.station_base.specs.CivilMinute.{CivilMinute}
 use Rattle.vantage_frames.specs.StampFrame.{stamp_frame_of}
-use Rattle.dmpaft_driver.specs.Batch.{batches, answered}
-use Rattle.dmpaft_driver.specs.Keeper.{Delivery}
+use Rattle.dmpaft_driver.specs.Batch.{batches, records_in}
+use Rattle.dmpaft_driver.specs.Keeper.{Handed, kept_in}
 use Rattle.dmpaft_driver.specs.OneAttempt.{Acknowledges}
 use Rattle.station_session.specs.declared.report.Mark.{Mark}
 use Rattle.station_session.specs.Attempts.{Tried, stamp_behind, all_batches}
-use Rattle.station_session.specs.Batches.{kept_records}
 use Rattle.station_session.specs.Report.{rows_marked}
 
--- the batches of these attempts, and those of pages of the attempt behind them, each of which was kept
-abbrev pub kept_up_to : Option CivilMinute → List Tried → ℕ → List (List ℕ) → List Delivery
+-- the batches of these attempts that were kept, and those of pages of the attempt behind them
+abbrev pub kept_up_to : Option CivilMinute → List Tried → ℕ → List (List ℕ) → List (List (List ℕ))
 kept_up_to last earlier place pages =
-    all_batches last earlier ++ answered stored.Done (batches (stamp_behind last earlier) place pages)
+    kept_in (all_batches last earlier) ++ batches (stamp_behind last earlier) place pages
 
--- These batches were handed over before all others, and the first marks tell just the rows with their records.
-pub record AreMarked (before : ℕ) (marks : List Mark) (kept all : List Delivery) : Type 0 where
-  pub first : IsFrontOf kept all
+-- These batches were kept before all others, and the first marks tell just the rows with their records.
+pub record AreMarked (before : ℕ) (marks : List Mark) (kept : List (List (List ℕ))) (all : Handed) : Type 0 where
+  pub first : IsFrontOf kept (kept_in all)
   pub noted : List Mark
   pub noted_first : IsFrontOf noted marks
-  pub rows : rows_marked before noted ≡ before + length (kept_records kept)
+  pub rows : rows_marked before noted ≡ before + length (records_in kept)
 
 -- wherever 0x06 was said for pages in an attempt, their batches and all before them had been kept and marked
 abbrev pub AcknowledgedAreMarked : Option CivilMinute → List Tried → ℕ → List Mark → Type 0

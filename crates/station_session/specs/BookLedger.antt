@@ -1,12 +1,13 @@
 -- What batches make of a book that keeps the records of a dump.
-use Rattle.std.specs.Prelude.{◌≡◌, ◌+◌, ◌*◌, ◌≤◌, List, [], ◌++◌, length, vec_capacity, refl}
-use Rattle.std.proofs.Common.{◌∙◌, subst, arith, length-append}
+use Rattle.std.specs.Prelude.{◌≡◌, ℕ, ◌+◌, ◌*◌, ◌≤◌, List, vec_capacity, refl}
+use Rattle.std.proofs.Common.{◌∙◌, subst, arith}
 use Rattle.station_session.specs.Room.{batch_room}
 use Rattle.weather_book.specs.Book.{last_of, spare}
 use Rattle.dmpaft_driver.specs.declared.batch.TheConstants.{MOST_RECORDS}
 use Rattle.dmpaft_driver.specs.Ledger.{Ledger}
 use Rattle.disk_model.specs.Medium.{Medium}
-use Rattle.dmpaft_driver.specs.Keeper.{Delivery}
+use Rattle.dmpaft_driver.proofs.Keeping.{count_join, count_kept}
+use Rattle.dmpaft_driver.specs.Keeper.{Handed, kept_all, join, count}
 use Rattle.station_session.specs.declared.book_keeper.BookKeeper.{BookKeeper}
 use Rattle.station_session.specs.Holding.{Holding, holding}
 use Rattle.station_session.specs.OneBatch.{AddsBatch, Chain, chain_joins}
@@ -34,23 +35,24 @@ abbrev pub held_by : {D : Type 0} → BookKeeper D → Holding D
 held_by k = holding k.book.now k.disk.now k.marks.now.items
 
 -- Batches were given one after another: each took five of the rows that there was room for at most.
-pub record GivenInTurn {D : Type 0} (medium : Medium D) (k : BookKeeper D) (steps : List Delivery) (l : BookKeeper D)
+pub record GivenInTurn {D : Type 0} (medium : Medium D) (k : BookKeeper D) (steps : Handed) (l : BookKeeper D)
     : Type 0 where
   pub chain : Chain (AddsBatch medium k.settings.now) (held_by k) steps (held_by l)
   pub same : IsSameKeeper k l
-  pub spare : spare k.book.now ≤ spare l.book.now + MOST_RECORDS * length steps
+  pub spare : spare k.book.now ≤ spare l.book.now + MOST_RECORDS * count steps
   pub capacity : vec_capacity k.marks.now ≤ vec_capacity l.marks.now
 
-pub keeps_none : {D : Type 0} (medium : Medium D) (k : BookKeeper D) → GivenInTurn medium k [] k
+pub keeps_none : {D : Type 0} (medium : Medium D) (k : BookKeeper D) → GivenInTurn medium k Handed.Nothing k
 keeps_none medium k = record { chain = refl; same = same_none k; spare = omega arith; capacity = omega arith }
 
-pub keeps_joins : {D : Type 0} (medium : Medium D) (k l m : BookKeeper D) (first later : List Delivery)
-    → GivenInTurn medium k first l → GivenInTurn medium l later m → GivenInTurn medium k (first ++ later) m
+pub keeps_joins : {D : Type 0} (medium : Medium D) (k l m : BookKeeper D) (first : List (List (List ℕ)))
+    (later : Handed) → GivenInTurn medium k (kept_all first) l → GivenInTurn medium l later m
+    → GivenInTurn medium k (join (kept_all first) later) m
 keeps_joins medium k l m first later one two = record {
   chain = chain_joins (AddsBatch medium k.settings.now) (held_by k) (held_by l) (held_by m) first later one.chain
       (subst (λ (s : _). Chain (AddsBatch medium s) (held_by l) later (held_by m)) one.same.settings two.chain);
   same = same_joins k l m one.same two.same;
-  spare = omega (arith, one.spare, two.spare, length-append first later);
+  spare = omega (arith, one.spare, two.spare, count_join first later, count_kept first);
   capacity = omega (arith, one.capacity, two.capacity);
 }
 

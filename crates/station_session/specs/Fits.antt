@@ -4,7 +4,6 @@ use Rattle.std.specs.Prelude.{Option, Some, None}
 use Rattle.station_base.specs.CivilMinute.{CivilMinute}
 use Rattle.serial_link.specs.declared.talk.TalkItem.{TalkItem}
 use Rattle.dmpaft_driver.specs.declared.batch.TheConstants.{MOST_RECORDS}
-use Rattle.dmpaft_driver.specs.Keeper.{Delivery}
 use Rattle.weather_book.specs.Book.{last_of, spare}
 use Rattle.station_session.specs.declared.report.Report.{Report}
 use Rattle.station_session.specs.declared.round.Round.{Round}
@@ -34,7 +33,7 @@ changes_left report = CHANGES * batches_left report
 pub record HasKept (round : Round) (count : ℕ) : Type 0 where
   pub last : Option CivilMinute
   pub talk : List TalkItem
-  pub kept : List Delivery
+  pub kept : List (List (List ℕ))
   pub at : RoundAt last talk kept round
   pub count_is : length kept ≡ count
 

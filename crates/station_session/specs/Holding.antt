@@ -10,7 +10,7 @@ use Rattle.gated_log.specs.Appending.{ByGate}
 use Rattle.weather_book.specs.Rows.{slot_total}
 use Rattle.weather_book.specs.Stands.{HasRows, StandsOn, StandsToReadOn}
 use Rattle.causes.specs.declared.stored.Stored.TheVariants as stored
-use Rattle.dmpaft_driver.specs.Keeper.{Delivery}
+use Rattle.dmpaft_driver.specs.Keeper.{Handed}
 use Rattle.station_session.specs.declared.report.Mark.{Mark}
 use Rattle.station_session.specs.Records.{stored_rows}
 use Rattle.station_session.specs.Batches.{kept_records, all_records, kept_count, last_answer, Fit, changes_for, IsBegun}
@@ -28,13 +28,13 @@ abbrev pub holding : {D : Type 0} → Book → D → List Mark → Holding D
 holding book disk marks = record { book = book; disk = disk; marks = marks }
 
 -- the rows after these batches
-abbrev pub rows_with : StationSettings → List Row → List Delivery → List Row
+abbrev pub rows_with : StationSettings → List Row → Handed → List Row
 rows_with settings rows steps = rows ++ stored_rows settings (kept_records steps)
 
--- A book of these rows was given these batches, and answered each of them so: the rows of those that were kept are its
--- rows then, in order and behind the old ones.
+-- A book of these rows was given these batches: the rows of those that were kept are its rows then, in order and behind
+-- the old ones.
 pub record Stores {D : Type 0} (medium : Medium D)
-    (settings : StationSettings) (rows : List Row) (steps : List Delivery) (old new : Holding D) : Type 0 where
+    (settings : StationSettings) (rows : List Row) (steps : Handed) (old new : Holding D) : Type 0 where
   pub fit : Fit (most_of old.book) (length rows) steps
   pub stands_for : StandsFor new.book (rows_with settings rows steps)
   -- how many changes were begun for a batch that met a disk fault

@@ -11,10 +11,11 @@ use Rattle.gated_log.specs.Appending.{ByGate}
 use Rattle.weather_book.specs.Stands.{HasRows, NowHasRows, RowsOldOrAll, StandsOn, StandsToReadOn}
 use Rattle.causes.specs.declared.stored.Stored.{Stored}
 use Rattle.causes.specs.declared.stored.Stored.TheVariants as stored
-use Rattle.dmpaft_driver.specs.Keeper.{Delivery, last_after}
+use Rattle.dmpaft_driver.specs.Keeper.{Handed, answer_for, one_batch, kept_all, join, last_kept}
 use Rattle.station_session.specs.Records.{stored_rows}
 use Rattle.causes.specs.Stored.{stale_after}
-use Rattle.station_session.specs.Batches.{kept_of, Fits, IsBegun, begun_for, batch_changes, slots_more}
+use Rattle.station_session.specs.Batches.{Delivery, delivery, kept_of, Fits, IsBegun, begun_for, batch_changes}
+use Rattle.station_session.specs.Batches.{slots_more}
 use Rattle.station_session.specs.Images.{MayStand}
 use Rattle.station_session.specs.Report.{mark_for}
 use Rattle.station_session.specs.Holding.{Holding}
@@ -29,7 +30,7 @@ JudgesBatch stored.DiskFault stale most count = (stale ≡ false) × Fits stored
 -- A batch was given to a book, and answered so.
 pub record AddsBatch {D : Type 0} (medium : Medium D)
     (settings : StationSettings) (old : Holding D) (s : Delivery) (new : Holding D) : Type 0 where
-  pub newest : last_of new.book ≡ last_after s.answer s.rows (last_of old.book)
+  pub newest : last_of new.book ≡ last_kept (one_batch s.answer s.rows) (last_of old.book)
   pub judged : JudgesBatch s.answer (is_stale old.book) (most_of old.book) (len_of old.book + length s.rows)
   pub stale : is_stale new.book ≡ stale_after s.answer (is_stale old.book)
   pub most : most_of new.book ≡ most_of old.book
@@ -58,11 +59,13 @@ pub record AddsBatch {D : Type 0} (medium : Medium D)
       → StandsToReadOn medium new.book new.disk rows
 
 -- one became the other by these batches, one after another
-abbrev pub Chain : {K : Type 0} → (K → Delivery → K → Type 0) → K → List Delivery → K → Type 0
-Chain one k [] l = l ≡ k
-Chain one k (s ∷ ss) l = (m : _) × one k s m × Chain one m ss l
+abbrev pub Chain : {K : Type 0} → (K → Delivery → K → Type 0) → K → Handed → K → Type 0
+Chain one k Handed.Nothing l = l ≡ k
+Chain one k (Handed.Kept rows more) l = (m : _) × one k (delivery rows stored.Done) m × Chain one m more l
+Chain one k (Handed.Refused rows why) l = one k (delivery rows (answer_for why)) l
 
-pub chain_joins : {K : Type 0} (one : K → Delivery → K → Type 0) (k l m : K) (first later : List Delivery)
-    → Chain one k first l → Chain one l later m → Chain one k (first ++ later) m
+pub chain_joins : {K : Type 0} (one : K → Delivery → K → Type 0) (k l m : K) (first : List (List (List ℕ)))
+    (later : Handed) → Chain one k (kept_all first) l → Chain one l later m
+    → Chain one k (join (kept_all first) later) m
 chain_joins one k l m [] later x y = subst (λ (z : _). Chain one z later m) x y
-chain_joins one k l m (s ∷ first) later x y = (x.0, x.1, chain_joins one x.0 l m first later x.2 y)
+chain_joins one k l m (rows ∷ first) later x y = (x.0, x.1, chain_joins one x.0 l m first later x.2 y)

@@ -8,7 +8,7 @@ use Rattle.dmpaft_driver.specs.declared.outcome.Tally.{Tally}
 use Rattle.dmpaft_driver.specs.declared.outcome.Trouble.{Trouble}
 use Rattle.dmpaft_driver.specs.declared.pump_end.PumpEnd.TheVariants as pump_end
 use Rattle.dmpaft_driver.specs.Exact.{AllDone}
-use Rattle.dmpaft_driver.specs.Keeper.{Delivery, last_kept}
+use Rattle.dmpaft_driver.specs.Keeper.{kept_all, join, last_kept}
 use Rattle.dmpaft_driver.specs.Pump.{State, Over, pump_after}
 use Rattle.dmpaft_driver.specs.Shown.{Shows, left_of}
 use Rattle.dmpaft_driver.specs.Standing.{handed}
@@ -37,7 +37,7 @@ HasFailed s =
 
 -- A round that began after this stamp has said and heard this, and kept these batches: at most two attempts failed, and
 -- behind them the pump is where its attempt stands. Where that one failed too, it is the last.
-pub record RoundAt (last : Option CivilMinute) (talk : List TalkItem) (kept : List Delivery) (round : Round)
+pub record RoundAt (last : Option CivilMinute) (talk : List TalkItem) (kept : List (List (List ℕ))) (round : Round)
     : Type 0 where
   pub tries : List Tried
   pub failed : AllFailed last tries
@@ -51,7 +51,7 @@ pub record RoundAt (last : Option CivilMinute) (talk : List TalkItem) (kept : Li
   pub shows : Shows (tally_of last tries) (stamp_behind last tries) state round.pump
   pub goes_on : HasFailed state → round.more ≡ 0
   pub talk_is : talk ≡ all_said tries ++ said
-  pub kept_are : kept ≡ all_batches last tries ++ handed (stamp_behind last tries) state
+  pub kept_are : kept_all kept ≡ join (all_batches last tries) (handed (stamp_behind last tries) state)
   pub troubles : round.troubles.items ≡ troubles_of tries
 
 -- so many turns are left at most: those of the pump, and fewer than 2^30 for each attempt that may follow

@@ -1,5 +1,5 @@
 -- One step of the attempt under way, and what the round does then.
-use Rattle.std.specs.Prelude.{◌≡◌, ◌⊎◌, ◌+◌, ◌*◌, ◌≤◌, List, [], ◌∷◌, ◌++◌, length, Option, Some, None, unwrap_or}
+use Rattle.std.specs.Prelude.{◌≡◌, ◌⊎◌, ◌+◌, ◌*◌, ◌≤◌, List, [], ◌∷◌, ◌++◌, Option, Some, None, unwrap_or}
 use Rattle.station_base.specs.CivilMinute.{CivilMinute}
 use Rattle.serial_link.specs.declared.talk.TalkItem.{TalkItem}
 use Rattle.serial_link.specs.Traffic.{Traffic}
@@ -15,6 +15,7 @@ use Rattle.dmpaft_driver.specs.declared.outcome.Trouble.{Trouble}
 use Rattle.dmpaft_driver.specs.declared.pump.Pump.{Pump}
 use Rattle.dmpaft_driver.specs.declared.pump_end.PumpEnd.{PumpEnd}
 use Rattle.dmpaft_driver.specs.declared.pump_end.PumpEnd.TheVariants as pump_end
+use Rattle.dmpaft_driver.specs.Keeper.{count}
 use Rattle.dmpaft_driver.specs.Pump.{State, Settling, begun}
 use Rattle.dmpaft_driver.specs.Shown.{Shows, end_at}
 use Rattle.dmpaft_driver.specs.Standing.{gives}
@@ -47,7 +48,7 @@ pub record StepsAttempt {L D : Type 0} (traffic : Traffic L) (medium : Medium D)
   pub answers : List Stored
   pub adds : Adds traffic old.link said new.link
   pub chain : Chain (AddsBatch medium settings) old.holding (gives after s answers) new.holding
-  pub spare : spare old.holding.book ≤ spare new.holding.book + MOST_RECORDS * length (gives after s answers)
+  pub spare : spare old.holding.book ≤ spare new.holding.book + MOST_RECORDS * count (gives after s answers)
   pub turns : TurnsTo result start after s said answers old.pump new.pump
 
 -- how a round ends whose batch was refused, or met a disk fault

@@ -1,14 +1,14 @@
 -- One turn of a round.
 use Rattle.std.specs.Prelude.{◌≡◌, ◌⊎◌, ℕ, ◌<◌, ◌≤◌, Bool, false, List, [], ◌∷◌, ◌++◌, length, Option}
 use Rattle.causes.specs.Cause.{Cause}
-use Rattle.causes.specs.declared.stored.Stored.TheVariants as stored
+use Rattle.causes.specs.declared.stored.Stored.{Stored}
 use Rattle.disk_model.specs.Disk.{Faults, Begins}
 use Rattle.disk_model.specs.Medium.{Medium}
 use Rattle.serial_link.specs.declared.talk.TalkItem.{TalkItem}
 use Rattle.serial_link.specs.Traffic.{Traffic}
 use Rattle.serial_link.specs.Talk.{Adds}
 use Rattle.station_base.specs.CivilMinute.{CivilMinute}
-use Rattle.dmpaft_driver.specs.Keeper.{Delivery, delivery}
+use Rattle.dmpaft_driver.specs.Keeper.{Handed, one_batch, kept_all, join}
 use Rattle.dmpaft_driver.specs.Turning.{IsOneCall}
 use Rattle.station_session.specs.declared.limits.TheConstants.{CHANGES, MOST_BATCHES}
 use Rattle.station_session.specs.declared.report.Report.{Report}
@@ -39,17 +39,18 @@ desk session link disk round report =
     record { session = session; link = link; disk = disk; round = round; report = report }
 
 -- one message was said, or some bytes were heard, or one wait passed, or one batch was kept
-abbrev pub IsOneCallOrBatch : List TalkItem → List Delivery → Type 0
-IsOneCallOrBatch said given =
-    (IsOneCall said × (given ≡ [])) ⊎ ((said ≡ []) × (rows : List (List ℕ)) × (given ≡ delivery rows stored.Done ∷ []))
+abbrev pub IsOneCallOrBatch : List TalkItem → List (List (List ℕ)) → Type 0
+IsOneCallOrBatch said kept =
+    (IsOneCall said × (kept ≡ [])) ⊎ ((said ≡ []) × (rows : List (List ℕ)) × (kept ≡ rows ∷ []))
 
 -- something was said or heard, or one batch was given, or neither
-abbrev pub IsOneAtMost : List TalkItem → List Delivery → Type 0
-IsOneAtMost said given = (given ≡ []) ⊎ ((said ≡ []) × (step : Delivery) × (given ≡ step ∷ []))
+abbrev pub IsOneAtMost : List TalkItem → Handed → Type 0
+IsOneAtMost said given = (given ≡ Handed.Nothing)
+    ⊎ ((said ≡ []) × (answer : Stored) × (rows : List (List ℕ)) × (given ≡ one_batch answer rows))
 
 -- A round that began after this stamp, and said, heard and was given this, is over: its attempts, what those met that
 -- failed, and what was counted.
-pub record EndsRound (last : Option CivilMinute) (talk : List TalkItem) (given : List Delivery) (end : RoundEnd)
+pub record EndsRound (last : Option CivilMinute) (talk : List TalkItem) (given : Handed) (end : RoundEnd)
     (report : Report) : Type 0 where
   pub tries : List Tried
   pub attempts : Attempts 0 last tries end
@@ -62,19 +63,20 @@ pub record EndsRound (last : Option CivilMinute) (talk : List TalkItem) (given :
   pub troubles : report.troubles.items ≡ troubles_of tries
 
 -- where a round stands after a turn in which this was said, heard and given
-abbrev pub TurnsTo : {L D : Type 0} → Turn → Option CivilMinute → List TalkItem → List Delivery → List TalkItem
-    → List Delivery → Desk L D → Type 0
+abbrev pub TurnsTo : {L D : Type 0} → Turn → Option CivilMinute → List TalkItem → List (List (List ℕ))
+    → List TalkItem → Handed → Desk L D → Type 0
 TurnsTo turn.More last talk kept said given new =
-    RoundAt last (talk ++ said) (kept ++ given) new.round × IsOneCallOrBatch said given
+    (more : List (List (List ℕ))) × (given ≡ kept_all more) × RoundAt last (talk ++ said) (kept ++ more) new.round
+    × IsOneCallOrBatch said more
 TurnsTo (turn.Ended end) last talk kept said given new =
-    EndsRound last (talk ++ said) (kept ++ given) end new.report × IsOneAtMost said given
+    EndsRound last (talk ++ said) (join (kept_all kept) given) end new.report × IsOneAtMost said given
 
 -- One turn of a round that stands so: what was said and heard, which batch was given to the book and what became of it,
 -- and where the round stands then, or how it ended.
 pub record TakesTurn {L D : Type 0} (traffic : Traffic L) (medium : Medium D) (result : Turn)
-    (last : Option CivilMinute) (talk : List TalkItem) (kept : List Delivery) (old new : Desk L D) : Type 0 where
+    (last : Option CivilMinute) (talk : List TalkItem) (kept : List (List (List ℕ))) (old new : Desk L D) : Type 0 where
   pub said : List TalkItem
-  pub given : List Delivery
+  pub given : Handed
   pub adds : Adds traffic old.link said new.link
   pub chain : Chain (AddsBatch medium (settings_of old.session))
       (holding old.session.book old.disk old.report.marks.items) given

@@ -1,5 +1,4 @@
 ghost use Rattle.std.specs.Prelude.{◌≡◌, ◌≤◌, ◌<◌, ◌+◌, ◌-◌, ◌/◌, ◌^◌, ◌++◌, [], ◌∷◌, ℕ, List, length, min, refl, vec_len, vec_capacity};
-ghost use Rattle.dmpaft_driver.specs.Keeper.{Delivery, delivery, last_after};
 ghost use Rattle.weather_book.specs.Book.{last_of};
 ghost use Rattle.station_session.specs.Holding.{holding};
 ghost use Rattle.station_session.specs.OneBatch.{AddsBatch, Chain};

@@ -1,8 +1,8 @@
-use Rattle.std.proofs.Common.{◌≡◌, ◌+◌, ◌≤◌, List, length}
+use Rattle.std.proofs.Common.{◌≡◌, ◌+◌, ◌≤◌, List}
 use Rattle.serial_link.specs.declared.talk.TalkItem.{TalkItem}
 use Rattle.serial_link.specs.Talk.{Adds}
 use Rattle.causes.specs.declared.stored.Stored.{Stored}
-use Rattle.dmpaft_driver.specs.Keeper.{last_kept}
+use Rattle.dmpaft_driver.specs.Keeper.{count, last_kept}
 use Rattle.dmpaft_driver.specs.Pump.{State, pump_after}
 use Rattle.dmpaft_driver.specs.Shown.{Shows, left_of}
 use Rattle.dmpaft_driver.specs.Standing.{handed}
@@ -14,7 +14,7 @@ invariant-turns g l = record {
   sofar : (t : List TalkItem) × (ks : List Stored) × (s : State) × (pump_after l.fn.after t ks ≡ s) × Adds g.L.Link.traffic l.fn.link t l.link
       × Shows l.fn.tally l.fn.after s l.pump × g.K.Keeper.ledger.keeps l.fn.keeper (handed l.fn.after s) l.keeper
       × (g.K.Keeper.ledger.last l.keeper ≡ last_kept (handed l.fn.after s) (g.K.Keeper.ledger.last l.fn.keeper))
-      × (g.K.Keeper.ledger.room l.fn.keeper ≤ g.K.Keeper.ledger.room l.keeper + length (handed l.fn.after s));
+      × (g.K.Keeper.ledger.room l.fn.keeper ≤ g.K.Keeper.ledger.room l.keeper + count (handed l.fn.after s));
   faults : g.L.Link.traffic.faults l.fn.link ≤ g.L.Link.traffic.faults l.link;
   shortages : g.L.Link.traffic.shortages l.fn.link ≤ g.L.Link.traffic.shortages l.link;
 }

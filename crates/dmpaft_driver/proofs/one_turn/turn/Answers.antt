@@ -4,10 +4,11 @@ use Rattle.dmpaft_driver.specs.Shown.{Shows, said_at}
 use Rattle.dmpaft_driver.specs.Pump.{pump_from}
 use Rattle.std.proofs.Common.{◌≡◌, ℕ, ◌<◌, [], ◌∷◌, List, length, sym, ◌∙◌, ap, subst, refl, inl, inr, arith}
 use Rattle.serial_link.proofs.Growing.{adds_none}
-use Rattle.dmpaft_driver.specs.Keeper.{Delivery, delivery, last_kept}
+use Rattle.dmpaft_driver.specs.Keeper.{Handed, one_batch, count, last_kept}
 use Rattle.dmpaft_driver.specs.Pump.{State}
 use Rattle.dmpaft_driver.specs.Standing.{gives}
 use Rattle.dmpaft_driver.proofs.Cutting.{some_words, stays_saying, says_saying, listened, keeps_same, last_same, not_keeping_said, not_keeping_heard}
+use Rattle.dmpaft_driver.proofs.Keeping.{one_size, one_some}
 use Rattle.dmpaft_driver.proofs.one_turn.turn.Goals as goal
 
 pub returns-in-Failed-clause-turns : goal.returns-in-Failed-clause-turns
@@ -21,6 +22,7 @@ returns-in-Failed-clause-turns g c = λ start after s h.
       answers = [];
       adds = said.2;
       handed = keeps_same g.K.Keeper.ledger after s k;
+      still = λ none. refl;
       newest = last_same g.K.Keeper.ledger after s k;
       few = omega arith;
       turns = (
@@ -46,6 +48,7 @@ returns-in-OutOfMemory-clause-turns g c = λ start after s h.
       answers = [];
       adds = said.2;
       handed = keeps_same g.K.Keeper.ledger after s k;
+      still = λ none. refl;
       newest = last_same g.K.Keeper.ledger after s k;
       few = omega arith;
       turns = (
@@ -70,6 +73,7 @@ returns-in-Listen-clause-turns g c = λ start after s h.
       answers = [];
       adds = hears.1;
       handed = keeps_same g.K.Keeper.ledger after s k;
+      still = λ none. refl;
       newest = last_same g.K.Keeper.ledger after s k;
       few = omega arith;
       turns = listened start after s hears.0 c.args.pump.now c.listen.new.pump h (not_keeping_heard c.args.pump.now.stage c.args.pump.now.count (omega (arith, allows.0, allows.1))) c.listen.result hears.2;
@@ -79,14 +83,15 @@ pub returns-in-Keep-clause-turns : goal.returns-in-Keep-clause-turns
 returns-in-Keep-clause-turns g c = λ start after s h.
     let tells = c.in-Keep.ensures.tells start after s h in
     let answer = c.keep-answer.result in
-    let given : delivery c.in-Keep.rows.now answer ∷ [] ≡ gives after s (answer ∷ []) = ap (λ (y : List (List ℕ)). delivery y answer ∷ []) tells.5 ∙ ap (λ (y : State). gives after y (answer ∷ [])) (sym tells.4) in
+    let given : one_batch answer c.in-Keep.rows.now ≡ gives after s (answer ∷ []) = ap (λ (y : List (List ℕ)). one_batch answer y) tells.5 ∙ ap (λ (y : State). gives after y (answer ∷ [])) (sym tells.4) in
     record {
       said = [];
       answers = answer ∷ [];
       adds = adds_none g.L.Link.traffic c.args.link.now;
-      handed = subst (λ (y : List Delivery). g.K.Keeper.ledger.keeps c.args.keeper.now y c.keep-answer.new.self) given c.keep-answer.ensures.keeps;
-      newest = c.keep-answer.ensures.last ∙ ap (λ (y : List Delivery). last_kept y (g.K.Keeper.ledger.last c.args.keeper.now)) given;
-      few = omega (arith, c.keep-answer.ensures.room, ap (λ (y : List Delivery). length y) given);
+      handed = subst (λ (y : Handed). g.K.Keeper.ledger.keeps c.args.keeper.now y c.keep-answer.new.self) given c.keep-answer.ensures.keeps;
+      still = λ none. absurd (one_some answer c.in-Keep.rows.now (given ∙ none));
+      newest = c.keep-answer.ensures.last ∙ ap (λ (y : Handed). last_kept y (g.K.Keeper.ledger.last c.args.keeper.now)) given;
+      few = omega (arith, c.keep-answer.ensures.room, one_size answer c.in-Keep.rows.now, ap count given);
       turns = (c.kept.ensures.shows start after s h, inr (refl, answer, refl, tells.0, tells.1, tells.2, tells.3, tells.4, tells.6));
     }
 
@@ -99,6 +104,7 @@ returns-in-Ended-clause-turns g c = λ start after s h.
       answers = [];
       adds = adds_none g.L.Link.traffic c.args.link.now;
       handed = keeps_same g.K.Keeper.ledger after s k;
+      still = λ none. refl;
       newest = last_same g.K.Keeper.ledger after s k;
       few = omega arith;
       turns = (refl, inl (tells.0, tells.1, c.in-Ended.end, tells.2, c.dump_end.ensures, refl, refl));
@@ -115,6 +121,7 @@ returns-in-Done-clause-turns g c = λ start after s h.
       answers = [];
       adds = said.2;
       handed = keeps_same g.K.Keeper.ledger after s k;
+      still = λ none. refl;
       newest = last_same g.K.Keeper.ledger after s k;
       few = omega arith;
       turns = (

@@ -1,7 +1,8 @@
-use Rattle.std.proofs.Common.{◌+◌, ◌*◌, ◌≤◌, length, sym, subst}
+use Rattle.std.proofs.Common.{◌+◌, ◌*◌, ◌≤◌, sym, subst}
 use Rattle.weather_book.specs.declared.book.Book.{Book}
 use Rattle.weather_book.specs.Book.{spare}
 use Rattle.dmpaft_driver.specs.declared.batch.TheConstants.{MOST_RECORDS}
+use Rattle.dmpaft_driver.specs.Keeper.{count}
 use Rattle.dmpaft_driver.specs.Standing.{gives}
 use Rattle.station_session.specs.Holding.{Holding, holding}
 use Rattle.station_session.specs.OneBatch.{AddsBatch, Chain}
@@ -21,6 +22,6 @@ returns-clause-steps g c start after s h =
       adds = t.adds;
       chain = subst (λ (x : Holding _). Chain (AddsBatch D.medium c.args.settings.now) (holding c.args.book.now c.args.disk.now c.args.marks.now.items) (gives after s t.answers) x)
           (sym (holding_same k.book.now _ k.disk.now _ k.marks.now _ book (c.disk-1.given.1 (sym same.disk)) (c.marks-1.given.1 (sym same.marks)))) t.handed.chain;
-      spare = subst (λ (x : Book). spare c.args.book.now ≤ spare x + MOST_RECORDS * length (gives after s t.answers)) (sym book) t.handed.spare;
+      spare = subst (λ (x : Book). spare c.args.book.now ≤ spare x + MOST_RECORDS * count (gives after s t.answers)) (sym book) t.handed.spare;
       turns = t.turns;
     }

@@ -1,5 +1,5 @@
 use Rattle.std.proofs.Common.{◌≡◌, ◌≢◌, ℕ, [], ◌∷◌, ◌++◌, List, length-append, sym, ◌∙◌, ap, subst, arith}
-use Rattle.dmpaft_driver.specs.Keeper.{Delivery}
+use Rattle.dmpaft_driver.specs.Keeper.{Handed}
 use Rattle.dmpaft_driver.specs.Pump.{Next, at, batched, batch_of}
 use Rattle.dmpaft_driver.specs.Shown.{Shows, Counts}
 use Rattle.dmpaft_driver.proofs.Pumping.{kept_none, none_in, some_in, batched_some}
@@ -9,7 +9,7 @@ pub returns-then-is_empty-clause-shows : goal.returns-then-is_empty-clause-shows
 returns-then-is_empty-clause-shows c = λ start after place taken page h b l.
     let e : batch_of after place taken page ≡ [] = sym b ∙ none_in c.args.self.now.batch (sym c.is_empty.ensures ∙ c.if-is_empty.true) in
     subst (λ (y : List (List ℕ)). Shows start after (at after (batched c.args.more place taken page y)) c.go_on.new.self) (sym e)
-    (c.go_on.ensures.shows start after place (taken ++ page ∷ []) (subst (λ (y : List Delivery). Counts start after place (taken ++ page ∷ []) y c.args.self.now) (sym (kept_none after place taken page e)) h) (omega (arith, l, length-append taken (page ∷ []))))
+    (c.go_on.ensures.shows start after place (taken ++ page ∷ []) (subst (λ (y : Handed). Counts start after place (taken ++ page ∷ []) y c.args.self.now) (sym (kept_none after place taken page e)) h) (omega (arith, l, length-append taken (page ∷ []))))
 
 pub returns-else-is_empty-clause-shows : goal.returns-else-is_empty-clause-shows
 returns-else-is_empty-clause-shows c = λ start after place taken page h b l.

@@ -5,8 +5,11 @@ use Rattle.weather_book.specs.Adding.{ArePrintable, AreLimited}
 use Rattle.weather_book.specs.Rising.{RowsRise}
 use Rattle.weather_book.specs.Book.{last_of}
 use Rattle.causes.specs.declared.stored.Stored.TheVariants as stored
+use Rattle.dmpaft_driver.proofs.Keeping.{one_size}
 use Rattle.station_session.proofs.Stamps.{rises, same_count}
+use Rattle.station_session.specs.OneBatch.{AddsBatch}
 use Rattle.station_session.proofs.BatchAnswers.{taken_as, no_mark, mark_as}
+use Rattle.station_session.proofs.StoredBatches.{chain_one}
 use Rattle.station_session.proofs.book_keeper.BookKeeperKeeper.keep.Goals as goal
 
 pub add-requires-clause-some : goal.add-requires-clause-some
@@ -56,9 +59,9 @@ returns-in_default g c =
       room = grind (arith, common_steps);
       last = taken.newest;
       keeps = record {
-        chain = (_, taken, refl);
+        chain = chain_one (AddsBatch D.medium k.settings.now) _ c.add.result c.args.records.now _ taken;
         same = record { settings = refl; book = refl; disk = refl; marks = refl };
-        spare = omega (arith, a.spare, same_count k.settings.now c.args.records.now c.stored_rows-rows.ensures.read, ap (λ (x : List Row). length x) same, c.requires.few);
+        spare = omega (arith, a.spare, same_count k.settings.now c.args.records.now c.stored_rows-rows.ensures.read, ap (λ (x : List Row). length x) same, c.requires.few, one_size c.add.result c.args.records.now);
         capacity = omega arith;
       };
     }

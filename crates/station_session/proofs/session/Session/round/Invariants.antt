@@ -1,7 +1,6 @@
-use Rattle.std.proofs.Common.{List}
+use Rattle.std.proofs.Common.{ℕ, List}
 use Rattle.disk_model.specs.Disk.{MayBegin}
 use Rattle.serial_link.specs.declared.talk.TalkItem.{TalkItem}
-use Rattle.dmpaft_driver.specs.Keeper.{Delivery}
 use Rattle.station_session.specs.Fits.{Fits, changes_left}
 use Rattle.station_session.specs.Round.{round_host}
 use Rattle.station_session.specs.RoundAt.{left}
@@ -13,7 +12,7 @@ abbrev pub invariant-turns : goal.invariant-turns
 invariant-turns g l = record {
   fits : Fits l.self l.round l.report;
   room : MayBegin g.D.Disk.medium (changes_left l.report) l.disk;
-  under_way : (talk : List TalkItem) × (kept : List Delivery)
+  under_way : (talk : List TalkItem) × (kept : List (List (List ℕ)))
       × UnderWay g.L.Link.traffic g.D.Disk.medium (round_host l.initial.self l.initial.link l.initial.disk) talk kept (desk l.self l.link l.disk l.round l.report);
 }
 
