@@ -1,15 +1,16 @@
 -- The next rows of an archive, and whether they rise.
-use Rattle.std.proofs.Common.{◌≡◌, ℕ, ◌+◌, ◌-◌, ◌<◌, ◌≤◌, Bool, true, false, List, [], ◌∷◌, ◌++◌, Option, Some, None, length, min, take, drop, refl, sym, ◌∙◌, ap, arith, append_assoc, add-one}
+use Rattle.std.proofs.Common.{◌≡◌, ℕ, ◌+◌, ◌-◌, ◌<◌, ◌≤◌, Bool, true, false, List, [], ◌∷◌, ◌++◌, Option, Some, None, length, min, take, drop, sym, ◌∙◌, ap, arith, append_assoc, add-one}
 use Rattle.std.specs.Prelude.{slice_get, ◌&&◌}
 use Rattle.std.proofs.Math.Seq.{take-suc, take-add, take-append-add}
 use Rattle.std.proofs.lemmas.List.{take-append-drop, drop-append-le, drop_all, drop-drop, take-take, take_all, length-take, length-drop, get_or-drop}
+use Rattle.std.proofs.lemmas.Bool.{and_left, and_right}
 use Rattle.std.proofs.lemmas.Option.{slice_get_within, get_or_from_slice_get}
 use Rattle.station_base.specs.CivilMinute.{CivilMinute}
 use Rattle.station_base.specs.declared.row.Row.{Row}
 use Rattle.causes.specs.Lists.{IsFrontOf}
 use Rattle.weather_book.specs.Rising.{exceeds, rise, last_after, last_stamp}
-use Rattle.weather_book.proofs.RowLaws.{and_left, and_right}
 use Rattle.archive_copy.specs.Adding.{batches}
+use Rattle.weather_book.proofs.RowLaws.{rise_front, rise_behind}
 
 -- one more of the next rows
 pub next_row : (rows : List Row) (at k : ℕ) (row : Row) → slice_get rows (at + k) ≡ Some row → take (k + 1) (drop at rows) ≡ take k (drop at rows) ++ row ∷ []
@@ -23,18 +24,10 @@ pub up_to_five : (rows : List Row) (k : ℕ) → k ≡ min 5 (length rows) → t
 up_to_five rows k is =
     sym (take-take k 5 rows (omega (arith, is))) ∙ take_all k (take 5 rows) (omega (arith, is, length-take 5 rows))
 
-false_and : (a b : Bool) → a ≡ false → (a && b) ≡ false
-false_and true b is = cc
-false_and false b is = refl
-
-and_false : (a b : Bool) → b ≡ false → (a && b) ≡ false
-and_false true b is = is
-and_false false b is = refl
-
 -- where a row does not rise above the one before, the rows do not
 pub breaks : (last : Option CivilMinute) (xs : List Row) (row : Row) (ys : List Row) → exceeds (last_after last xs) row.stamp ≡ false → rise last (xs ++ row ∷ ys) ≡ false
-breaks last [] row ys is = false_and (exceeds last row.stamp) (rise (Some row.stamp) ys) is
-breaks last (x ∷ xs) row ys is = and_false (exceeds last x.stamp) (rise (Some x.stamp) (xs ++ row ∷ ys)) (breaks (Some x.stamp) xs row ys is)
+breaks last [] row ys is = and_left (exceeds last row.stamp) (rise (Some row.stamp) ys) is
+breaks last (x ∷ xs) row ys is = and_right (exceeds last x.stamp) (rise (Some x.stamp) (xs ++ row ∷ ys)) (breaks (Some x.stamp) xs row ys is)
 
 -- so five of the next rows do not rise, one of which does not
 pub breaks_batch : (last : Option CivilMinute) (rows : List Row) (at k : ℕ) (row : Row) → k < 5 → slice_get rows (at + k) ≡ Some row
@@ -52,19 +45,6 @@ breaks_batch last rows at k row few is wrong =
 pub one_rises : (last also : Option CivilMinute) (row : Row) → last ≡ also → exceeds last row.stamp ≡ true → rise also (row ∷ []) ≡ true
 one_rises last also row is rises =
     ap (λ (b : Bool). b && true) (ap (λ (o : Option CivilMinute). exceeds o row.stamp) (sym is) ∙ rises)
-
-rise_front : (last : Option CivilMinute) (xs ys : List Row) → rise last (xs ++ ys) ≡ true → rise last xs ≡ true
-rise_front last [] ys up = refl
-rise_front last (x ∷ xs) ys up =
-    and_true (exceeds last x.stamp) (rise (Some x.stamp) xs) (and_left (exceeds last x.stamp) (rise (Some x.stamp) (xs ++ ys)) up)
-    (rise_front (Some x.stamp) xs ys (and_right (exceeds last x.stamp) (rise (Some x.stamp) (xs ++ ys)) up))
-  where
-    and_true : (a b : Bool) → a ≡ true → b ≡ true → (a && b) ≡ true
-    and_true a b one two = ap (λ (v : Bool). v && b) one ∙ two
-
-rise_behind : (last : Option CivilMinute) (xs ys : List Row) → rise last (xs ++ ys) ≡ true → rise (last_after last xs) ys ≡ true
-rise_behind last [] ys up = up
-rise_behind last (x ∷ xs) ys up = rise_behind (Some x.stamp) xs ys (and_right (exceeds last x.stamp) (rise (Some x.stamp) (xs ++ ys)) up)
 
 -- of rows that rise the next ones rise behind those before
 pub next_rise : (rows : List Row) (at k : ℕ) → rise None rows ≡ true → rise (last_stamp (take at rows)) (take k (drop at rows)) ≡ true

@@ -1,27 +1,18 @@
 -- Members in order with one more, and the last of them.
-use Rattle.std.proofs.Common.{◌≡◌, ℕ, suc, ◌-◌, ◌≤◌, Bool, true, false, ◌&&◌, Some, List, [], ◌∷◌, ◌++◌, length, refl, ap, arith}
+use Rattle.std.proofs.Common.{◌≡◌, ℕ, suc, ◌-◌, ◌≤◌, true, false, Some, List, [], ◌∷◌, ◌++◌, length, refl, ap, arith}
 use Rattle.std.specs.Prelude.{nat_le, nat_lt}
 use Rattle.std.specs.List.{slice_get}
-use Rattle.std.proofs.lemmas.Bool.{le-leb}
+use Rattle.std.proofs.lemmas.Bool.{le-leb, and_parts}
 use Rattle.station_sim.specs.declared.fates.Mid.{Mid}
 use Rattle.station_sim.specs.InOrder.{is_in_order, last_number}
-
--- of two tests that hold together, each does
-pub first_holds : (a b : Bool) → (a && b) ≡ true → a ≡ true
-first_holds true b both = refl
-first_holds false b both = cc
-
-pub second_holds : (a b : Bool) → (a && b) ≡ true → b ≡ true
-second_holds true b both = both
-second_holds false b both = cc
 
 module _ {A : Type 0} (number : A → ℕ) where
   pub in_order_more : (least : ℕ) (xs : List A) (x : A) → is_in_order number least xs ≡ true → last_number number least xs ≤ number x
       → is_in_order number least (xs ++ x ∷ []) ≡ true
   in_order_more least [] x ordered behind = rw (le-leb least (number x) behind) refl
   in_order_more least (y ∷ ys) x ordered behind =
-      let here = first_holds (nat_le least (number y)) (is_in_order number (number y) ys) ordered in
-      let rest = in_order_more (number y) ys x (second_holds (nat_le least (number y)) (is_in_order number (number y) ys) ordered) behind in
+      let here = (and_parts (nat_le least (number y)) (is_in_order number (number y) ys) ordered).0 in
+      let rest = in_order_more (number y) ys x (and_parts (nat_le least (number y)) (is_in_order number (number y) ys) ordered).1 behind in
       rw (here, rest) refl
 
   pub last_is : (before : ℕ) (xs : List A) (x : A) → slice_get xs (length xs - 1) ≡ Some x → last_number number before xs ≡ number x

@@ -6,6 +6,7 @@ use Rattle.std.proofs.lemmas.Slice.Eq.{bytes_eq-Decides}
 use Rattle.std.proofs.Math.ListN.{get_or-append}
 use Rattle.std.proofs.lemmas.List.{get_or-append-add, length-take}
 use Rattle.std.proofs.Math.Seq.{take-suc, take-append_seam}
+use Rattle.std.proofs.lemmas.Bool.{and_parts}
 use Rattle.station_base.specs.declared.row.Row.{Row}
 use Rattle.row_slot.specs.Slot.{row_in}
 use Rattle.gated_log.specs.Log.{unmarked}
@@ -13,7 +14,7 @@ use Rattle.weather_book.specs.Closing.{closing_slot, closings, begins_day}
 use Rattle.weather_book.specs.Rising.{last_stamp}
 use Rattle.weather_book.specs.Rows.{may_follow, is_closing, is_right, rows_with, shown_with, slot_total, rows_from, holds}
 use Rattle.weather_book.proofs.Places.{found, with_found, splits, rows_found, right_front, found_join, last_get}
-use Rattle.weather_book.proofs.RowLaws.{AreRight, rows_to, shown_to, from_holds, count_right, follow_shown, and_left, and_right}
+use Rattle.weather_book.proofs.RowLaws.{AreRight, rows_to, shown_to, from_holds, count_right, follow_shown}
 
 -- right slots without a row are the next that close the day of the rows before
 record NoRow (rows : List Row) (shown : ℕ) (xs : List (List ℕ)) (after : List Row) (t : ℕ) : Type 0 where
@@ -69,11 +70,11 @@ front_take front n row rows lt is =
     sym (take-append_seam front (row ∷ [])) ∙ ap (λ (k : ℕ). take k (front ++ row ∷ [])) (l ∙ sym m) ∙ ap (take (length (take n rows))) e ∙ take-append_seam (take n rows) (get_or rows n row ∷ [])
 
 closing_is : (rows : List Row) (j : ℕ) (slot : List ℕ) → is_closing rows j slot ≡ true → unmarked slot ≡ closing_slot rows j
-closing_is rows j slot is = (bytes_eq-Decides (unmarked slot) (closing_slot rows j)).0 (and_right (nat_lt 0 (length rows) && nat_lt j 13) (bytes_eq (unmarked slot) (closing_slot rows j)) is)
+closing_is rows j slot is = (bytes_eq-Decides (unmarked slot) (closing_slot rows j)).0 (and_parts (nat_lt 0 (length rows) && nat_lt j 13) (bytes_eq (unmarked slot) (closing_slot rows j)) is).1
 
 no_rows : (rows : List Row) (j : ℕ) (slot : List ℕ) → rows ≡ [] → is_closing rows j slot ≡ true → ⊥
 no_rows rows j slot none is =
-    let some : nat_lt 0 (length rows) ≡ true = and_left (nat_lt 0 (length rows)) (nat_lt j 13) (and_left (nat_lt 0 (length rows) && nat_lt j 13) (bytes_eq (unmarked slot) (closing_slot rows j)) is) in
+    let some : nat_lt 0 (length rows) ≡ true = (and_parts (nat_lt 0 (length rows)) (nat_lt j 13) (and_parts (nat_lt 0 (length rows) && nat_lt j 13) (bytes_eq (unmarked slot) (closing_slot rows j)) is).0).0 in
     let zero_is : nat_lt 0 (length rows) ≡ false = ap (λ (rs : List Row). nat_lt 0 (length rs)) none in cc
 
 -- the thirteen slots before a row that begins a later day close the day of the rows before it

@@ -1,11 +1,12 @@
 -- The summary of a day of a book.
 use Rattle.std.proofs.Common.{◌≡◌, ℕ, ℤ, pos, negsuc, ◌+◌, ◌-◌, ◌<◌, ◌≤◌, Bool, true, false, List, [], ◌∷◌, ◌++◌, length, take, get_or, Option, Some, None, refl, sym, ap, subst, ◌∙◌, arith, append_assoc, append-nil, length-append}
-use Rattle.std.specs.Prelude.{◌&&◌, All, count_by, filter, not, nat_eq, int_le, slice_get}
+use Rattle.std.specs.Prelude.{All, count_by, filter, not, nat_eq, int_le, slice_get}
 use Rattle.std.proofs.lemmas.Bool.Decides.{nat_tests}
 use Rattle.std.proofs.lemmas.List.Elements.{All-filter, filter-append}
 use Rattle.std.proofs.lemmas.List.Sums.{length-filter, count_by-le-length}
 use Rattle.std.proofs.Math.Seq.{take-append_seam, get_or-append_seam}
 use Rattle.std.proofs.lemmas.Option.{slice_get-get_or}
+use Rattle.std.proofs.lemmas.Bool.{and_parts}
 use Rattle.station_base.specs.declared.row.Row.{Row}
 use Rattle.station_base.specs.declared.day.DayNumber.{DayNumber}
 use Rattle.station_base.specs.CivilMinute.{CivilMinute, archive_day_of}
@@ -24,30 +25,15 @@ use Rattle.weather_book.specs.declared.tail.Tail.{Tail}
 use Rattle.weather_book.proofs.ClosedDays.{closing_at}
 use Rattle.weather_book.proofs.DayRows.{splits, day_count, last_day_is, few_of}
 use Rattle.weather_book.proofs.Measured.{all_measured}
-use Rattle.weather_book.proofs.RowLaws.{and_left, and_right, last_join, total_push}
+use Rattle.weather_book.proofs.RowLaws.{last_join, rise_front, rise_behind, total_push}
 use Rattle.weather_book.proofs.DayLaws.{later_day, still_beyond}
-
--- the front of rising rows rises, and what stands behind it
-rise_front : (last : Option CivilMinute) (xs ys : List Row) → rise last (xs ++ ys) ≡ true → rise last xs ≡ true
-rise_front last [] ys up = refl
-rise_front last (x ∷ xs) ys up =
-    both (exceeds last x.stamp) (rise (Some x.stamp) xs) (and_left (exceeds last x.stamp) (rise (Some x.stamp) (xs ++ ys)) up) (rise_front (Some x.stamp) xs ys (and_right (exceeds last x.stamp) (rise (Some x.stamp) (xs ++ ys)) up))
-  where
-    both : (a b : Bool) → a ≡ true → b ≡ true → (a && b) ≡ true
-    both true true e f = refl
-    both true false e f = absurd cc
-    both false b e f = absurd cc
-
-rise_behind : (last : Option CivilMinute) (xs ys : List Row) → rise last (xs ++ ys) ≡ true → rise (last_after last xs) ys ≡ true
-rise_behind last [] ys up = up
-rise_behind last (x ∷ xs) ys up = rise_behind (Some x.stamp) xs ys (and_right (exceeds last x.stamp) (rise (Some x.stamp) (xs ++ ys)) up)
 
 -- the last row is past a day where an earlier one is
 last_past : (s : CivilMinute) (rows : List Row) (f : ℤ) → rise (Some s) rows ≡ true → int_le (pos (archive_day_of s)) f ≡ false → int_le (day_of_stamp (last_after (Some s) rows)) f ≡ false
 last_past s [] f up past = past
 last_past s (row ∷ rows) f up past =
-    let le = later_day s row.stamp (and_left (exceeds (Some s) row.stamp) (rise (Some row.stamp) rows) up) in
-    last_past row.stamp rows f (and_right (exceeds (Some s) row.stamp) (rise (Some row.stamp) rows) up) (still_beyond (archive_day_of s) (archive_day_of row.stamp) f le past)
+    let le = later_day s row.stamp (and_parts (exceeds (Some s) row.stamp) (rise (Some row.stamp) rows) up).0 in
+    last_past row.stamp rows f (and_parts (exceeds (Some s) row.stamp) (rise (Some row.stamp) rows) up).1 (still_beyond (archive_day_of s) (archive_day_of row.stamp) f le past)
 
 at_itself : (f : ℤ) (n : ℕ) → pos n ≡ f → int_le (pos n) f ≡ true
 at_itself (pos m) n e = let is : n ≡ m = cc in grind (arith, nat_tests)
@@ -113,8 +99,7 @@ over_by day rows front row more n up back some count parts all none past =
             typed = typed_of (rows_of_day day.0 rows) all_were (omega (arith, few));
           };
       not_last = λ is.
-          let beyond = last_past row.stamp more day.0 (and_right (exceeds (last_after None front) row.stamp) (rise (Some row.stamp) more)
-          (rise_behind None front (row ∷ more) (subst (λ (xs : List Row). rise None xs ≡ true) parts up))) past in
+          let beyond = last_past row.stamp more day.0 (and_parts (exceeds (last_after None front) row.stamp) (rise (Some row.stamp) more) (rise_behind None front (row ∷ more) (subst (λ (xs : List Row). rise None xs ≡ true) parts up))).1 past in
           let last_is : last_day rows ≡ day_of_stamp (last_after (Some row.stamp) more) = ap last_day parts ∙ ap day_of_stamp (last_join None front (row ∷ more)) in
           beyond_itself (last_after (Some row.stamp) more) (sym last_is ∙ is) beyond;
     }

@@ -2,7 +2,7 @@
 use Rattle.std.proofs.Common.{◌≡◌, ◌⊎◌, inl, inr, ℕ, ℤ, pos, negsuc, suc, ◌+◌, ◌-◌, ◌*◌, ◌<◌, ◌≤◌, Bool, true, false, cond, List, [], ◌∷◌, ◌++◌, length, Option, Some, None, refl, sym, ap, subst, ◌∙◌, arith}
 use Rattle.std.specs.Prelude.{filter, count_by, int_lt, int_le, max}
 use Rattle.std.specs.Ordering.{int_eq}
-use Rattle.std.proofs.lemmas.Bool.{ltb-true}
+use Rattle.std.proofs.lemmas.Bool.{ltb-true, and_parts}
 use Rattle.std.proofs.lemmas.Bool.Decides.{nat_tests}
 use Rattle.std.proofs.lemmas.List.Sums.{count_by-le-length}
 use Rattle.station_base.specs.declared.row.Row.{Row}
@@ -13,7 +13,6 @@ use Rattle.weather_book.specs.Closing.{day_of_stamp, last_day}
 use Rattle.weather_book.specs.Days.{day_of_row, is_before, is_up_to}
 use Rattle.weather_book.specs.Rising.{exceeds, rise, last_after}
 use Rattle.weather_book.proofs.DayLaws.{later_day, still_beyond, count_yes, count_no}
-use Rattle.weather_book.proofs.RowLaws.{and_left, and_right}
 
 skip : (p : Row → Bool) (row : Row) (rows : List Row) → p row ≡ false → filter p (row ∷ rows) ≡ filter p rows
 skip p row rows not_it = ap (λ (b : Bool). cond b (row ∷ filter p rows) (filter p rows)) not_it
@@ -72,9 +71,9 @@ none_of : (day : DayNumber) (s : CivilMinute) (rows : List Row) → rise (Some s
     (count_by (is_up_to day) rows ≡ 0) × (rows_of_day day.0 rows ≡ [])
 none_of day s [] up past = (refl, refl)
 none_of day s (row ∷ rows) up past =
-    let le = later_day s row.stamp (and_left (exceeds (Some s) row.stamp) (rise (Some row.stamp) rows) up) in
+    let le = later_day s row.stamp (and_parts (exceeds (Some s) row.stamp) (rise (Some row.stamp) rows) up).0 in
     let here = still_beyond (archive_day_of s) (archive_day_of row.stamp) day.0 le past in
-    let rest = none_of day row.stamp rows (and_right (exceeds (Some s) row.stamp) (rise (Some row.stamp) rows) up) here in
+    let rest = none_of day row.stamp rows (and_parts (exceeds (Some s) row.stamp) (rise (Some row.stamp) rows) up).1 here in
     (count_no (is_up_to day) row rows here ∙ rest.0, skip (is_of_day day.0) row rows (beyond_not_on (archive_day_of row.stamp) day.0 here) ∙ rest.1)
 
 -- the rows up to a day stand in front
@@ -90,7 +89,7 @@ pub record Splits (day : DayNumber) (rows : List Row) : Type 0 where
 pub splits : (day : DayNumber) (last : Option CivilMinute) (rows : List Row) → rise last rows ≡ true → Splits day rows
 splits day last [] up = record { front = []; behind = []; parts = refl; count = refl; all = refl; none = refl; next = λ row more e. absurd cc }
 splits day last (row ∷ rows) up =
-    by (int_le (day_of_row row) day.0) refl (splits day (Some row.stamp) rows (and_right (exceeds last row.stamp) (rise (Some row.stamp) rows) up))
+    by (int_le (day_of_row row) day.0) refl (splits day (Some row.stamp) rows (and_parts (exceeds last row.stamp) (rise (Some row.stamp) rows) up).1)
   where
     by : (to : Bool) → int_le (day_of_row row) day.0 ≡ to → Splits day rows → Splits day (row ∷ rows)
     by true e rest = record {
@@ -103,7 +102,7 @@ splits day last (row ∷ rows) up =
       next = rest.next;
     }
     by false e rest =
-        let past = none_of day row.stamp rows (and_right (exceeds last row.stamp) (rise (Some row.stamp) rows) up) e in
+        let past = none_of day row.stamp rows (and_parts (exceeds last row.stamp) (rise (Some row.stamp) rows) up).1 e in
         record {
           front = [];
           behind = row ∷ rows;
@@ -128,14 +127,14 @@ day_of_last day last [] up all (inl some) = absurd (omega (arith, some))
 day_of_last day last [] up all (inr known) = ap day_of_stamp known.1 ∙ known.2
 day_of_last day last (row ∷ rows) up all known =
     let f = first_up_to (is_up_to day) row rows all (count_by-le-length (is_up_to day) rows) in
-    day_of_last day (Some row.stamp) rows (and_right (exceeds last row.stamp) (rise (Some row.stamp) rows) up) f.1 (by (int_lt (day_of_row row) day.0) refl f.0 known)
+    day_of_last day (Some row.stamp) rows (and_parts (exceeds last row.stamp) (rise (Some row.stamp) rows) up).1 f.1 (by (int_lt (day_of_row row) day.0) refl f.0 known)
   where
     a : ℕ
     a = archive_day_of row.stamp
 
     contrary : (s : CivilMinute) → last ≡ Some s → pos (archive_day_of s) ≡ day.0 → int_lt (pos a) day.0 ≡ true → ⊥
     contrary s is same lt =
-        let le = later_day s row.stamp (and_left (exceeds (Some s) row.stamp) (rise (Some row.stamp) rows) (subst (λ (o : Option CivilMinute). rise o (row ∷ rows) ≡ true) is up)) in
+        let le = later_day s row.stamp (and_parts (exceeds (Some s) row.stamp) (rise (Some row.stamp) rows) (subst (λ (o : Option CivilMinute). rise o (row ∷ rows) ≡ true) is up)).0 in
         let less : int_lt (pos a) (pos (archive_day_of s)) ≡ true = subst (λ (d : ℤ). int_lt (pos a) d ≡ true) (sym same) lt in
         not_less a (archive_day_of s) le less
       where
@@ -160,8 +159,8 @@ AreAfter last (row ∷ rows) = (last < minute_of row.stamp) × AreAfter (minute_
 after_of : (s : CivilMinute) (rows : List Row) → rise (Some s) rows ≡ true → AreAfter (minute_of s) rows
 after_of s [] up = tt
 after_of s (row ∷ rows) up =
-    let above = and_left (exceeds (Some s) row.stamp) (rise (Some row.stamp) rows) up in
-    ((let lt : minute_of s < minute_of row.stamp = ltb-true (minute_of s) (minute_of row.stamp) above in lt), after_of row.stamp rows (and_right (exceeds (Some s) row.stamp) (rise (Some row.stamp) rows) up))
+    let above = (and_parts (exceeds (Some s) row.stamp) (rise (Some row.stamp) rows) up).0 in
+    ((let lt : minute_of s < minute_of row.stamp = ltb-true (minute_of s) (minute_of row.stamp) above in lt), after_of row.stamp rows (and_parts (exceeds (Some s) row.stamp) (rise (Some row.stamp) rows) up).1)
 
 -- a day has at most 1,440 rows
 day_minutes : ℕ → ℕ → ℕ
@@ -191,7 +190,7 @@ few_by (negsuc n) rows up = let none = no_such n rows in omega (arith, none)
     no_such n (row ∷ rows) = no_such n rows
 few_by (pos d) [] up = omega arith
 few_by (pos d) (row ∷ rows) up =
-    let rest = few_of_day (minute_of row.stamp) d rows (after_of row.stamp rows (and_right true (rise (Some row.stamp) rows) up)) in
+    let rest = few_of_day (minute_of row.stamp) d rows (after_of row.stamp rows (and_parts true (rise (Some row.stamp) rows) up).1) in
     most (int_eq (day_of_row row) (pos d)) refl rest
   where
     most : (b : Bool) → int_eq (day_of_row row) (pos d) ≡ b → length (filter (is_of_day (pos d)) rows) ≤ day_minutes (minute_of row.stamp) d → length (filter (is_of_day (pos d)) (row ∷ rows)) ≤ 1441

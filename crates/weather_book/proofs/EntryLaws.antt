@@ -6,6 +6,7 @@ use Rattle.std.proofs.lemmas.Bool.Decides.{nat_tests}
 use Rattle.std.proofs.Math.Seq.{drop-cons}
 use Rattle.std.proofs.lemmas.List.{drop_all, length-take}
 use Rattle.std.proofs.Common.{length-drop}
+use Rattle.std.proofs.lemmas.Bool.{and_parts, and_right}
 use Rattle.weather_book.specs.Rows.{slot_total}
 use Rattle.weather_book.specs.declared.tail.Tail.{Tail}
 use Rattle.std.proofs.lemmas.Option.{slice_get-map, slice_get-get_or}
@@ -18,7 +19,6 @@ use Rattle.weather_book.specs.Days.{day_of_row, is_day, with_day, days_from, day
 use Rattle.weather_book.specs.Kept.{with_entry, entries_from, entries_of, AreKnown, KeepsOf}
 use Rattle.weather_book.specs.Rising.{exceeds, rise}
 use Rattle.weather_book.proofs.DayLaws.{later_day, still_not, still_beyond, count_yes, count_no}
-use Rattle.weather_book.proofs.RowLaws.{and_left, and_right}
 
 -- the days of entries are those of the rows
 day_of_entry : DayEntry → ℤ
@@ -62,9 +62,9 @@ module _ (p : ℤ → Bool) (mono : (a b : ℕ) → a ≤ b → p (pos a) ≡ fa
   none_passes : (s : CivilMinute) (rows : List Row) → rise (Some s) rows ≡ true → p (pos (archive_day_of s)) ≡ false → count_by passes rows ≡ 0
   none_passes s [] up not = refl
   none_passes s (row ∷ rows) up not =
-      let later = later_day s row.stamp (and_left (exceeds (Some s) row.stamp) (rise (Some row.stamp) rows) up) in
+      let later = later_day s row.stamp (and_parts (exceeds (Some s) row.stamp) (rise (Some row.stamp) rows) up).0 in
       let this = mono (archive_day_of s) (archive_day_of row.stamp) later not in
-      count_no passes row rows this ∙ none_passes row.stamp rows (and_right (exceeds (Some s) row.stamp) (rise (Some row.stamp) rows) up) this
+      count_no passes row rows this ∙ none_passes row.stamp rows (and_parts (exceeds (Some s) row.stamp) (rise (Some row.stamp) rows) up).1 this
 
   entry_step : (same : Bool) (n : ℕ) (row : Row) (rows : List Row) → (same ≡ true → passes row ≡ true) → rise (Some row.stamp) rows ≡ true →
       (passes row ≡ true → first_past p (n + 1 + length rows) (entries_from (Some (day_of_row row)) (n + 1) rows) ≡ n + 1 + count_by passes rows) →
@@ -95,14 +95,14 @@ module _ (p : ℤ → Bool) (mono : (a b : ℕ) → a ≤ b → p (pos a) ≡ fa
       first_past p (n + length rows) (entries_from (Some (pos (archive_day_of s))) n rows) ≡ n + count_by passes rows
   entries_behind s n [] up pass = refl
   entries_behind s n (row ∷ rows) up pass =
-      let behind = and_right (exceeds (Some s) row.stamp) (rise (Some row.stamp) rows) up in
+      let behind = (and_parts (exceeds (Some s) row.stamp) (rise (Some row.stamp) rows) up).1 in
       entry_step (is_day (Some (pos (archive_day_of s))) (day_of_row row)) n row rows (λ e. same_pass (archive_day_of s) (archive_day_of row.stamp) e pass) behind (λ e. entries_behind row.stamp (n + 1) rows behind e)
 
   -- so many rows are of days that pass
   pub rows_past : (rows : List Row) → rise None rows ≡ true → first_past p (length rows) (entries_of rows) ≡ count_by passes rows
   rows_past [] up = refl
   rows_past (row ∷ rows) up =
-      let behind = and_right true (rise (Some row.stamp) rows) up in
+      let behind = (and_parts true (rise (Some row.stamp) rows) up).1 in
       ap (λ (c : ℕ). first_past p c (entries_of (row ∷ rows))) (let e : suc (length rows) ≡ 0 + suc (length rows) = omega arith in e)
       ∙ entry_step false 0 row rows (λ e. absurd cc) behind (λ e. entries_behind row.stamp 1 rows behind e) ∙ (let e : 0 + count_by passes (row ∷ rows) ≡ count_by passes (row ∷ rows) = omega arith in e)
 
@@ -134,10 +134,6 @@ gt_beyond a (negsuc f) (pos l) gt ge = absurd cc
 both : (a b x y : Bool) → a ≡ x → b ≡ y → (a && b) ≡ (x && y)
 both a b x y p q = ap (λ (v : Bool). v && b) p ∙ ap (λ (v : Bool). x && v) q
 
-no_and : (a b : Bool) → b ≡ false → (a && b) ≡ false
-no_and true b e = e
-no_and false b e = refl
-
 module _ (first last : DayNumber) where
   sums : int_le first.0 last.0 ≡ true → (rows : List Row) → count_by (is_up_to last) rows ≡ count_by (is_before first) rows + count_by (is_within first last) rows
   sums le [] = refl
@@ -153,7 +149,7 @@ module _ (first last : DayNumber) where
           let e = count_yes (is_within first last) row rows (both _ _ true true (ge_in (archive_day_of row.stamp) first.0 a) b) in omega (arith, c, d, e, f)
       by f false false a b =
           let c = count_no (is_up_to last) row rows b in let d = count_no (is_before first) row rows a in
-          let e = count_no (is_within first last) row rows (no_and _ _ b) in omega (arith, c, d, e, f)
+          let e = count_no (is_within first last) row rows (and_right _ _ b) in omega (arith, c, d, e, f)
 
   nothing : int_le first.0 last.0 ≡ false → (rows : List Row) → (count_by (is_up_to last) rows ≤ count_by (is_before first) rows) × (count_by (is_within first last) rows ≡ 0)
   nothing gt [] = (omega arith, refl)
@@ -166,11 +162,11 @@ module _ (first last : DayNumber) where
           (omega (arith, c, d, f.0), count_no (is_within first last) row rows (both _ _ false true (lt_out (archive_day_of row.stamp) first.0 a) b) ∙ f.1)
       by f true false a b =
           let c = count_no (is_up_to last) row rows b in let d = count_yes (is_before first) row rows a in
-          (omega (arith, c, d, f.0), count_no (is_within first last) row rows (no_and _ _ b) ∙ f.1)
+          (omega (arith, c, d, f.0), count_no (is_within first last) row rows (and_right _ _ b) ∙ f.1)
       by f false y a b =
           let past = gt_beyond (archive_day_of row.stamp) first.0 last.0 gt a in
           let c = count_no (is_up_to last) row rows past in let d = count_no (is_before first) row rows a in
-          (omega (arith, c, d, f.0), count_no (is_within first last) row rows (no_and _ _ past) ∙ f.1)
+          (omega (arith, c, d, f.0), count_no (is_within first last) row rows (and_right _ _ past) ∙ f.1)
 
   -- those up to the last, without those before the first
   pub within_count : (rows : List Row) → count_by (is_up_to last) rows - count_by (is_before first) rows ≡ count_by (is_within first last) rows

@@ -3,7 +3,7 @@ use Rattle.std.proofs.Common.{◌≡◌, ◌⊎◌, inl, inr, ℕ, zero, suc, �
 use Rattle.std.specs.Prelude.{ℤ, pos, nat_le}
 use Rattle.std.specs.List.{AllWithin}
 use Rattle.std.specs.List.Sorted.{IsPartitionedBy, IsPartitionPoint}
-use Rattle.std.proofs.lemmas.Bool.{cases_lt}
+use Rattle.std.proofs.lemmas.Bool.{cases_lt, and_parts}
 use Rattle.std.proofs.lemmas.Bool.Decides.{nat_tests}
 use Rattle.station_base.specs.declared.row.Row.{Row}
 use Rattle.station_base.specs.CivilMinute.{CivilMinute, archive_day_of}
@@ -14,7 +14,6 @@ use Rattle.weather_book.specs.Kept.{with_entry, entries_from, entries_of, KeepsO
 use Rattle.weather_book.specs.Rising.{exceeds, rise}
 use Rattle.weather_book.proofs.DayLaws.{later_day}
 use Rattle.weather_book.proofs.EntryLaws.{past, first_past, one_begun, begun, later_first, stop_is, end_is, later_stop, later_end, begun_stop, begun_end}
-use Rattle.weather_book.proofs.RowLaws.{and_left, and_right}
 
 -- each entry is of no earlier day and no earlier row than the one before, and the first than these
 abbrev pub Ordered : ℕ → ℕ → List DayEntry → Type 0
@@ -28,8 +27,8 @@ weaken a b m n (entry ∷ entries) le least order = (order.0, order.1, omega (ar
 ordered_from : (s : CivilMinute) (n m : ℕ) (rows : List Row) → m ≤ n → rise (Some s) rows ≡ true → Ordered (archive_day_of s) m (entries_from (Some (pos (archive_day_of s))) n rows)
 ordered_from s n m [] le up = tt
 ordered_from s n m (row ∷ rows) le up =
-    let later = later_day s row.stamp (and_left (exceeds (Some s) row.stamp) (rise (Some row.stamp) rows) up) in
-    let behind = and_right (exceeds (Some s) row.stamp) (rise (Some row.stamp) rows) up in
+    let later = later_day s row.stamp (and_parts (exceeds (Some s) row.stamp) (rise (Some row.stamp) rows) up).0 in
+    let behind = (and_parts (exceeds (Some s) row.stamp) (rise (Some row.stamp) rows) up).1 in
     by (is_day (Some (pos (archive_day_of s))) (day_of_row row)) later
     (weaken (archive_day_of s) (archive_day_of row.stamp) m m (entries_from (Some (day_of_row row)) (n + 1) rows) later (omega arith) (ordered_from row.stamp (n + 1) m rows (omega (arith, le)) behind))
     (ordered_from row.stamp (n + 1) n rows (omega arith) behind)
@@ -42,7 +41,7 @@ ordered_from s n m (row ∷ rows) le up =
 
 pub ordered_of : (rows : List Row) → rise None rows ≡ true → Ordered 0 0 (entries_of rows)
 ordered_of [] up = tt
-ordered_of (row ∷ rows) up = (archive_day_of row.stamp, refl, omega arith, omega arith, ordered_from row.stamp 1 0 rows (omega arith) (and_right true (rise (Some row.stamp) rows) up))
+ordered_of (row ∷ rows) up = (archive_day_of row.stamp, refl, omega arith, omega arith, ordered_from row.stamp 1 0 rows (omega arith) (and_parts true (rise (Some row.stamp) rows) up).1)
 
 -- an entry behind is of no earlier day
 day_at : (b m : ℕ) (entries : List DayEntry) (j : ℕ) (d : DayEntry) → Ordered b m entries → j < length entries → (c : ℕ) × ((get_or entries j d).day.0 ≡ pos c) × (b ≤ c)

@@ -4,6 +4,7 @@ use Rattle.std.specs.Prelude.{ℤ, pos, ◌&&◌, nat_lt, nat_eq, not, filter, i
 use Rattle.std.specs.Ordering.{int_eq}
 use Rattle.std.proofs.lemmas.Bool.Decides.{nat_tests}
 use Rattle.std.proofs.lemmas.List.Elements.{filter-append}
+use Rattle.std.proofs.lemmas.Bool.{and_parts}
 use Rattle.station_base.specs.declared.row.Row.{Row}
 use Rattle.station_base.specs.CivilMinute.{CivilMinute, minute_of, archive_day_of}
 use Rattle.daily_summary.specs.declared.summary.DaySummary.{DaySummary}
@@ -16,7 +17,7 @@ use Rattle.weather_book.specs.Rising.{exceeds, rise, last_after, last_stamp}
 use Rattle.weather_book.specs.Rows.{is_closing}
 use Rattle.weather_book.specs.Into.{minutes_into}
 use Rattle.weather_book.specs.Tail.{EndsRows}
-use Rattle.weather_book.proofs.RowLaws.{and_left, and_right, last_join, rise_join}
+use Rattle.weather_book.proofs.RowLaws.{last_join, rise_join}
 
 day_le : (m n : ℕ) → nat_lt m n ≡ true → (m - 1) / 1440 ≤ (n - 1) / 1440
 day_le m n e = let lt : m < n = grind (arith, nat_tests) in omega arith
@@ -34,8 +35,8 @@ day_within : (s : CivilMinute) (rows : List Row) → rise (Some s) rows ≡ true
 unfolding day_nat
 day_within s [] up = omega arith
 day_within s (row ∷ rows) up =
-    let one = later_day s row.stamp (and_left (exceeds (Some s) row.stamp) (rise (Some row.stamp) rows) up) in
-    let rest = day_within row.stamp rows (and_right (exceeds (Some s) row.stamp) (rise (Some row.stamp) rows) up) in
+    let one = later_day s row.stamp (and_parts (exceeds (Some s) row.stamp) (rise (Some row.stamp) rows) up).0 in
+    let rest = day_within row.stamp rows (and_parts (exceeds (Some s) row.stamp) (rise (Some row.stamp) rows) up).1 in
     omega (arith, one, rest)
 
 not_day : (a d : ℕ) → a < d → int_eq (pos a) (pos d) ≡ false
@@ -48,7 +49,7 @@ skip p row rows not_it = ap (λ (b : Bool). cond b (row ∷ filter p rows) (filt
 none_later : (last : Option CivilMinute) (rows : List Row) (d : ℕ) → rise last rows ≡ true → day_nat (last_after last rows) < d → filter (is_of_day (pos d)) rows ≡ []
 none_later last [] d up lt = refl
 none_later last (row ∷ rows) d up lt =
-    let later = and_right (exceeds last row.stamp) (rise (Some row.stamp) rows) up in
+    let later = (and_parts (exceeds last row.stamp) (rise (Some row.stamp) rows) up).1 in
     let day = day_within row.stamp rows later in
     skip (is_of_day (pos d)) row rows (not_day (archive_day_of row.stamp) d (omega (arith, day, lt))) ∙ none_later (Some row.stamp) rows d later lt
 

@@ -2,6 +2,7 @@
 use Rattle.std.proofs.Common.{◌≡◌, ℕ, zero, suc, ℤ, ◌+◌, ◌&&◌, Bool, true, false, cond, List, [], ◌∷◌, map, get_or, Some, None, refl, sym, ◌∙◌, ap}
 use Rattle.std.specs.Prelude.{nat_lt, length}
 use Rattle.std.specs.Str.{bytes_eq}
+use Rattle.std.proofs.lemmas.Bool.{and_right}
 use Rattle.daily_summary.specs.declared.summary.DaySummary.{DaySummary}
 use Rattle.station_base.specs.declared.row.Row.{Row}
 use Rattle.row_slot.specs.Slot.{row_in}
@@ -67,13 +68,9 @@ no_bytes : (rows : List Row) (shown : ℕ) → bytes_eq [] (closing_slot rows sh
 unfolding summary_slot
 no_bytes rows shown = refl
 
-and_none : (a b : Bool) → b ≡ false → (a && b) ≡ false
-and_none true b is = is
-and_none false b is = refl
-
 -- a slot without bytes fits nowhere
 none_right : (rows : List Row) (shown : ℕ) → is_right rows shown [] (row_in []) ≡ false
-none_right rows shown = ap (is_right rows shown []) no_row ∙ and_none (nat_lt 0 (length rows) && nat_lt shown 13) (bytes_eq [] (closing_slot rows shown)) (no_bytes rows shown)
+none_right rows shown = ap (is_right rows shown []) no_row ∙ and_right (nat_lt 0 (length rows) && nat_lt shown 13) (bytes_eq [] (closing_slot rows shown)) (no_bytes rows shown)
 
 pub unknown_wrong : (known : Bool) (rows : List Row) (shown : ℕ) (slot : List ℕ) → known ≡ false → is_right rows shown (cond known slot []) (row_in (cond known slot [])) ≡ false
 unknown_wrong known rows shown slot is = ap (λ (b : Bool). is_right rows shown (cond b slot []) (row_in (cond b slot []))) is ∙ none_right rows shown

@@ -1,8 +1,9 @@
 -- Days that ascend.
 use Rattle.std.proofs.Common.{◌≡◌, ℕ, zero, suc, ◌<◌, ◌≤◌, ◌-◌, ℤ, pos, negsuc, Bool, true, List, [], ◌∷◌, Some, None, length, get_or, refl, sym, ap, ◌∙◌, ⊎_elim, cond, arith}
-use Rattle.std.specs.Prelude.{filter, int_le, int_lt, slice_get, unsigned_abs, ◌&&◌}
+use Rattle.std.specs.Prelude.{filter, int_le, int_lt, slice_get, unsigned_abs}
 use Rattle.std.proofs.Math.Nat.{eq-or-lt_of_le}
 use Rattle.std.proofs.lemmas.Option.{slice_get_within, get_or_from_slice_get}
+use Rattle.std.proofs.lemmas.Bool.{and_from}
 use Rattle.jiff_core.proofs.SignedLemmas.{signed_arith}
 use Rattle.station_base.specs.DayText.{IsDayNumber}
 use Rattle.station_base.specs.declared.day.DayNumber.{DayNumber}
@@ -67,9 +68,6 @@ no_later days up i j d le lt =
     ⊎_elim (λ e. ap (λ (k : ℕ). int_le (get_or days i d) (get_or days k d)) (sym e) ∙ le_same (get_or days i d))
     (λ before. le_lt (get_or days i d) (get_or days j d) (later days up i j d before lt)) (eq-or-lt_of_le le)
 
-both : (a b : Bool) → a ≡ true → b ≡ true → (a && b) ≡ true
-both a b one two = ap (λ (x : Bool). x && b) one ∙ two
-
 -- all are among them from the first to the last
 pub all_among : (days : List ℤ) → Ascend None days → (first last : DayNumber) → slice_get days 0 ≡ Some first.0 → slice_get days (length days - 1) ≡ Some last.0
     → filter (is_among first last) days ≡ days
@@ -77,5 +75,5 @@ all_among days up first last at_first at_last =
     let d = first.0 in let e = get_or_from_slice_get days 0 first.0 d at_first in
     let l = get_or_from_slice_get days (length days - 1) last.0 d at_last in
     all_kept (is_among first last) days d (λ i lt.
-    both (int_le d (get_or days i d)) (int_le (get_or days i d) last.0) (ap (λ (x : ℤ). int_le x (get_or days i d)) (sym e) ∙ no_later days up 0 i d (omega arith) lt)
+    and_from (int_le d (get_or days i d)) (int_le (get_or days i d) last.0) (ap (λ (x : ℤ). int_le x (get_or days i d)) (sym e) ∙ no_later days up 0 i d (omega arith) lt)
     (ap (λ (x : ℤ). int_le (get_or days i d) x) (sym l) ∙ no_later days up i (length days - 1) d (omega arith) (omega arith)))
