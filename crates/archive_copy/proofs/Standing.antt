@@ -1,5 +1,5 @@
 -- A book that stands on a disk, where nothing is changed.
-use Rattle.std.proofs.Common.{◌≡◌, ℕ, List, [], ◌∷◌, map, inl, inr, ⊎_elim, refl, sym, ◌∙◌, ap, subst, append-nil, Some}
+use Rattle.std.proofs.Common.{◌≡◌, ℕ, List, [], ◌∷◌, inl, inr, ⊎_elim, sym, ◌∙◌, ap, subst, append-nil, Some}
 use Rattle.disk_model.specs.Medium.{Medium}
 use Rattle.disk_model.specs.Disk.{LeavesOnly, Stays}
 use Rattle.gated_log.specs.declared.version.Version.TheVariants.{Second}
@@ -7,14 +7,11 @@ use Rattle.gated_log.proofs.Ending.{stands_now}
 use Rattle.gated_log.proofs.Versions.{has_closed}
 use Rattle.station_base.specs.declared.row.Row.{Row}
 use Rattle.weather_book.specs.declared.book.Book.{Book}
-use Rattle.weather_book.specs.Rows.{as_read, rows_from, slot_total, holds}
+use Rattle.weather_book.specs.Rows.{rows_from, slot_total, holds}
 use Rattle.weather_book.specs.Stands.{HasRows, NowHasRows, ReadsRows, StandsOn, StandsToReadOn}
 use Rattle.weather_book.proofs.Adds.{has_rows}
+use Rattle.weather_book.proofs.Versions.{read_second}
 use Rattle.archive_copy.specs.Adding.{HasSome}
-
-as_they_are : (slots : List (List ℕ)) → map (as_read Second) slots ≡ slots
-as_they_are [] = refl
-as_they_are (slot ∷ slots) = ap (λ (xs : List (List ℕ)). slot ∷ xs) (as_they_are slots)
 
 -- the same rows, and the same next ones
 pub same_some : (mine rows next others : List Row) (image : List ℕ) → mine ≡ rows → next ≡ others → HasSome mine next image → HasSome rows others image
@@ -29,7 +26,7 @@ module _ {D : Type 0} (medium : Medium D) where
     version = Second;
     version_is = λ c told. stands.current;
     slots = stands.slots;
-    rows_are = ap (λ (xs : List (List ℕ)). rows_from [] 0 0 xs) (as_they_are stands.slots) ∙ stands.rows_are;
+    rows_are = ap (λ (xs : List (List ℕ)). rows_from [] 0 0 xs) (read_second stands.slots) ∙ stands.rows_are;
     log = record {
       before = stands.log.before;
       chain = stands.log.chain;

@@ -148,16 +148,17 @@ module _ (frame : List ℕ) (place : ℕ) (taken : List (List ℕ)) (end : End) 
       bounded_within (65536 + 65536 * 3) (0 + 3) 101669940 2069 talk (omega arith) (omega arith)
       (parts 65536 0 (65536 * 3) 3 talk s t is ((bounds_settling 6).still s still) ((bounds_wake 3).floods t floods))
 
-frame_six : (after : Option CivilMinute) → length (stamp_frame_of after) ≡ 6
+-- a stamp frame has six bytes
+pub frame_long : (after : Option CivilMinute) → length (stamp_frame_of after) ≡ 6
 unfolding frame_of_words
-frame_six after = refl
+frame_long after = refl
 
 module _ (after : Option CivilMinute) (place : ℕ) (talk : List TalkItem) (taken : List (List ℕ)) where
   whole : (end : End) → Attempt (stamp_frame_of after) talk place taken end → IsBounded 101669940 2069 talk
-  whole end x = attempt (stamp_frame_of after) place taken end talk (frame_six after) x
+  whole end x = attempt (stamp_frame_of after) place taken end talk (frame_long after) x
 
   cut : IsCutAfter (λ t pages e. Attempt (stamp_frame_of after) t place pages e) talk taken → IsBounded 101669940 2069 talk
-  cut x = bounded_front 101669940 2069 talk x.rest (attempt (stamp_frame_of after) place taken x.end (talk ++ x.rest) (frame_six after) x.whole)
+  cut x = bounded_front 101669940 2069 talk x.rest (attempt (stamp_frame_of after) place taken x.end (talk ++ x.rest) (frame_long after) x.whole)
 
   ended : (end : DumpEnd) → Ended (λ t pages e. Attempt (stamp_frame_of after) t place pages e) end talk taken → IsBounded 101669940 2069 talk
   ended dump_end.Whole x = whole End.Whole x

@@ -1,7 +1,7 @@
 -- A pump that goes through a part of an attempt.
 use Rattle.std.proofs.Common.{◌≡◌, ◌≢◌, ℕ, ◌+◌, ◌<◌, ◌⊎◌, Bool, true, false, List, [], ◌∷◌, ◌++◌, length, length-append, refl, sym, ◌∙◌, ap, subst, inl, inr, arith, append_assoc, append-nil, eq-eqb, Option}
-use Rattle.std.specs.Prelude.{◌==◌, ◌&&◌}
-use Rattle.std.proofs.lemmas.Bool.{eqb-true, and_parts}
+use Rattle.std.specs.Prelude.{◌==◌}
+use Rattle.std.proofs.lemmas.Bool.{eqb-true, and_parts, and_from}
 use Rattle.station_base.specs.CivilMinute.{CivilMinute}
 use Rattle.serial_link.specs.Talk.{message}
 use Rattle.serial_link.specs.declared.talk.TalkItem.{TalkItem}
@@ -25,10 +25,6 @@ end_refl : (x : Bool) → same_end x x ≡ true
 end_refl true = refl
 end_refl false = refl
 
-and_both : (x y : Bool) → x ≡ true → y ≡ true → (x && y) ≡ true
-and_both true y p q = q
-and_both false y p q = cc
-
 -- an item is to be said that is said
 pub said_is : (i j : TalkItem) → is_said i j ≡ true → j ≡ i
 said_is (Said b ends) (Said c stops) e =
@@ -41,7 +37,7 @@ said_is (Heard b) j e = cc
 said_is Quiet j e = cc
 
 pub said_refl : (b : ℕ) (ends : Bool) → is_said (Said b ends) (Said b ends) ≡ true
-said_refl b ends = and_both (b == b) (same_end ends ends) (eq-eqb b b refl) (end_refl ends)
+said_refl b ends = and_from (b == b) (same_end ends ends) (eq-eqb b b refl) (end_refl ends)
 
 module _ (a : Option CivilMinute) where
   -- nothing brings back what is astray

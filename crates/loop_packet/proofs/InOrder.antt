@@ -169,7 +169,7 @@ byte_bits : (z : ℤ) → FitsSigned w8 z → cast_unsigned w8 z < 256
 byte_bits (pos n) fits = let small : n < 128 = fits.sfits in omega arith
 byte_bits (negsuc n) fits = omega arith
 
-word_bits : (z : ℤ) → FitsSigned w16 z → cast_unsigned w16 z < 65536
+pub word_bits : (z : ℤ) → FitsSigned w16 z → cast_unsigned w16 z < 65536
 word_bits (pos n) fits = let small : n < 32768 = fits.sfits in omega arith
 word_bits (negsuc n) fits = omega arith
 
@@ -180,7 +180,7 @@ signed_byte_read z rest fits =
     let low : cast_unsigned w8 z % 256 ≡ cast_unsigned w8 z = omega arith in
     ap (cast_signed w8) low ∙ to_z-of_z w8 z fits
 
-two_read : (n : ℕ) → n < 65536 → n % 256 + n / 256 % 256 * 256 ≡ n
+pub two_read : (n : ℕ) → n < 65536 → n % 256 + n / 256 % 256 * 256 ≡ n
 two_read n small = omega arith
 
 word_read : (n : ℕ) (rest : List ℕ) → n < 65536 → word_in (word_of n ++ rest) ≡ n

@@ -1,8 +1,9 @@
 -- Records can hold the values that are drawn.
-use Rattle.std.proofs.Common.{◌≡◌, ℕ, ℤ, pos, ◌%◌, ◌-ℤ◌, ◌&&◌, not, Bool, true, false, Option, Some, None, refl, arith, rules}
+use Rattle.std.proofs.Common.{◌≡◌, ℕ, ℤ, pos, ◌%◌, ◌-ℤ◌, not, Bool, true, false, Option, Some, None, refl, arith, rules}
 use Rattle.std.specs.Prelude.{int_le, negsuc, ◌≤ℤ◌, slice_set}
 use Rattle.std.specs.Ordering.{int_eq}
 use Rattle.std.proofs.lemmas.Bool.Decides.{Decides-int_eq}
+use Rattle.std.proofs.lemmas.Bool.{and_from}
 use Rattle.jiff_core.proofs.SignedLemmas.{signed_arith}
 use Rattle.station_base.specs.Fields.{field_named, fields}
 use Rattle.archive_record.specs.Place.{can_hold}
@@ -11,11 +12,6 @@ use Rattle.archive_record.specs.Writing.{can_hold_all}
 use Rattle.archive_record.specs.declared.kind.Kind.TheVariants.{SignedWord, Word}
 use Rattle.station_sim.specs.ScheduleForms.{no_values}
 use Rattle.made_run.specs.Made.{due_values}
-
-both : (x y : Bool) → x ≡ true → y ≡ true → (x && y) ≡ true
-both true true first second = refl
-both true false first second = second
-both false y first second = first
 
 at_most : (a b : ℤ) → a ≤ℤ b → int_le a b ≡ true
 at_most a b h = search rules
@@ -30,15 +26,15 @@ differs a b apart = go (int_eq a b) refl
 temperature_held : (t : ℕ) → can_hold (place 4 SignedWord (Some 32767)) (Some (pos (t % 1000) -ℤ pos 200)) ≡ true
 temperature_held t =
     let value = pos (t % 1000) -ℤ pos 200 in
-    both _ _ (both _ _ (at_most (negsuc 32767) value (omega (arith, signed_arith))) (at_most value (pos 32767) (omega (arith, signed_arith))))
+    and_from _ _ (and_from _ _ (at_most (negsuc 32767) value (omega (arith, signed_arith))) (at_most value (pos 32767) (omega (arith, signed_arith))))
     (differs value (pos 32767) (λ same. omega (arith, signed_arith, same)))
 
 rain_held : (r : ℕ) → can_hold (place 10 Word None) (Some (pos (r % 3))) ≡ true
-rain_held r = both _ _ (both _ _ (at_most (pos 0) (pos (r % 3)) (omega (arith, signed_arith))) (at_most (pos (r % 3)) (pos 65535) (omega (arith, signed_arith)))) refl
+rain_held r = and_from _ _ (and_from _ _ (at_most (pos 0) (pos (r % 3)) (omega (arith, signed_arith))) (at_most (pos (r % 3)) (pos 65535) (omega (arith, signed_arith)))) refl
 
 both_held : (a b : Option ℤ) → can_hold (place 4 SignedWord (Some 32767)) a ≡ true → can_hold (place 10 Word None) b ≡ true → can_hold_all places (slice_set (slice_set no_values 0 a) 3 b) ≡ true
 unfolding places field_places
-both_held a b first second = both _ _ first (both _ _ second refl)
+both_held a b first second = and_from _ _ first (and_from _ _ second refl)
 
 pub due_held : (t r : ℕ) → can_hold_all places (due_values t r) ≡ true
 unfolding field_named fields

@@ -3,6 +3,7 @@ use Rattle.std.proofs.Common.{◌≡◌, ℕ, ◌+◌, ◌-◌, ◌*◌, ◌≤�
 use Rattle.std.specs.Prelude.{ℤ, nat_lt, nat_le, not, ◌||◌}
 use Rattle.std.specs.List.{list_any}
 use Rattle.std.proofs.lemmas.Bool.Decides.{nat_tests}
+use Rattle.std.proofs.lemmas.Bool.{ltb-false}
 use Rattle.station_base.specs.CivilMinute.{CivilMinute, minute_of, last_minute}
 use Rattle.station_base.specs.declared.row.Row.{Row}
 use Rattle.archive_record.specs.declared.record_read.RecordRead.{RecordRead}
@@ -125,9 +126,6 @@ all_lines period s f =
     let turn = turn_steps s.turn s.details s.stop in
     omega (arith, lines_join (s.before ++ turn) s.since, lines_join s.before turn, between_lines s.since f.between, f.lines)
 
-not_above : (m n : ℕ) → nat_lt m n ≡ false → n ≤ m
-not_above m n h = grind (arith, nat_tests, h)
-
 above : (m n : ℕ) → nat_le m n ≡ false → n < m
 above m n h = grind (arith, nat_tests, h)
 
@@ -144,7 +142,7 @@ read_by period a count None values stamped later known = cc
 read_by period a count (Some stamp) None stamped later known = cc
 read_by period a count (Some stamp) (Some values) stamped later known =
     let row : Row = record { stamp = stamp; interval = period; values = values; limited = 0 } in
-    (minute_of stamp, (row, refl, above (minute_of stamp) a later, refl), not_above (minute_of last_minute) (minute_of stamp + (count - 1) * period) stamped, refl)
+    (minute_of stamp, (row, refl, above (minute_of stamp) a later, refl), ltb-false (minute_of last_minute) (minute_of stamp + (count - 1) * period) stamped, refl)
 
 is_told : (period : ℕ) (s : Said) (told : Told) (count : ℕ) (more : List Kind) → least (told_kinds period s told count ++ more) ≡ None → IsTold period s.newest told count × (least more ≡ None)
 is_told period s told count more none =
@@ -253,9 +251,9 @@ falling_after period s (Idle ticks) counts f none =
     let more = with_one period s f (IdleStep ticks) s.newest refl tt in
     record { behind = f.behind; within = f.within; before = f.before; turn = f.turn; since = more.0; between = more.1; lines = f.lines; few = f.few }
 falling_after period s Open counts f none =
-    turned period s Opening refl f (not_above 200 (s.turns + 1) (first_fails (nat_lt 200 (s.turns + 1)) 11 None none))
+    turned period s Opening refl f (ltb-false 200 (s.turns + 1) (first_fails (nat_lt 200 (s.turns + 1)) 11 None none))
 falling_after period s Round counts f none =
-    turned period s InRound refl f (not_above 200 (s.turns + 1) (first_fails (nat_lt 200 (s.turns + 1)) 11 None none))
+    turned period s InRound refl f (ltb-false 200 (s.turns + 1) (first_fails (nat_lt 200 (s.turns + 1)) 11 None none))
 falling_after period s (Host number fate) counts f none = with_details period s _ refl f
 falling_after period s (Reply number fate) counts f none = with_details period s _ refl f
 falling_after period s (Late number waits place) counts f none = with_details period s _ refl f

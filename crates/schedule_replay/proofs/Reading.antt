@@ -1,5 +1,5 @@
 -- Reads of a disk at rest.
-use Rattle.std.proofs.Common.{◌≡◌, ◌≢◌, ℕ, ◌+◌, ◌*◌, ◌≤◌, Bool, true, false, List, [], ◌∷◌, length, map, Some, refl, sym, ap, subst, ◌∙◌, inl, arith, length-append}
+use Rattle.std.proofs.Common.{◌≡◌, ◌≢◌, ℕ, ◌+◌, ◌*◌, ◌≤◌, Bool, true, false, List, [], ◌∷◌, length, Some, sym, ap, subst, ◌∙◌, inl, arith, length-append}
 use Rattle.std.proofs.lemmas.Option.{same_Some}
 use Rattle.disk_model.specs.Calls.{DiskCall}
 use Rattle.disk_model.specs.Disk.{Stays}
@@ -17,8 +17,9 @@ use Rattle.station_base.specs.declared.row.Row.{Row}
 use Rattle.settings_file.specs.StationSettings.{StationSettings}
 use Rattle.weather_book.specs.declared.book.Book.{Book}
 use Rattle.weather_book.specs.Book.{StandsFor}
-use Rattle.weather_book.specs.Rows.{as_read, rows_from, slot_total}
+use Rattle.weather_book.specs.Rows.{rows_from, slot_total}
 use Rattle.weather_book.specs.Stands.{StandsOn, StandsToReadOn}
+use Rattle.weather_book.proofs.Versions.{read_second}
 use Rattle.weather_reports.specs.Reported.{AsFailed, ReadsOver}
 use Rattle.weather_reports.specs.declared.end.ReportEnd.{ReportEnd}
 use Rattle.station_session.specs.declared.session.Session.{Session}
@@ -39,10 +40,6 @@ reads_done s t len calls goes sure le within is =
       fails_by_changes len calls s t goes sure le (fit len calls within) is ∙ ap any_failed none,
     )
 
-as_they_are : (slots : List (List ℕ)) → map (as_read Second) slots ≡ slots
-as_they_are [] = refl
-as_they_are (slot ∷ slots) = ap (λ (xs : List (List ℕ)). slot ∷ xs) (as_they_are slots)
-
 -- where a book stands for rows on a disk, they can be read there
 can_be_read : {D : Type 0} (medium : Medium D) (book : Book) (d : D) (rows : List Row) → StandsOn medium book d rows → StandsToReadOn medium book d rows
 can_be_read medium book d rows stands = record {
@@ -50,7 +47,7 @@ can_be_read medium book d rows stands = record {
   version = Second;
   version_is = λ c told. stands.current;
   slots = stands.slots;
-  rows_are = ap (λ (xs : List (List ℕ)). rows_from [] 0 0 xs) (as_they_are stands.slots) ∙ stands.rows_are;
+  rows_are = ap (λ (xs : List (List ℕ)). rows_from [] 0 0 xs) (read_second stands.slots) ∙ stands.rows_are;
   log = record {
     before = stands.log.before;
     chain = stands.log.chain;

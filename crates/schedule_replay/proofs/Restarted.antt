@@ -23,6 +23,7 @@ use Rattle.station_replay.specs.Schedule.{Stop}
 use Rattle.station_replay.specs.Keeping.{Archive}
 use Rattle.station_replay.specs.Replay.{cut_archive, stops_opening}
 use Rattle.station_replay.specs.Stopped.{Rests}
+use Rattle.station_replay.proofs.Room.{picked_between}
 use Rattle.schedule_replay.specs.Opening.{limits_of}
 use Rattle.schedule_replay.specs.Resting.{AtRest, HasLeft}
 use Rattle.schedule_replay.proofs.Beginning.{Starts, went_wrong, few, same_platter}
@@ -38,15 +39,6 @@ same_picked pick size = by (pick == 0) (nat_lt pick 3)
     by true b = refl
     by false true = refl
     by false false = let rest : pick % (size - size + 1) < size - size + 1 = omega arith in omega (arith, rest)
-
--- and of two no more than the greater
-picked_within : (pick old new : ℕ) → old ≤ new → picked_length pick old new ≤ new
-picked_within pick old new le = by (pick == 0) (nat_lt pick 3)
-  where
-    by : (a b : Bool) → (if a then old else if b then new else old + pick % (new - old + 1)) ≤ new
-    by true b = le
-    by false true = omega arith
-    by false false = let rest : pick % (new - old + 1) < new - old + 1 = omega arith in omega (arith, rest, le)
 
 -- an image that a crash now leaves is one of the platter, and the other way round
 pub image_of : (d : Stopping MemDisk) (c : List ℕ) → stopping_medium.left d (stopping_medium.moment d) c → IsImage (platter_within d) c
@@ -126,7 +118,7 @@ module _ (stop : Stop) (openings : ℕ) (a : Archive) (d e f : Stopping MemDisk)
       where
         by : (b : Bool) → length (restart_image e) ≡ (if b then a.size else picked_length stop.pick a.size 177) → length (restart_image e) ≤ 177
         by true is = omega (arith, is, short)
-        by false is = omega (arith, is, picked_within stop.pick a.size 177 short)
+        by false is = omega (arith, is, picked_between stop.pick a.size 177 short)
 
     version_left : version_of (restart_image e) ≡ Second
     version_left = elim (le_or_gt a.size 177) [

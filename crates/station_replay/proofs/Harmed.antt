@@ -12,6 +12,7 @@ use Rattle.dmpaft_driver.specs.Batch.{batches, records_in}
 use Rattle.dmpaft_driver.proofs.Keeping.{join_none}
 use Rattle.dmpaft_driver.specs.declared.outcome.DumpEnd.{DumpEnd}
 use Rattle.dmpaft_driver.specs.declared.outcome.DumpEnd.TheVariants as dump_end
+use Rattle.dmpaft_driver.proofs.Bounding.{frame_long}
 use Rattle.station_session.specs.declared.round_end.RoundEnd.{RoundEnd}
 use Rattle.station_session.specs.declared.round_end.RoundEnd.TheVariants as round_end
 use Rattle.station_session.specs.Attempts.{Tried, IsTried, Attempts, EndsBefore, end_after, batches_in, stamp_after, all_batches, all_said}
@@ -37,7 +38,6 @@ use Rattle.station_sim.specs.Talk.{console_talk}
 use Rattle.station_sim.proofs.Sounding.{sound_talk}
 use Rattle.station_replay.specs.Harm.{DiskFailed, LinkShort, EndsUnharmed, IsSpared, EachOver, EachHarmed, HarmTells}
 use Rattle.station_replay.proofs.Attempts.{attempt_law}
-use Rattle.station_replay.proofs.Batches.{frame_long}
 use Rattle.station_replay.proofs.Clean.{goes_harmed}
 use Rattle.station_replay.proofs.Completing.{clean_law}
 use Rattle.station_replay.proofs.Headers.{frame_good}

@@ -14,6 +14,7 @@ use Rattle.dmpaft_driver.specs.Keeper.{Handed, one_batch, kept_all, join, count}
 use Rattle.dmpaft_driver.specs.declared.outcome.DumpEnd.{DumpEnd}
 use Rattle.dmpaft_driver.specs.declared.outcome.DumpEnd.TheVariants as dump_end
 use Rattle.dmpaft_driver.proofs.Keeping.{join_none, one_size, count_join}
+use Rattle.dmpaft_driver.proofs.Bounding.{frame_long}
 use Rattle.weather_book.specs.Rising.{last_stamp}
 use Rattle.station_session.specs.declared.round_end.RoundEnd.{RoundEnd}
 use Rattle.station_session.specs.declared.round_end.RoundEnd.TheVariants as round_end
@@ -35,7 +36,6 @@ use Rattle.station_replay.specs.Pairs.{Pair, Gathered, pairs_of}
 use Rattle.station_replay.specs.Room.{AreFew}
 use Rattle.station_replay.specs.Round.{Attempted, IsAttempted}
 use Rattle.station_replay.proofs.Attempts.{attempt_dry}
-use Rattle.station_replay.proofs.Batches.{frame_long}
 use Rattle.station_replay.proofs.Bridge.{attempted_by, went, said_one}
 use Rattle.station_replay.proofs.Counting.{few_of, stamp_of}
 use Rattle.station_replay.proofs.Pages.{goes_unseen}

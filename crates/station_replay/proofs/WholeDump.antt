@@ -25,6 +25,7 @@ use Rattle.dmpaft_driver.specs.Attempt.{dmpaft, Takes, Pages, Attempt, End}
 use Rattle.dmpaft_driver.specs.Batch.{batches, records_in}
 use Rattle.dmpaft_driver.specs.Header.{IsHeader}
 use Rattle.dmpaft_driver.specs.Page.{is_page_for, has_sequence}
+use Rattle.dmpaft_driver.proofs.Bounding.{frame_long}
 use Rattle.crc_ccitt.specs.Check.{is_good}
 use Rattle.station_sim.specs.Fates.{Fates, delivered, all_bytes, late}
 use Rattle.station_sim.specs.Line.{Line, flies, happens, replied, unanswered, hears, counted, sends, says, is_harmed, earlier}
@@ -36,7 +37,7 @@ use Rattle.station_replay.specs.Gathers.{newer_held, begun_after, Gives}
 use Rattle.station_replay.specs.Minutes.{minute_records, filled_line}
 use Rattle.station_replay.specs.WholeAttempt.{WholeAttempt}
 use Rattle.station_replay.proofs.Asked.{at_state}
-use Rattle.station_replay.proofs.Batches.{attempt_gives, frame_long}
+use Rattle.station_replay.proofs.Batches.{attempt_gives}
 use Rattle.station_replay.proofs.Completing.{page_for, page_has}
 use Rattle.station_replay.proofs.Delivery.{page_length}
 use Rattle.station_replay.proofs.Example.{six, wake, sound_fates}

@@ -12,6 +12,7 @@ use Rattle.dmpaft_driver.specs.declared.outcome.DumpEnd.{DumpEnd}
 use Rattle.dmpaft_driver.specs.declared.outcome.DumpEnd.TheVariants as dump_end
 use Rattle.dmpaft_driver.proofs.Keeping.{join_none, kept_answered}
 use Rattle.dmpaft_driver.proofs.Rising.{rising_joins, batches_rise}
+use Rattle.dmpaft_driver.proofs.Unrolling.{newest_joins}
 use Rattle.station_session.specs.declared.round_end.RoundEnd.{RoundEnd}
 use Rattle.station_session.specs.Attempts.{Tried, Attempts, batches_in, stamp_after, all_batches, but_last, kept_batches}
 use Rattle.station_session.specs.Batches.{kept_records, last_answer}
@@ -22,10 +23,6 @@ use Rattle.station_session.proofs.Ends.{goes_on, last_in, last_behind, kept_appe
 -- the batches of an attempt, put together
 joined_rise : (last : Option CivilMinute) (place : ℕ) (taken : List (List ℕ)) → records_in (batches last place taken) ≡ rising last (all_slots place taken)
 joined_rise last place taken = batches_rise last place taken
-
-newest_joins : (a : Option CivilMinute) (xs ys : List (List ℕ)) → newest a (xs ++ ys) ≡ newest (newest a xs) ys
-newest_joins a [] ys = refl
-newest_joins a (s ∷ ss) ys = newest_joins (last_if (is_newer a s) a s) ss ys
 
 -- the last of the records that rise has the greatest stamp
 last_rising : (a : Option CivilMinute) (ss : List (List ℕ)) → last_stamp stamp_in (rising a ss) a ≡ newest a ss
@@ -55,7 +52,8 @@ front_whole xs ys e = ([], append-nil xs ∙ e)
 front_behind : (b xs ys : List (List ℕ)) → IsFrontOf xs ys → IsFrontOf (b ++ xs) (b ++ ys)
 front_behind b xs ys h = (h.0, append_assoc b xs h.0 ∙ ap (λ (x : List (List ℕ)). b ++ x) h.1)
 
-front_but_last : (bs : List (List (List ℕ))) → IsFrontOf (records_in (but_last bs)) (records_in bs)
+-- all but the last batch are the first ones
+pub front_but_last : (bs : List (List (List ℕ))) → IsFrontOf (records_in (but_last bs)) (records_in bs)
 front_but_last [] = ([], refl)
 front_but_last (b ∷ []) = (b ++ [], refl)
 front_but_last (b ∷ c ∷ bs) = front_behind b (records_in (but_last (c ∷ bs))) (records_in (c ∷ bs)) (front_but_last (c ∷ bs))

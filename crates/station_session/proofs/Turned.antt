@@ -9,7 +9,7 @@ use Rattle.causes.specs.declared.stored.Stored.{Stored}
 use Rattle.causes.specs.declared.stored.Stored.TheVariants as stored
 use Rattle.dmpaft_driver.specs.Attempt.{End}
 use Rattle.dmpaft_driver.specs.Exact.{AllDone, end_of}
-use Rattle.dmpaft_driver.specs.Keeper.{Handed, one_batch, kept_all, join, last_kept}
+use Rattle.dmpaft_driver.specs.Keeper.{Handed, kept_all, join, last_kept}
 use Rattle.dmpaft_driver.specs.Pump.{State, Hearing, Keeping, Over, Settling, begun, pump_from, answered_by, batch_of}
 use Rattle.dmpaft_driver.specs.Shown.{Shows, end_at}
 use Rattle.dmpaft_driver.specs.Standing.{handed, gives}

@@ -1,19 +1,13 @@
 -- The numbers in the bytes of a packet are the packet's.
-use Rattle.std.proofs.Common.{◌≡◌, ℕ, ◌+◌, ◌*◌, ◌/◌, ◌%◌, ◌<◌, drop, refl, ap, ◌∙◌, arith}
-use Rattle.std.specs.Prelude.{ℤ, pos, negsuc, FitsSigned}
+use Rattle.std.proofs.Common.{◌≡◌, ◌<◌, drop, refl, ap, ◌∙◌}
+use Rattle.std.specs.Prelude.{FitsSigned}
 use Rattle.std.specs.Int.{w16, cast_signed, cast_unsigned}
 use Rattle.std.proofs.lemmas.Int.{to_z-of_z}
 use Rattle.loop_packet.specs.declared.packet.LoopPacket.{LoopPacket}
 use Rattle.loop_packet.specs.Part.{byte_in, signed_word_in, word_in, signed_byte_of, signed_word_of, word_of}
 use Rattle.loop_packet.specs.Reading.{packet_bytes, frame_of}
+use Rattle.loop_packet.proofs.InOrder.{word_bits, two_read}
 use Rattle.task_command.specs.TaskText.{numbers_line, packet_line}
-
-word_bits : (z : ℤ) → FitsSigned w16 z → cast_unsigned w16 z < 65536
-word_bits (pos n) fits = let small : n < 32768 = fits.sfits in omega arith
-word_bits (negsuc n) fits = omega arith
-
-two_read : (n : ℕ) → n < 65536 → n % 256 + n / 256 % 256 * 256 ≡ n
-two_read n small = omega arith
 
 barometer_shown : (p : LoopPacket) → p.barometer < 65536 → word_in (drop 7 (packet_bytes p)) ≡ p.barometer
 unfolding word_in packet_bytes frame_of word_of signed_byte_of

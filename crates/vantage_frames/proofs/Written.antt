@@ -6,6 +6,7 @@ use Rattle.std.specs.Fmt.{decimal, digit_glyph}
 use Rattle.std.proofs.lemmas.Bool.{ltb-true}
 use Rattle.std.proofs.lemmas.Fmt.{decimal_is_IsNumeral, length-decimal-le, first_decimal}
 use Rattle.station_base.specs.Period.{IsPeriod}
+use Rattle.station_base.proofs.Periods.{period_bound}
 use Rattle.vantage_frames.specs.declared.command.Command.{Command}
 use Rattle.numerals.specs.Numeral.{Writes}
 use Rattle.vantage_frames.specs.Line.{IsLineOf, SaysPackets, SaysBytes, SaysPeriod}
@@ -73,16 +74,13 @@ pub packets_written : (packets : ℕ) → 1 ≤ packets → packets ≤ 9999 →
 packets_written packets some few = record { number = decimal_writes 4 packets (lit< tt) (omega arith) (omega arith); some = some }
 
 -- the periods are 1 to 120 minutes
-period_most : (minutes : ℕ) → IsPeriod minutes → minutes ≤ 120
-period_most minutes period = grind arith
-
 period_some : (minutes : ℕ) → IsPeriod minutes → 0 < minutes
 period_some minutes period = grind arith
 
 -- and a period
 pub period_written : (minutes : ℕ) → IsPeriod minutes → SaysPeriod (decimal minutes) minutes
 period_written minutes period =
-    let few : minutes ≤ 120 = period_most minutes period in
+    let few : minutes ≤ 120 = period_bound minutes period in
     let some : 0 < minutes = period_some minutes period in
     record {
       number = decimal_writes 3 minutes (lit< tt) (omega arith) (omega arith);

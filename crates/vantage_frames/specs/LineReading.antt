@@ -1,6 +1,6 @@
 -- The command that a line is read as.
 use Rattle.std.specs.Prelude.{ℕ, ◌+◌, ◌==◌, Bool, nat_le, nat_lt, ◌&&◌, not, if◌then◌else◌, Some, None, List, [], ◌∷◌}
-use Rattle.std.specs.Prelude.{◌++◌, codes, length, take, drop, slice_index, option_map, option_and_then, position}
+use Rattle.std.specs.Prelude.{◌++◌, codes, length, take, drop, slice_index, option_map, position}
 use Rattle.std.specs.declared.option.Option.{Option}
 use Rattle.std.specs.Str.{bytes_eq}
 use Rattle.std.specs.Option.{option_or}

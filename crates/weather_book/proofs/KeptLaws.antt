@@ -1,7 +1,7 @@
 -- What a book keeps, one row more.
 use Rattle.std.proofs.Common.{◌≡◌, ◌⊎◌, inl, inr, ℕ, suc, ◌+◌, ◌-◌, ◌*◌, ◌≤◌, ◌<◌, Bool, true, false, List, [], ◌∷◌, ◌++◌, length, Option, Some, None, refl, sym, ◌∙◌, ap, subst, arith, append-nil, length-append}
 use Rattle.std.specs.Prelude.{ℤ, not, ◌||◌, ◌==◌}
-use Rattle.std.proofs.lemmas.Bool.{eqb-true}
+use Rattle.std.proofs.lemmas.Bool.{eqb-true, or_parts}
 use Rattle.station_base.specs.declared.row.Row.{Row}
 use Rattle.station_base.specs.CivilMinute.{CivilMinute, archive_day_of}
 use Rattle.station_base.specs.DayText.{IsDayNumber}
@@ -84,14 +84,6 @@ or_cases : (a b : Bool) → (a || b) ≡ true → (a ≡ true) ⊎ (b ≡ true)
 or_cases true b e = inl refl
 or_cases false b e = inr e
 
-or_left : (a b : Bool) → (a || b) ≡ false → a ≡ false
-or_left true b e = absurd cc
-or_left false b e = refl
-
-or_right : (a b : Bool) → (a || b) ≡ false → b ≡ false
-or_right true b e = absurd cc
-or_right false b e = e
-
 empty : (rows : List Row) → 0 ≡ length rows → rows ≡ []
 empty [] e = refl
 empty (x ∷ rows) e = absurd (omega arith)
@@ -148,7 +140,7 @@ keeps_more entries count tail new rows row more test keeps back ends is one none
         ∙ sym (entries_more rows row (first (or_cases (begins_day tail.last row.stamp) (count == 0) (sym is ∙ e))))
     days false e =
         none e ∙ keeps.days
-        ∙ sym (entries_same rows row (some_rows rows count (or_right (begins_day tail.last row.stamp) (count == 0) (sym is ∙ e)) keeps.count_is) (begins false (or_left (begins_day tail.last row.stamp) (count == 0) (sym is ∙ e))))
+        ∙ sym (entries_same rows row (some_rows rows count (or_parts (begins_day tail.last row.stamp) (count == 0) (sym is ∙ e)).1 keeps.count_is) (begins false (or_parts (begins_day tail.last row.stamp) (count == 0) (sym is ∙ e)).0))
 
 length_with : (b : Bool) (e : DayEntry) (day : ℤ) (xs : List DayEntry) (ds : List ℤ) → length xs ≡ length ds → length (with_entry b e xs) ≡ length (with_day b day ds)
 length_with true e day xs ds same = same

@@ -4,7 +4,7 @@ use Rattle.std.specs.Prelude.{ℤ, pos, ◌&&◌, nat_lt, nat_eq, not, filter, i
 use Rattle.std.specs.Ordering.{int_eq}
 use Rattle.std.proofs.lemmas.Bool.Decides.{nat_tests}
 use Rattle.std.proofs.lemmas.List.Elements.{filter-append}
-use Rattle.std.proofs.lemmas.Bool.{and_parts}
+use Rattle.std.proofs.lemmas.Bool.{and_parts, ltb-true}
 use Rattle.station_base.specs.declared.row.Row.{Row}
 use Rattle.station_base.specs.CivilMinute.{CivilMinute, minute_of, archive_day_of}
 use Rattle.daily_summary.specs.declared.summary.DaySummary.{DaySummary}
@@ -149,11 +149,8 @@ into_step : (o : Option CivilMinute) (stamp : CivilMinute) (n : ℕ) → exceeds
 into_step None stamp n rises out some le = omega arith
 into_step (Some s) stamp n rises out some le =
     let e : archive_day_of s ≡ archive_day_of stamp = same_nat _ _ out in
-    let lt : minute_of s < minute_of stamp = lt_of (minute_of s) (minute_of stamp) rises in
+    let lt : minute_of s < minute_of stamp = ltb-true (minute_of s) (minute_of stamp) rises in
     let f = into_same (minute_of s) (minute_of stamp) lt e in omega (arith, f)
-  where
-    lt_of : (m n : ℕ) → nat_lt m n ≡ true → m < n
-    lt_of m n e = grind (arith, nat_tests)
 
 pub few_more : (last : Option CivilMinute) (running before after : DaySummary) (row : Row) → exceeds last row.stamp ≡ true → running.rows ≤ minutes_into last → 1 ≤ minutes_into (Some row.stamp) →
     (begins_day last row.stamp ≡ false → before ≡ running) → (begins_day last row.stamp ≡ true → before ≡ summary_of []) → after.rows ≡ before.rows + 1 → after.rows ≤ minutes_into (Some row.stamp)
