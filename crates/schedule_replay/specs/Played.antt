@@ -22,7 +22,7 @@ use Rattle.station_replay.specs.Keeping.{Archive}
 use Rattle.station_replay.specs.Schedule.{Stop}
 use Rattle.station_replay.specs.Replay.{Item, Rounded, Stage, IsRound, IsBroken, is_stop}
 use Rattle.station_replay.specs.Room.{AreFew}
-use Rattle.station_replay.specs.Session.{EndsAs, handed}
+use Rattle.station_replay.specs.Session.{EndsAs, given_in}
 use Rattle.station_replay.specs.Texts.{tried_of}
 use Rattle.schedule_replay.specs.declared.playing.Played.{Played}
 use Rattle.schedule_replay.specs.Opening.{limits_of}
@@ -37,9 +37,9 @@ Host = RoundHost Sim (Stopping MemDisk)
 abbrev pub IsCounted : ℕ → StationSettings → Fates → Stage → Type 0
 IsCounted records settings f s =
     (v : Line) (ts : List Tried) (end : RoundEnd) → Attempts 0 (last_stamp s.archive.rows) ts end
-    → Fit settings.most (length s.archive.rows) (handed s.archive ts) → ConsoleTalk f (all_said ts) (started s.line) v
+    → Fit settings.most (length s.archive.rows) (given_in s.archive ts) → ConsoleTalk f (all_said ts) (started s.line) v
     → end ≢ round_end.LinkFault → end ≢ round_end.OutOfMemory → end ≢ round_end.Stale → v.unseen ≡ None
-    → (end ≢ round_end.Flood) × AreFew records s.archive.rows (handed s.archive ts)
+    → (end ≢ round_end.Flood) × AreFew records s.archive.rows (given_in s.archive ts)
 
 -- A session, a line and a disk stand where a run of so many records stands before a round, so many openings made.
 pub record MayPlay (records : ℕ) (settings : StationSettings) (f : Fates) (openings : ℕ) (s : Stage) (host : Host)

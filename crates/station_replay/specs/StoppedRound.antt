@@ -9,7 +9,7 @@ use Rattle.station_session.specs.declared.report.Mark.{Mark}
 use Rattle.station_session.specs.Attempts.{Tried}
 use Rattle.station_session.specs.Holding.{Stores, holding}
 use Rattle.station_replay.specs.Keeping.{Archive}
-use Rattle.station_replay.specs.Session.{handed}
+use Rattle.station_replay.specs.Session.{given_in}
 
 -- The attempts of a round, and two books: the batches were stored from the one on the one disk to the other on the
 -- other.
@@ -18,4 +18,4 @@ pub record RoundOn (settings : StationSettings) (a : Archive) (ts : List Tried) 
   pub book : Book
   pub next : Book
   pub marks : List Mark
-  pub stores : Stores stopping_medium settings a.rows (handed a ts) (holding book old []) (holding next new marks)
+  pub stores : Stores stopping_medium settings a.rows (given_in a ts) (holding book old []) (holding next new marks)
