@@ -10,7 +10,7 @@ use Rattle.disk_model.specs.declared.disk.Disked.TheVariants.{Done}
 use Rattle.gated_log.specs.Calls.{up_to}
 use Rattle.station_base.specs.declared.row.Row.{Row}
 use Rattle.archive_copy.proofs.Changes.{are_for, are_take, up_done, up_failed}
-use Rattle.archive_copy.specs.Calls.{AddsBatches, AreBatches, batch_changes, changes_for, last_answer, rows_in}
+use Rattle.archive_copy.specs.Calls.{AddsBatches, AreBatches, batch_changes, changes_for, failed_answer, rows_in}
 
 -- each of them has five rows
 abbrev pub AreFull : List (List Row) → Type 0
@@ -98,7 +98,7 @@ module _ {D : Type 0} (medium : Medium D) (mine : List Row) (d : D) where
 
   -- where one batch more failed
   pub fails_one : (are more : List Row → Type 0) (going : Type 0) (e f : D) (b : List Row) (so : AddedSo are going e) → going → 1 ≤ length b → length b ≤ 5
-      → medium.moment e < medium.moment f → medium.went e (up_to (take (medium.moment f - medium.moment e) (batch_changes (mine ++ rows_in so.so_far) b)) (last_answer true)) f
+      → medium.moment e < medium.moment f → medium.went e (up_to (take (medium.moment f - medium.moment e) (batch_changes (mine ++ rows_in so.so_far) b)) (failed_answer true)) f
       → (are (rows_in so.so_far) → more (rows_in so.so_far ++ b)) → AddsBatches medium mine true more d f
   fails_one are more going e f b so is_open some few later went on =
       let bs = so.so_far in let four = batch_changes (mine ++ rows_in so.so_far) b in let n = medium.moment f - medium.moment e in
@@ -108,14 +108,14 @@ module _ {D : Type 0} (medium : Medium D) (mine : List Row) (d : D) where
       ap (λ (cs : List (Disked → DiskCall)). take (medium.moment f - medium.moment d) cs) (changes_join mine bs b)
       ∙ ap (λ (k : ℕ). take k (changes_for mine so.so_far ++ batch_changes (mine ++ rows_in so.so_far) b)) place
       ∙ take-append-add (changes_for mine bs) four n in
-      let same = up_to_join (changes_for mine bs) (take n four) (last_answer true) (omega (arith, length-take n four, later))
+      let same = up_to_join (changes_for mine bs) (take n four) (failed_answer true) (omega (arith, length-take n four, later))
       in
       record {
         batches = bs ++ b ∷ [];
         sizes = full_then bs b (so.full is_open) some few;
         begun = omega (arith, so.moved, later);
-        by = subst (λ (cs : List DiskCall). medium.went d cs f) (sym same ∙ ap (λ (cs : List (Disked → DiskCall)). up_to cs (last_answer true)) (sym parts))
-            (medium.went_joins d e f (up_to (changes_for mine bs) Done) (up_to (take n four) (last_answer true)) so.by went);
+        by = subst (λ (cs : List DiskCall). medium.went d cs f) (sym same ∙ ap (λ (cs : List (Disked → DiskCall)). up_to cs (failed_answer true)) (sym parts))
+            (medium.went_joins d e f (up_to (changes_for mine bs) Done) (up_to (take n four) (failed_answer true)) so.by went);
         fails = up_failed (take (medium.moment f - medium.moment d) (changes_for mine (bs ++ b ∷ [])))
             (omega (arith, ap length parts, length-append (changes_for mine bs) (take n four), length-take n four, later))
             (are_take (medium.moment f - medium.moment d) (changes_for mine (bs ++ b ∷ [])) (are_for mine (bs ++ b ∷ [])));

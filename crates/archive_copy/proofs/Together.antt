@@ -12,7 +12,7 @@ use Rattle.weather_book.specs.declared.book.Book.{Book}
 use Rattle.weather_book.specs.Book.{StandsFor, slots_of_book}
 use Rattle.weather_book.specs.Rows.{slot_total}
 use Rattle.weather_book.proofs.KeptLaws.{total_kept}
-use Rattle.archive_copy.specs.Calls.{AddsBatches, changes_for, last_answer, OnlyReads, rows_in, slots_end, ToCalls}
+use Rattle.archive_copy.specs.Calls.{AddsBatches, changes_for, failed_answer, OnlyReads, rows_in, slots_end, ToCalls}
 use Rattle.archive_copy.proofs.Changes.{are_for, are_take, changes_join, fit_more, fits_join, up_fits, up_kept}
 
 -- a book has as many slots as its rows take
@@ -54,7 +54,7 @@ module _ {D : Type 0} (medium : Medium D) (d : D) where
     batches = [];
     sizes = tt;
     begun = omega arith;
-    changes_are = sym (none_added _ [] (last_answer false));
+    changes_are = sym (none_added _ [] (failed_answer false));
     rows_are = λ some. absurd (omega arith);
     fits = tt;
     fails = refl;
@@ -74,7 +74,7 @@ module _ {D : Type 0} (medium : Medium D) (d : D) where
     begun = omega (arith, le);
     changes_are = calls.changes_are
         ∙ sym (append-nil (up_to (take (medium.moment e - medium.moment d) recovery_changes) calls.answer))
-        ∙ ap (λ (xs : List DiskCall). up_to (take (medium.moment e - medium.moment d) recovery_changes) calls.answer ++ xs) (sym (none_added _ [] (last_answer failed)));
+        ∙ ap (λ (xs : List DiskCall). up_to (take (medium.moment e - medium.moment d) recovery_changes) calls.answer ++ xs) (sym (none_added _ [] (failed_answer failed)));
     rows_are = λ some. absurd (omega arith);
     fits = calls.fits;
     fails = calls.fails;
@@ -94,7 +94,7 @@ module _ {D : Type 0} (medium : Medium D) (d : D) where
     changes_are = changes_join calls.calls looked.calls
         ∙ ap (λ (xs : List DiskCall). xs ++ changes looked.calls) calls.changes_are
         ∙ ap (λ (xs : List DiskCall). up_to (take (medium.moment e - medium.moment d) recovery_changes) calls.answer ++ xs)
-        (no_changes (slots_end slots) looked.calls looked.within ∙ sym (none_added _ [] (last_answer failed)));
+        (no_changes (slots_end slots) looked.calls looked.within ∙ sym (none_added _ [] (failed_answer failed)));
     rows_are = λ some. absurd (omega arith);
     fits = fits_join 0 calls.calls looked.calls calls.fits (fit_more (slots_end slots) (last_length 0 calls.calls) looked.calls (reach slots (last_length 0 calls.calls) calls.reach) looked.within);
     fails = any_join calls.calls looked.calls ∙ ap (λ (t : Bool). t || any_failed looked.calls) calls.fails ∙ looked.fails;
@@ -106,7 +106,7 @@ module _ {D : Type 0} (medium : Medium D) (d : D) where
       → AddsBatches medium mine failed next f g → ((rows : List Row) → next rows → are mine rows) → ToCalls medium failed are d g
   calls_added mine are next e f g slots failed le same calls looked adds on =
       let n = medium.moment g - medium.moment f in let cs = take (medium.moment g - medium.moment f) (changes_for mine adds.batches) in
-      let ups = up_to (take (medium.moment g - medium.moment f) (changes_for mine adds.batches)) (last_answer failed) in
+      let ups = up_to (take (medium.moment g - medium.moment f) (changes_for mine adds.batches)) (failed_answer failed) in
       let ok = are_take n (changes_for mine adds.batches) (are_for mine adds.batches) in
       let place : medium.moment g - medium.moment f ≡ medium.moment g - (medium.moment d + (medium.moment e - medium.moment d)) = omega (arith, le, same, adds.begun) in
       record {
@@ -122,12 +122,12 @@ module _ {D : Type 0} (medium : Medium D) (d : D) where
             ∙ ap (λ (xs : List DiskCall). xs ++ changes (looked.calls ++ ups)) calls.changes_are
             ∙ ap (λ (xs : List DiskCall). up_to (take (medium.moment e - medium.moment d) recovery_changes) calls.answer ++ xs)
             (changes_join looked.calls ups ∙ ap (λ (xs : List DiskCall). xs ++ changes ups) (no_changes (slots_end slots) looked.calls looked.within)
-            ∙ up_kept cs (last_answer failed) ok ∙ ap (λ (k : ℕ). up_to (take k (changes_for mine adds.batches)) (last_answer failed)) place);
+            ∙ up_kept cs (failed_answer failed) ok ∙ ap (λ (k : ℕ). up_to (take k (changes_for mine adds.batches)) (failed_answer failed)) place);
         rows_are = λ some. on (rows_in adds.batches) adds.rows_are;
         fits = fits_join 0 calls.calls (looked.calls ++ ups) calls.fits
             (fits_join (last_length 0 calls.calls) looked.calls ups
             (fit_more (slots_end slots) (last_length 0 calls.calls) looked.calls (reach slots (last_length 0 calls.calls) calls.reach) looked.within)
-            (up_fits cs (last_answer failed) (last_length (last_length 0 calls.calls) looked.calls) ok));
+            (up_fits cs (failed_answer failed) (last_length (last_length 0 calls.calls) looked.calls) ok));
         fails = any_join calls.calls (looked.calls ++ ups) ∙ ap (λ (t : Bool). t || any_failed (looked.calls ++ ups)) calls.fails
             ∙ any_join looked.calls ups ∙ ap (λ (t : Bool). t || any_failed ups) looked.fails ∙ adds.fails;
       }

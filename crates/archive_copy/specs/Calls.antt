@@ -73,9 +73,9 @@ pub record OnlyReads {D : Type 0} (medium : Medium D) (failed : Bool) (old new :
   pub fails : any_failed calls ≡ failed
 
 -- how the last of some changes was answered, where one of them failed or none did
-abbrev pub last_answer : Bool → Disked
-last_answer true = Failed
-last_answer false = Done
+abbrev pub failed_answer : Bool → Disked
+failed_answer true = Failed
+failed_answer false = Done
 
 -- a call failed as a batch was added
 abbrev pub add_failed : BatchEnd → Bool
@@ -110,9 +110,9 @@ pub record AddsBatches {D : Type 0} (medium : Medium D) (mine : List Row) (faile
   pub sizes : AreBatches batches
   pub begun : medium.moment old ≤ medium.moment new
   pub by : medium.went old
-      (up_to (take (medium.moment new - medium.moment old) (changes_for mine batches)) (last_answer failed)) new
+      (up_to (take (medium.moment new - medium.moment old) (changes_for mine batches)) (failed_answer failed)) new
   pub fails : any_failed
-      (up_to (take (medium.moment new - medium.moment old) (changes_for mine batches)) (last_answer failed)) ≡ failed
+      (up_to (take (medium.moment new - medium.moment old) (changes_for mine batches)) (failed_answer failed)) ≡ failed
   pub rows_are : are (rows_in batches)
 
 -- The calls on the disk to copy to. The changes are those of a recovery, and then those for batches behind the rows
@@ -129,7 +129,7 @@ pub record ToCalls {D : Type 0} (medium : Medium D) (failed : Bool) (are : List 
   pub sizes : AreBatches batches
   pub begun : medium.moment old + opening ≤ medium.moment new
   pub changes_are : changes calls ≡ up_to (take opening recovery_changes) opened ++ up_to
-      (take (medium.moment new - (medium.moment old + opening)) (changes_for mine batches)) (last_answer failed)
+      (take (medium.moment new - (medium.moment old + opening)) (changes_for mine batches)) (failed_answer failed)
   pub rows_are : 0 < length batches → are mine (rows_in batches)
   pub fits : reads_fit 0 calls
   pub fails : any_failed calls ≡ failed

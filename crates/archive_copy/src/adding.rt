@@ -10,7 +10,7 @@ ghost use Rattle.weather_book.specs.Rows.{slot_total};
 ghost use Rattle.weather_book.specs.Rising.{RowsRise};
 ghost use Rattle.weather_book.specs.Stands.{StandsOn, StandsToReadOn};
 ghost use Rattle.archive_copy.specs.Adding.{HasOldOrAll, HasSome, IsOfAdding, MovedBy, batches};
-ghost use Rattle.archive_copy.specs.Calls.{AddsBatches, add_failed, batch_changes, is_from_fault, is_to_fault, last_answer, slots_end};
+ghost use Rattle.archive_copy.specs.Calls.{AddsBatches, add_failed, batch_changes, is_from_fault, is_to_fault, failed_answer, slots_end};
 
 use crate::CopyEnd;
 use crate::batch::{BatchRead, next_batch};
@@ -45,7 +45,7 @@ pub fn add_batch<E: Disk>(mine: &mut Book, to: &mut E, rows: &[Row]) -> BatchEnd
     ensures moved { MovedBy result (E.medium.moment to.old) (E.medium.moment to.new) }
     ensures went { (old : List Row) → StandsFor mine.old old
         → E.medium.went to.old (up_to (take (E.medium.moment to.new - E.medium.moment to.old) (batch_changes old rows.now))
-        (last_answer (add_failed result))) to.new }
+        (failed_answer (add_failed result))) to.new }
     ensures rows { result ≡ BatchEnd.Done → (old : List Row) → StandsFor mine.old old → StandsFor mine.new (old ++ rows.now) }
     ensures fresh { result ≡ BatchEnd.Done → is_stale mine.new ≡ false }
     ensures most { result ≡ BatchEnd.Done → most_of mine.new ≡ most_of mine.old }
