@@ -3,8 +3,8 @@
 
     tools/cited_laws.py
 
-A crate lists the laws that the crates above may cite in the part "Laws for the crates above" of its README. The status
-is 0 where each law that is cited is listed, else 1.
+A crate lists the laws that the crates above may cite in the part "Laws for the crates above" of its README. A law is
+listed where its name stands there, whatever its module. The status is 0 where each law that is cited is listed, else 1.
 """
 import re
 import sys

@@ -1,6 +1,7 @@
 """The host: it wakes the console, asks for a dump, and takes its pages."""
 
 from dataclasses import dataclass
+from math import inf
 
 from .console import ACK, CR, LF, NAK
 from .line import WAIT
@@ -13,10 +14,10 @@ MOST_PAGES = 513
 HEADER_BYTES = 7  # an acknowledgement, two numbers and a check
 
 
-def settle(line, waits):
-    """Listens until so many quiet waits came in a row; gives what was heard."""
+def listen(line, waits, size=inf):
+    """Listens until so many quiet waits came in a row, or so many bytes; gives what was heard."""
     heard, quiet = bytearray(), 0
-    while quiet < waits:
+    while quiet < waits and len(heard) < size:
         byte = line.receive()
         if byte is WAIT:
             quiet += 1
@@ -29,22 +30,14 @@ def settle(line, waits):
 def ask(line, message, size):
     """Sends a message; gives so many bytes of answer, or fewer where the line falls quiet."""
     line.send(message)
-    answer, quiet = bytearray(), 0
-    while len(answer) < size and quiet < EXCHANGE_WAITS:
-        byte = line.receive()
-        if byte is WAIT:
-            quiet += 1
-        else:
-            answer.append(byte)
-            quiet = 0
-    return bytes(answer)
+    return listen(line, EXCHANGE_WAITS, size)
 
 
 def wake(line):
     """Whether the console answers a line's end within a few tries."""
     for _ in range(WAKE_TRIES):
         line.send(bytes([LF]))
-        if settle(line, EXCHANGE_WAITS).endswith(bytes([LF, CR])):
+        if listen(line, EXCHANGE_WAITS).endswith(bytes([LF, CR])):
             return True
     return False
 
@@ -76,7 +69,7 @@ def ask_page(line, number):
     message = ACK
     for asking in range(ASKINGS):
         if asking > 0:
-            settle(line, SETTLING_WAITS)
+            listen(line, SETTLING_WAITS)
         answer = ask(line, bytes([message]), PAGE_BYTES)
         if len(answer) < PAGE_BYTES or check(answer) != 0:
             message = NAK
@@ -106,7 +99,7 @@ def batch_of(page, place, newest, tally):
 
 def dump(line, newest, keep, tally):
     """One attempt to fetch all records after the newest stamp, page by page."""
-    settle(line, SETTLING_WAITS)
+    listen(line, SETTLING_WAITS)
     if not wake(line) or ask(line, b"DMPAFT\n", 1) != bytes([ACK]):
         raise Failed
     pages, place = read_header(ask(line, sealed(stamp_bytes(newest)), HEADER_BYTES))
