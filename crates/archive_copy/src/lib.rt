@@ -12,6 +12,3 @@ mod reader;
 
 pub use copying::copy;
 pub use end::CopyEnd;
-
-#[cfg(test)]
-mod tests;

@@ -12,6 +12,3 @@ pub use place::RECORD_SIZE;
 pub use record::Rec52;
 pub use record_read::{RecordRead, read};
 pub use record_write::write;
-
-#[cfg(test)]
-mod tests;

@@ -16,6 +16,3 @@ pub use laws::{newer_records_are_the_last, pages_tell_their_number, slots_show_t
 pub use plan::Plan;
 pub use put::RingPut;
 pub use ring::Ring;
-
-#[cfg(test)]
-mod tests;

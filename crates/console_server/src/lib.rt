@@ -4,8 +4,6 @@
 mod readying;
 mod run;
 mod serving;
-#[cfg(test)]
-mod tests;
 
 pub use readying::make_ready;
 pub use serving::{ServeEnd, Served, serve};

@@ -11,8 +11,6 @@ mod memory;
 mod packets;
 mod period;
 mod start;
-#[cfg(test)]
-mod tests;
 mod time;
 
 pub use end::TaskEnd;

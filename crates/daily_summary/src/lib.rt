@@ -12,6 +12,3 @@ pub use field_sum::FieldSum;
 pub use laws::{first_extremes, measured_rows};
 pub use parts::{PART_COUNT, PART_SIZE, PARTS_SIZE};
 pub use summary::DaySummary;
-
-#[cfg(test)]
-mod tests;

@@ -3,8 +3,6 @@
 
 mod eeprom;
 mod rain;
-#[cfg(test)]
-mod tests;
 
 pub use eeprom::{EEPROM_SIZE, ELEVATION, Eeprom, LATITUDE, LONGITUDE, PERIOD, SETUP};
 pub use rain::RainUnit;

@@ -5,8 +5,6 @@ mod fault;
 mod packet;
 mod places;
 mod reading;
-#[cfg(test)]
-mod tests;
 mod writing;
 
 pub use fault::LoopFault;

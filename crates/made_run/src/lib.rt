@@ -8,7 +8,4 @@ mod round;
 mod schedule;
 
 pub use making::{MakeEnd, make};
-pub use schedule::MOST_MADE;
-
-#[cfg(test)]
-mod tests;
+pub use schedule::{MOST_MADE, made_schedule};

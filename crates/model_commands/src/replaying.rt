@@ -141,6 +141,3 @@ fn replay_anew<K: Sink>(
         ReplayEnd::OutOfMemory => Status::OutOfMemory,
     }
 }
-
-#[cfg(test)]
-mod tests;

@@ -3,8 +3,6 @@
 
 mod numeral;
 mod pairs;
-#[cfg(test)]
-mod tests;
 
 pub use numeral::{DECIMAL, HEXADECIMAL, MOST_DIGITS, read_number, read_within};
 pub use pairs::read_pairs;

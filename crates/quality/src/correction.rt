@@ -130,6 +130,3 @@ fn is_kept(limits: Limits, value: i32) -> bool
     limits.least.is_none_or(|least| least <= value)
         && limits.greatest.is_none_or(|greatest| value <= greatest)
 }
-
-#[cfg(test)]
-mod tests;

@@ -10,6 +10,3 @@ pub use layout::ROW_SIZE;
 pub use reading::read;
 pub use values::limited_in;
 pub use writing::write;
-
-#[cfg(test)]
-mod tests;

@@ -26,10 +26,3 @@ pub use round_line::{RoundEnding, RoundLine};
 pub use schedule_laws::{accepted, accepted_schedules, records_known, what_a_run_is};
 pub use teller::Teller;
 pub use turns::{ReplayRun, ReplayTurn};
-
-#[cfg(test)]
-mod failing_tests;
-#[cfg(test)]
-mod opening_tests;
-#[cfg(test)]
-mod turn_tests;

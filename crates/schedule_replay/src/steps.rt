@@ -7,9 +7,6 @@ ghost use Rattle.station_sim.specs.Line.{Line, waited};
 ghost use Rattle.station_sim.specs.Lists.{fates_of};
 ghost use Rattle.station_sim.specs.Standing.{StandsFor};
 
-#[cfg(test)]
-mod tests;
-
 use archive_record::Rec52;
 use causes::OutOfMemory;
 use serial_link::Sent;

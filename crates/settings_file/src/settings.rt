@@ -173,8 +173,3 @@ fn period(value: &Value) -> Result<Period, SettingsFault>
         None => Err(SettingsFault::BadPeriod),
     }
 }
-
-#[cfg(test)]
-mod change_tests;
-#[cfg(test)]
-mod tests;

@@ -23,6 +23,3 @@ pub use period::Period;
 pub use row::{LINE_ROOM, Row};
 pub use stamp::Stamp;
 pub use text::{push_bytes, push_number, push_signed};
-
-#[cfg(test)]
-mod tests;

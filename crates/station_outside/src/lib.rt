@@ -12,10 +12,7 @@ mod tcp_link;
 pub use file_disk::FileDisk;
 pub use open_files::OpenFiles;
 pub use outcome::{Outcome, understand};
-pub use std_files::StdFiles;
-pub use std_sink::StdSink;
+pub use std_files::{StdFiles, read_front};
+pub use std_sink::{StdSink, write_whole};
 pub use streams::hold_standard_streams;
 pub use tcp_link::TcpLink;
-
-#[cfg(test)]
-mod tests;

@@ -57,8 +57,8 @@ pub(crate) fn read_opened<F: Read + Drop>(
     }
 }
 
-// Reads to the end, or as much as a file may have. A read that a signal interrupted is made again.
-pub(crate) fn read_front<F: Read>(alloc: Global, file: &mut F, into: &mut Vec<u8>) -> TextRead
+/// Reads to the end, or as much as a file may have. A read that a signal interrupted is made again.
+pub fn read_front<F: Read>(alloc: Global, file: &mut F, into: &mut Vec<u8>) -> TextRead
     requires { into.old.items ≡ [] }
     ensures gives { WhereTold (F.remaining file.old) (λ bytes. Gives bytes result into.new.items) }
     ensures within { length into.new.items ≤ most_bytes }

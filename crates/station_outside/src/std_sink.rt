@@ -34,9 +34,9 @@ impl<R: Print> Sink for StdSink<'_, R> {
     }
 }
 
-// Writes all of the bytes, by as many writes as that takes. A write that a signal interrupted is made
-// again. Where a write fails, or takes no byte, a front has been written.
-pub(crate) fn write_whole<W: Write>(writer: &mut W, bytes: &[u8]) -> Put
+/// Writes all of the bytes, by as many writes as that takes. A write that a signal interrupted is made
+/// again. Where a write fails, or takes no byte, a front has been written.
+pub fn write_whole<W: Write>(writer: &mut W, bytes: &[u8]) -> Put
     ensures done { result ≡ Put.Done → Appends (W.contents writer.old) (W.contents writer.new) bytes.now }
     ensures failed { result ≡ Put.Failed → WritesPart (W.contents writer.old) (W.contents writer.new) bytes.now }
 {

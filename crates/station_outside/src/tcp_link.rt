@@ -64,17 +64,6 @@ impl<'a, R> TcpLink<'a, R> {
             }
         }
     }
-
-    // A link with a line.
-    #[cfg(test)]
-    pub(crate) fn of(runtime: &'a R, stream: TcpStream) -> Self {
-        TcpLink {
-            runtime,
-            stream: Some(stream),
-            faults: 0,
-            quiets: 0,
-        }
-    }
 }
 
 impl<R: Net<Stream = TcpStream, Listener = TcpListener> + Clock> Link for TcpLink<'_, R> {
@@ -190,18 +179,11 @@ fn serve<R: Net<Stream = TcpStream, Listener = TcpListener>>(
     rt: &R,
     address: &str,
 ) -> io::Result<TcpStream> {
-    accept(bind(rt, address)?)
-}
-
-pub(crate) fn bind<R: Net<Stream = TcpStream, Listener = TcpListener>>(
-    rt: &R,
-    address: &str,
-) -> io::Result<TcpListener> {
-    TcpListener::bind(rt, address)
+    accept(TcpListener::bind(rt, address)?)
 }
 
 // The first caller. The listener is closed then, so that another is refused.
-pub(crate) fn accept(listener: TcpListener) -> io::Result<TcpStream> {
+fn accept(listener: TcpListener) -> io::Result<TcpStream> {
     let (stream, _) = listener.accept()?;
     ready(stream)
 }

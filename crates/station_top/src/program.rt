@@ -108,22 +108,3 @@ pub fn run<F: Files, K: Sink, L: Link, D: Disk>(
     };
     status as u8
 }
-
-#[cfg(test)]
-mod console_tests;
-#[cfg(test)]
-mod copy_tests;
-#[cfg(test)]
-mod make_tests;
-#[cfg(test)]
-mod replay_tests;
-#[cfg(test)]
-mod report_tests;
-#[cfg(test)]
-mod serving_tests;
-#[cfg(test)]
-mod station_tests;
-#[cfg(test)]
-mod task_tests;
-#[cfg(test)]
-mod tests;

@@ -7,8 +7,6 @@ mod names;
 mod page;
 mod reading;
 mod stamp;
-#[cfg(test)]
-mod tests;
 mod words;
 mod writing;
 

@@ -16,6 +16,3 @@ pub use by_month::month_table;
 pub use by_row::{listing, rows_from};
 pub use end::ReportEnd;
 pub use laws::days_are_recomputed;
-
-#[cfg(test)]
-mod tests;

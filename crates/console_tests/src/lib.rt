@@ -1,0 +1,9 @@
+//! The tests of the console's side, whose crates are proved once, without them.
+#![tactic(auto)]
+
+#[cfg(test)]
+mod console_model_tests;
+#[cfg(test)]
+mod console_ring_tests;
+#[cfg(test)]
+mod console_server_tests;

@@ -1,0 +1,9 @@
+//! The tests of the host's side, whose crates are proved once, without them.
+#![tactic(auto)]
+
+#[cfg(test)]
+mod console_tasks_tests;
+#[cfg(test)]
+mod dmpaft_driver_tests;
+#[cfg(test)]
+mod wake_retry_tests;

@@ -1,0 +1,9 @@
+//! The tests of the outside, in memory and as the system has it. Its crates are proved once, without them.
+#![tactic(auto)]
+
+#[cfg(test)]
+mod disk_model_tests;
+#[cfg(test)]
+mod serial_link_tests;
+#[cfg(test)]
+mod station_outside_tests;

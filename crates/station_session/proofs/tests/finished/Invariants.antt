@@ -1,5 +1,0 @@
-use Rattle.station_session.specs.Fits.{Fits}
-use Rattle.station_session.proofs.tests.finished.Given as goal
-
-abbrev pub invariant-loop : goal.invariant-loop
-invariant-loop g l = Fits l.way.session l.way.round l.way.report

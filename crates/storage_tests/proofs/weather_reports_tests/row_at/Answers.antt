@@ -1,0 +1,14 @@
+use Rattle.std.proofs.Common.{arith, ap, All, sym, subst}
+use Rattle.std.proofs.lemmas.Int.{ints}
+use Rattle.station_base.specs.RowLine.{IsPrintable}
+use Rattle.station_base.specs.declared.row.Row.{Row}
+use Rattle.station_base.proofs.Printable.{printable_blank, printable_set}
+use Rattle.storage_tests.proofs.weather_reports_tests.row_at.Goals as goal
+
+pub returns-clause-printable : goal.returns-clause-printable
+returns-clause-printable g c =
+    let row = subst (λ (r : Row). All IsPrintable r.values) (sym c.default-row.ensures) printable_blank in
+    printable_set c.default-row.result.values 0 _ (omega (arith, ints), omega (arith, ints)) row
+
+pub returns-clause-none : goal.returns-clause-none
+returns-clause-none g c = ap (λ (r : Row). r.limited) c.default-row.ensures

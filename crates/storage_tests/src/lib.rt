@@ -1,0 +1,21 @@
+//! The tests of what is stored. Its crates are proved once, without them.
+#![tactic(auto)]
+
+#[cfg(test)]
+mod archive_copy_tests;
+#[cfg(test)]
+mod daily_summary_tests;
+#[cfg(test)]
+mod gated_log_tests;
+#[cfg(test)]
+mod quality_tests;
+#[cfg(test)]
+mod row_slot_tests;
+#[cfg(test)]
+mod settings_changes_tests;
+#[cfg(test)]
+mod settings_file_tests;
+#[cfg(test)]
+mod weather_book_tests;
+#[cfg(test)]
+mod weather_reports_tests;
