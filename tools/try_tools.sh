@@ -1,6 +1,7 @@
 #!/usr/bin/env bash
 # Tries chart, export and check, the units, and that what is installed is taken away again, on a handful of rows and with a
-# script in the program's place. The last line is 'N passed, M failed', and the status is 1 where any failed.
+# script in the program's place. With one in rt's place it tries that no wrong body passes try_edits.sh unless it was refused.
+# The last line is 'N passed, M failed', and the status is 1 where any failed.
 set -u
 tools=$(cd "$(dirname "$0")" && pwd)
 work=$(mktemp -d)
@@ -152,6 +153,36 @@ if command -v systemd-sysusers >/dev/null; then
 else
     echo 'systemd-sysusers is missing: no user was tried' >&2
 fi
+
+mkdir -p tree/tools tree/crates/a/{more-edits,must-fail,out} tree/crates/b/{more-edits,must-fail} bin
+cp "$tools/try_edits.sh" tree/tools
+printf '%s: causes\n' a b >tree/crates.txt
+: >tree/HANDLES
+: >tree/crates/b/must-fail/of_the_gate.edit
+cat >bin/rt <<'RT'
+#!/bin/sh
+[ "$*" = 'ci a' ] && [ -d .git ] && [ -e HANDLES ] && [ ! -e crates/a/out ] && [ ! -e crates/b/must-fail ] || exit 3
+[ ! -s crates/a/must-fail/x.edit ] || echo "rt: must-fail a/x.edit: $(cat crates/a/must-fail/x.edit)"
+exit "$(cat "$ENDED")"
+RT
+chmod +x bin/rt
+try_edits=(env PATH="$work/bin:$PATH" ENDED="$work/ended" tree/tools/try_edits.sh)
+
+while IFS='|' read -r said ended wanted pattern; do
+    echo "$ended" >ended
+    printf '%s' "$said" >tree/crates/a/more-edits/x.edit
+    expect "a wrong body of which rt says '$said' and ends with $ended" "$wanted" "*$pattern" "${try_edits[@]}" a
+done <<'SAYINGS'
+refused, as it must be|0|0|1 of 1 wrong bodies were refused
+refused, as it must be (only by a limit of the prover)|0|0|1 of 1 wrong bodies were refused
+refused, as it must be (only because a proof file names it)|0|1|a/x.edit: refused*0 of 1 wrong bodies were refused
+NOT REFUSED|1|1|a/x.edit: NOT REFUSED*0 of 1 wrong bodies were refused
+BAD EDIT|0|1|a/x.edit: BAD EDIT*0 of 1 wrong bodies were refused
+|0|1|a/x.edit: NOT TRIED*0 of 1 wrong bodies were refused
+refused, as it must be|1|1|rt ci ended with status 1*1 of 1 wrong bodies were refused
+SAYINGS
+expect 'a crate without wrong bodies' 2 'b has no wrong body in more-edits' "${try_edits[@]}" a b
+expect 'a crate that is none' 2 'c is no crate' "${try_edits[@]}" c
 
 expect 'the schedule of the stormy week' 0 '' cmp <(python3 "$tools/make_week.py") "$tools/../examples/week.schedule"
 
