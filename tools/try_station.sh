@@ -32,6 +32,12 @@ cat >bin/rt <<'RT'
 set -u
 work=$(dirname "$(dirname "$(readlink -f "$0")")")
 name=$(basename "$PWD")
+if [ "$1" = try ]; then
+    echo "$PWD: $*" >"$work/tried"
+    echo 'a row'
+    printf 'checked: ended status=5\nrun=ended status=5 runners=1 proved=no\n' >&2
+    exit 5
+fi
 [ "$(cat out/rlib/stamp 2>/dev/null)" != "$(cat src/lib.rt)" ] || exit 0
 for below in $(sed -n "s/^$name: *//p" ../../crates.txt); do
     [ "$below" = kit ] || [ -e "../$below/out/rlib/stamp" ] || echo "$name lacks $below" >>"$work/notes"
@@ -65,7 +71,7 @@ export PATH=$work/bin:$PATH
 # A tree in which low is below all, left, middle and right stand side by side, and the program does not stand on tests.
 mkdir -p tree/tools tree/.git
 cp "$tools/../station" tree
-cp "$tools"/{build,build_plan,build_rooms,build_runs,crate_list}.py tree/tools
+cp "$tools"/{build,build_plan,build_rooms,build_runs,crate_list,try_unproved}.py tree/tools
 echo 'Handles allowed: none.' >tree/HANDLES
 cat >tree/crates.txt <<'CRATES'
 # a tree
@@ -206,6 +212,16 @@ expect 'the next run goes on' 3 '*the program: pages' tree/station pages
 expect 'each crate was proved once' 0 $'begin left\nbegin top\nbegin station_program' grep begin notes
 expect 'nothing is left of its copies' 1 '' test -e tree/.git/station_build
 
+mkdir examples && : >examples/week.toml && : >week.schedule
+expect 'a try' 5 'station: unproved: *: ./station replay examples/week.toml week.schedule none
+a row' tree/station try replay examples/week.toml week.schedule none
+expect 'what it hands over' 0 "$work/tree/crates/station_program: try * --data 1-week.toml=$work/examples/week.toml \
+--data week.schedule=$work/week.schedule -- replay 1-week.toml week.schedule none" cat tried
+rm tried
+for command in station copy task install; do
+    expect "a try of $command" 64 'station: *; try takes replay, *' tree/station try "$command" a b
+done
+expect 'no try of them' 1 '' test -e tried
 rm bin/rt
 expect 'no toolchain' 70 'station: the toolchain is missing: *' env PATH=/usr/bin:/bin tree/station pages
 
