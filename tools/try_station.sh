@@ -158,6 +158,11 @@ expect 'the longest chain first' 0 'low*1; right*1; left*1; middle*1; top*1; sta
 expect 'four processors' 0 'low*4; right*1 left*1 middle*2; top*4; station_program*4; ' planned 4 9
 expect 'memory for two' 0 'low*3; right*1 left*1; middle*3; top*3; station_program*3; ' planned 4 3
 expect 'little memory' 0 'low*1; right*1; left*1; middle*1; top*1; station_program*1; ' planned 4 1
+expect 'help' 0 'Jofitrana*docs/USING.md*' tree/station help
+expect 'the same without words' 0 '' cmp <(tree/station help) <(tree/station)
+expect 'the lines of it' 0 '' test "$(tree/station --help | wc -l)" -le 40
+expect 'nothing was proved for it' 0 '' cmp notes /dev/null
+
 printf '%s\n' right left middle | head -n "$(nproc)" >together
 expect 'a program that is built first' 3 'station: proves and builds *
 station: 0 min, 0 of 6 crates: proving low
