@@ -1,18 +1,18 @@
+use crate::new_console;
 use archive_record::Rec52;
 use console_model::{Console, Due, Reply, ReplyKind};
-use eeprom_map::Eeprom;
 use loop_packet::LoopPacket;
 use station_base::{Period, Stamp};
 use std::alloc::Global;
 use std::process::Abort;
+use value_tests::record_of;
 
 // The stamp frame that asks for all records.
 const ALL: [u8; 6] = [0; 6];
 
 // A new console with a period of 5 minutes and a blank packet.
 fn console(alloc: Global) -> Option<Console> {
-    let eeprom = Eeprom::new(alloc, Period::from_minutes(5)?).ok()?;
-    Console::new(alloc, eeprom, LoopPacket::blank()).ok()
+    new_console(alloc, Period::from_minutes(5)?, LoopPacket::blank()).ok()
 }
 
 // So many minutes after the first stamp.
@@ -22,11 +22,7 @@ fn stamp_at(minute: u8) -> Option<Stamp> {
 
 // A record of that stamp.
 fn record_at(minute: u8) -> Option<Rec52> {
-    let stamp = stamp_at(minute)?;
-    let mut bytes = *Rec52::default().bytes();
-    bytes[..2].copy_from_slice(&stamp.date_word().to_le_bytes());
-    bytes[2..4].copy_from_slice(&stamp.time_word().to_le_bytes());
-    Rec52::of(bytes)
+    record_of(stamp_at(minute)?)
 }
 
 // The records of these minutes fall due, and this becomes of each.

@@ -1,17 +1,9 @@
-use archive_record::Rec52;
 use console_ring::{Ring, RingPut};
 use station_base::{Period, Stamp};
 use std::alloc::Global;
 use std::process::Abort;
+use value_tests::record_of;
 use vantage_frames::write_header;
-
-// A record of this stamp.
-fn record_of(stamp: Stamp) -> Option<Rec52> {
-    let mut bytes = *Rec52::default().bytes();
-    bytes[..2].copy_from_slice(&stamp.date_word().to_le_bytes());
-    bytes[2..4].copy_from_slice(&stamp.time_word().to_le_bytes());
-    Rec52::of(bytes)
-}
 
 // A ring of so many records, the first of the first stamp.
 fn filled(alloc: Global, count: u16) -> Option<Ring> {

@@ -1,18 +1,12 @@
+use crate::new_console;
 use console_model::{Console, Due};
 use console_server::{ServeEnd, Served, make_ready, serve};
-use eeprom_map::Eeprom;
 use loop_packet::LoopPacket;
 use serial_link::{ScriptItem, ScriptLink, TalkItem};
 use station_base::{Period, Stamp};
 use station_sim::{Schedule, Step};
 use std::alloc::Global;
 use std::test::Fail;
-
-// A new console that writes records at this period.
-fn new_console(alloc: Global, period: Period) -> Result<Console, Fail> {
-    let eeprom = Eeprom::new(alloc, period)?;
-    Ok(Console::new(alloc, eeprom, LoopPacket::blank())?)
-}
 
 // A link that plays bytes, in which `.` is a quiet wait, `!` a receive that fails, and `~` a send that fails.
 fn plays(alloc: Global, script: &[u8]) -> Result<ScriptLink, Fail> {
@@ -44,7 +38,7 @@ fn said(alloc: Global, talk: &[TalkItem]) -> Result<(Vec<u8>, u32), Fail> {
 #[test]
 fn an_empty_line_is_answered_line_feed_and_carriage_return(rt: HostRuntime) -> Result<(), Fail> {
     let five = Period::from_minutes(5).expect(&rt, "a period");
-    let mut console = new_console(rt.alloc(), five)?;
+    let mut console = new_console(rt.alloc(), five, LoopPacket::blank())?;
     let mut link = plays(rt.alloc(), b"\n.")?;
     let mut count = Served { heard: 0, said: 0 };
     assert_eq!(rt;
@@ -82,7 +76,7 @@ fn commands_are_answered_by_the_table_of_the_console(rt: HostRuntime) -> Result<
         (b"DMPAFT\nA...", 4, b"\x06\x21", 2),
     ];
     for (script, turns, bytes, messages) in rows {
-        let mut console = new_console(rt.alloc(), five)?;
+        let mut console = new_console(rt.alloc(), five, LoopPacket::blank())?;
         let mut link = plays(rt.alloc(), script)?;
         let mut count = Served { heard: 0, said: 0 };
         assert_eq!(rt;
@@ -103,7 +97,7 @@ fn a_piece_has_256_bytes_at_most(rt: HostRuntime) -> Result<(), Fail> {
     // Turns, and how many of 300 line feeds are heard.
     let rows = [(1, 256), (2, 300)];
     for (turns, heard) in rows {
-        let mut console = new_console(rt.alloc(), five)?;
+        let mut console = new_console(rt.alloc(), five, LoopPacket::blank())?;
         let mut link = plays(rt.alloc(), &[b'\n'; 300])?;
         let mut count = Served { heard: 0, said: 0 };
         assert_eq!(rt;
@@ -122,7 +116,7 @@ fn a_link_that_fails_ends_the_serving(rt: HostRuntime) -> Result<(), Fail> {
     // What comes, and how many bytes are said before the link fails.
     let rows: [(&[u8], usize); 4] = [(b"!", 0), (b"", 0), (b"\n~", 0), (b".TEST\n.!", 8)];
     for (script, bytes) in rows {
-        let mut console = new_console(rt.alloc(), five)?;
+        let mut console = new_console(rt.alloc(), five, LoopPacket::blank())?;
         let mut link = plays(rt.alloc(), script)?;
         let mut count = Served { heard: 0, said: 0 };
         assert_eq!(rt;
@@ -155,7 +149,7 @@ fn records_before_the_first_round_fall_due(rt: HostRuntime) -> Result<(), Fail> 
     ];
     for (text, newest) in rows {
         let schedule = Schedule::read(rt.alloc(), text, five).expect(&rt, "a schedule");
-        let mut console = new_console(rt.alloc(), five)?;
+        let mut console = new_console(rt.alloc(), five, LoopPacket::blank())?;
         make_ready(&mut console, schedule.steps(), five);
         let Some(Step::Due(rec) | Step::Run { first: rec, .. }) = schedule.steps().first() else {
             panic!(rt; "a record");
@@ -177,7 +171,7 @@ fn a_console_left_alone_for_32_ticks_sleeps(rt: HostRuntime) -> Result<(), Fail>
     ];
     for (text, bytes) in rows {
         let schedule = Schedule::read(rt.alloc(), text, five).expect(&rt, "a schedule");
-        let mut console = new_console(rt.alloc(), five)?;
+        let mut console = new_console(rt.alloc(), five, LoopPacket::blank())?;
         make_ready(&mut console, schedule.steps(), five);
         let mut link = plays(rt.alloc(), b"\n\n")?;
         let mut count = Served { heard: 0, said: 0 };

@@ -7,3 +7,6 @@ mod console_model_tests;
 mod console_ring_tests;
 #[cfg(test)]
 mod console_server_tests;
+mod fixtures;
+
+pub use fixtures::new_console;

@@ -1,93 +1,15 @@
-ghost use Rattle.std.specs.Prelude.{◌≡◌, ◌≤◌};
-ghost use Rattle.station_base.specs.LastStamp.{last_stamp};
-ghost use Rattle.archive_record.specs.Reading.{stamp_in};
-
-use archive_record::{RECORD_SIZE, Rec52};
+use crate::Notes;
 use arrayvec::ArrayVec;
-use dmpaft_driver::{DumpEnd, Keeper, Kept, PumpEnd, Tally, TrialEnd, Trouble, dump, trial};
+use dmpaft_driver::{DumpEnd, Kept, PumpEnd, Tally, TrialEnd, Trouble, dump, trial};
 use serial_link::{ScriptItem, ScriptLink, TalkItem};
 use station_base::Stamp;
 use std::alloc::Global;
 use std::test::Fail;
+use value_tests::page_of_letters;
 use vantage_frames::{PAGE_SIZE, stamp_frame};
 
 // The date word of 2024-07-01, the day of all records: `a` is that of 00:01, `b` that of 00:02, and so on.
 const DAY: u16 = 12_513;
-
-// A date word that names no day.
-const NO_DAY: u16 = 417;
-
-// A keeper that answers alike to each batch, and notes the letters of the records that it keeps.
-#[derive(Drop)]
-struct Notes {
-    answer: Kept,
-    kept: ArrayVec<u8, 32>,
-    last: Option<Stamp>,
-    room: u16,
-}
-
-impl Keeper for Notes {
-    ghost ledger = { record {
-      last = λ k. k.last;
-      room = λ k. k.room;
-      keeps = λ k steps l. Unit {0};
-      keeps_none = λ k. tt;
-      keeps_joins = λ k l m first later one two. tt;
-    } };
-
-    fn keep(&mut self, rows: &[Rec52]) -> Kept {
-        self.room -= 1;
-        match self.answer {
-            Kept::Done => {
-                note(&mut self.kept, rows);
-                self.last = last_of(rows, self.last);
-                Kept::Done
-            }
-            Kept::Full => Kept::Full,
-            Kept::Stale => Kept::Stale,
-            Kept::DiskFault => Kept::DiskFault,
-        }
-    }
-}
-
-// Adds the letters of records, as far as there is room.
-fn note(kept: &mut ArrayVec<u8, 32>, rows: &[Rec52]) {
-    for row in rows {
-        let _ = kept.try_push(row.bytes()[2].wrapping_add(96));
-    }
-}
-
-// The stamp of the last record, or the one before where there is none.
-fn last_of(rows: &[Rec52], before: Option<Stamp>) -> Option<Stamp>
-    ensures { result ≡ last_stamp stamp_in rows.now before }
-{
-    let mut last = before;
-    for row in rows {
-        last = Some(row.stamp());
-    }
-    last
-}
-
-// A page of which each slot holds the record of a letter, nothing for `-`, another revision for `R` and a bad stamp
-// for `B`.
-fn page(sequence: u8, slots: &[u8]) -> [u8; PAGE_SIZE] {
-    let mut page = [0xFF; PAGE_SIZE];
-    page[0] = sequence;
-    for place in 0..5_usize {
-        let letter = slots.get(place).copied().unwrap_or(b'-');
-        let at = 1 + RECORD_SIZE * place;
-        if letter != b'-' {
-            page[at + 42] = if letter == b'R' { 1 } else { 0 };
-            let day = if letter == b'B' { NO_DAY } else { DAY };
-            page[at] = (day % 256) as u8;
-            page[at + 1] = (day / 256) as u8;
-            page[at + 2] = letter.wrapping_sub(96);
-            page[at + 3] = 0;
-        }
-    }
-    crc_ccitt::seal(&mut page);
-    page
-}
 
 // The answer to a stamp frame.
 fn header(pages: u16, place: u8) -> [u8; 7] {
@@ -134,7 +56,7 @@ fn add_word(items: &mut Vec<ScriptItem>, word: &[u8]) -> Result<(), Fail> {
             add_bytes(items, &answer)
         }
         [kind, sequence, slots @ ..] => {
-            let mut bytes = page(sequence.wrapping_sub(b'0'), slots);
+            let mut bytes = page_of_letters(sequence.wrapping_sub(b'0'), slots);
             match kind {
                 b'c' => add_front(items, &bytes, PAGE_SIZE - 1),
                 b'x' => {
@@ -408,7 +330,7 @@ fn a_dump_may_have_513_pages_and_begin_at_place_4(rt: HostRuntime) -> Result<(),
             512 => b"f",
             _ => b"",
         };
-        add_bytes(&mut items, &page((k % 256) as u8, slots))?;
+        add_bytes(&mut items, &page_of_letters((k % 256) as u8, slots))?;
     }
     let outcome = run(rt.alloc(), items, None, Kept::Done)?;
     assert_eq!(rt; outcome.end, DumpEnd::Whole);

@@ -3,7 +3,10 @@
 
 #[cfg(test)]
 mod disk_model_tests;
+mod scripted_stream;
 #[cfg(test)]
 mod serial_link_tests;
 #[cfg(test)]
 mod station_outside_tests;
+
+pub use scripted_stream::{Scripted, Step};

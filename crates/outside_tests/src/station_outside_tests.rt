@@ -1,5 +1,4 @@
-ghost use Rattle.std.specs.Prelude.{◌≤◌, IfOk};
-
+use crate::scripted_stream::{Scripted, Step};
 use disk_model::{Disk, Disked, Length};
 use serial_link::{Connected, Link, Recv, Sent, Side};
 use station_io::{Files, LONGEST, Put, TextRead};
@@ -7,70 +6,12 @@ use station_outside::{
     FileDisk, OpenFiles, StdFiles, TcpLink, hold_standard_streams, read_front, write_whole,
 };
 use std::fs::{self, File};
-use std::io::{self, ErrorKind, Read, Write};
+use std::io::{ErrorKind, Read, Write};
 use std::net::TcpListener;
 use std::os::unix::fs::symlink;
 use std::rt;
 use std::test::Fail;
 use std::time::{Duration, Instant};
-
-// What a call of the system is made to answer.
-#[derive(Clone, Copy)]
-enum Step {
-    Moves(usize),
-    Fails(ErrorKind),
-}
-
-// Reads or writes by a script, and ends where it ends.
-#[derive(Drop)]
-struct Scripted<'a> {
-    steps: &'a [Step],
-    calls: usize,
-    // Of a writer, how many bytes it took.
-    taken: usize,
-}
-
-impl<'a> Scripted<'a> {
-    fn new(steps: &'a [Step]) -> Self {
-        Scripted {
-            steps,
-            calls: 0,
-            taken: 0,
-        }
-    }
-
-    fn step(&mut self, room: usize) -> io::Result<usize>
-        ensures { IfOk result (λ n. n ≤ room) }
-    {
-        let step = self.steps.get(self.calls).copied();
-        self.calls = self.calls.saturating_add(1);
-        match step {
-            Some(Step::Moves(count)) => Ok(count.min(room)),
-            Some(Step::Fails(kind)) => Err(kind.into()),
-            None => Ok(0),
-        }
-    }
-}
-
-impl Read for Scripted<'_> {
-    fn read(&mut self, buf: &mut [u8]) -> io::Result<usize> {
-        let count = self.step(buf.len())?;
-        buf[..count].fill(7);
-        Ok(count)
-    }
-}
-
-impl Write for Scripted<'_> {
-    fn write(&mut self, buf: &[u8]) -> io::Result<usize> {
-        let count = self.step(buf.len())?;
-        self.taken = self.taken.saturating_add(count);
-        Ok(count)
-    }
-
-    fn flush(&mut self) -> io::Result<()> {
-        Ok(())
-    }
-}
 
 #[test]
 fn a_file_is_read_in_pieces(rt: HostRuntime) -> Result<(), Fail> {

@@ -1,6 +1,5 @@
-use console_model::Console;
+use console_tests::new_console;
 use disk_model::{Disk, MemDisk};
-use eeprom_map::Eeprom;
 use loop_packet::LoopPacket;
 use settings_file::Settings;
 use station_base::Period;
@@ -23,7 +22,7 @@ fn ten_records(rt: &impl Abort, alloc: Global) -> Result<Sim, Fail> {
     let five = Period::from_minutes(5).expect(rt, "a period");
     let text = b"run 2024-07-01 00:05 10\n";
     let schedule = Schedule::read(alloc, text, five).expect(rt, "a schedule");
-    let console = Console::new(alloc, Eeprom::new(alloc, five)?, LoopPacket::blank())?;
+    let console = new_console(alloc, five, LoopPacket::blank())?;
     let mut line = Sim::new(alloc, console)?;
     let [Step::Run { first, count }] = schedule.steps() else {
         panic!(rt; "one run");

@@ -1,7 +1,6 @@
 ghost use Rattle.std.specs.Prelude.{◌≡◌, None, IfOk};
 ghost use Rattle.station_session.specs.Fits.{Fits};
 
-use archive_record::RECORD_SIZE;
 use disk_model::{Disk, MemDisk, Stopping};
 use dmpaft_driver::Trouble;
 use serial_link::{ScriptItem, ScriptLink};
@@ -10,11 +9,9 @@ use station_session::{Begun, Mark, Report, Round, RoundEnd, Session, Turn};
 use std::alloc::Global;
 use std::process::Abort;
 use std::test::Fail;
-use vantage_frames::{PAGE_SIZE, write_header};
+use value_tests::page_of_letters;
+use vantage_frames::write_header;
 use weather_book::{Book, BookStart, Purpose};
-
-// The date word of 2024-07-01, the day of all records: `a` is that of 00:01, `b` that of 00:02, and so on.
-const DAY: u16 = 12_513;
 
 const MOST: u32 = 1_048_576;
 
@@ -34,22 +31,6 @@ const THREE_TROUBLES: &str =
 
 // No round of these tests takes more turns.
 const MOST_TURNS: u32 = 1_000;
-
-// A page whose slots hold the records of five letters.
-fn page(sequence: u8, letters: &[u8]) -> [u8; PAGE_SIZE] {
-    let mut page = [0xFF; PAGE_SIZE];
-    page[0] = sequence;
-    for (place, letter) in letters.iter().take(5).enumerate() {
-        let at = 1 + RECORD_SIZE * place;
-        page[at] = (DAY % 256) as u8;
-        page[at + 1] = (DAY / 256) as u8;
-        page[at + 2] = letter.wrapping_sub(96);
-        page[at + 3] = 0;
-        page[at + 42] = 0;
-    }
-    crc_ccitt::seal(&mut page);
-    page
-}
 
 fn add_bytes(items: &mut Vec<ScriptItem>, bytes: &[u8]) -> Result<(), Fail> {
     for byte in bytes {
@@ -81,7 +62,7 @@ fn add_word(items: &mut Vec<ScriptItem>, word: &[u8]) -> Result<(), Fail> {
             Ok(())
         }
         [kind, sequence, letters @ ..] => {
-            let mut bytes = page(sequence.wrapping_sub(b'0'), letters);
+            let mut bytes = page_of_letters(sequence.wrapping_sub(b'0'), letters);
             if *kind == b'x' {
                 bytes[100] ^= 1;
             }

@@ -1,7 +1,7 @@
 use archive_record::Rec52;
 use arrayvec::ArrayVec;
-use console_model::{Console, Due};
-use eeprom_map::Eeprom;
+use console_model::Due;
+use console_tests::new_console;
 use loop_packet::LoopPacket;
 use serial_link::{Link, Recv, Sent, TalkItem};
 use station_base::{Period, Stamp};
@@ -9,21 +9,17 @@ use station_sim::{Fate, Fates, Sim, Unseen};
 use std::alloc::Global;
 use std::process::Abort;
 use std::test::Fail;
+use value_tests::record_of;
 
 // A line to a new console.
 fn line(alloc: Global) -> Option<Sim> {
-    let eeprom = Eeprom::new(alloc, Period::from_minutes(5)?).ok()?;
-    let console = Console::new(alloc, eeprom, LoopPacket::blank()).ok()?;
+    let console = new_console(alloc, Period::from_minutes(5)?, LoopPacket::blank()).ok()?;
     Sim::new(alloc, console).ok()
 }
 
 // The record of so many minutes after the first stamp.
 fn record_at(minute: u8) -> Option<Rec52> {
-    let stamp = Stamp::from_words(33, u16::from(minute))?;
-    let mut bytes = *Rec52::default().bytes();
-    bytes[..2].copy_from_slice(&stamp.date_word().to_le_bytes());
-    bytes[2..4].copy_from_slice(&stamp.time_word().to_le_bytes());
-    Rec52::of(bytes)
+    record_of(Stamp::from_words(33, u16::from(minute))?)
 }
 
 // So many waits, and then these bytes, and nothing behind them.

@@ -7,6 +7,7 @@ mod archive_record_tests;
 mod crc_ccitt_tests;
 #[cfg(test)]
 mod eeprom_map_tests;
+mod fixtures;
 #[cfg(test)]
 mod loop_packet_tests;
 #[cfg(test)]
@@ -15,3 +16,5 @@ mod numerals_tests;
 mod station_base_tests;
 #[cfg(test)]
 mod vantage_frames_tests;
+
+pub use fixtures::{page_of_letters, record_of};
