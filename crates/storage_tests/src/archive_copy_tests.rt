@@ -1,12 +1,7 @@
-ghost use Rattle.std.specs.Prelude.{◌≡◌, All, IfOk, IsTrue};
-ghost use Rattle.station_base.specs.FieldSet.{AreMissing};
-ghost use Rattle.station_base.specs.RowLine.{IsPrintable};
-ghost use Rattle.weather_book.specs.Adding.{AreLimited, ArePrintable};
-ghost use Rattle.weather_book.specs.Rising.{RowsRise, rise};
-
+use crate::dated_rows::{row_of, rows_of};
+use crate::fixtures::may_follow;
 use archive_copy::{CopyEnd, copy};
 use disk_model::{Disk, Disked, MemDisk, Stopping};
-use station_base::{Period, Row, Stamp};
 use std::alloc::Global;
 use std::process::Abort;
 use std::test::Fail;
@@ -20,54 +15,8 @@ const CHANGES: usize = 60;
 // How many calls of the first disk a copy of the seven rows makes: eight of a recovery, and a read for each day.
 const FROM_CALLS: u64 = 10;
 
-// The number of the outside temperature.
-const OUTSIDE: usize = 0;
-
 // Seven rows of two days of July 2024, by their days and times.
 const TIMES: [(u16, u16); 7] = [(1, 5), (1, 10), (1, 15), (2, 5), (2, 10), (2, 15), (2, 20)];
-
-// Whether the stamps rise, the first above this one.
-fn rise_after(last: Option<Stamp>, rows: &[Row]) -> bool
-    ensures { result ≡ rise last rows.now }
-{
-    match rows {
-        [] => true,
-        [row, rest @ ..] => last.is_none_or(|last| last < row.stamp)
-            && rise_after(Some(row.stamp), rest),
-    }
-}
-
-// Whether these rows may be added after this stamp.
-fn may_follow(last: Option<Stamp>, rows: &[Row]) -> bool
-    ensures { IsTrue result → RowsRise last rows.now }
-{
-    rise_after(last, rows)
-}
-
-// A row of one minute, of 65.1 F outside.
-fn row_of(rt: &impl Abort, day: u16, time: u16) -> Row
-    ensures printable { All IsPrintable result.values }
-    ensures limited { AreMissing result.limited result.values }
-{
-    assert!(rt; day < 32);
-    let mut row = Row::default();
-    row.stamp = Stamp::from_words(day + 32 * 7 + 512 * 24, time).expect(rt, "a stamp");
-    row.interval = Period::shortest();
-    row.values[OUTSIDE] = Some(651);
-    row
-}
-
-// Rows of these days and times.
-fn rows_of(rt: &impl Abort, alloc: Global, times: &[(u16, u16)]) -> Result<Vec<Row>, Fail>
-    ensures printable { IfOk result (λ rows. ArePrintable rows.items) }
-    ensures limited { IfOk result (λ rows. AreLimited rows.items) }
-{
-    let mut rows = Vec::new(alloc);
-    for (day, time) in times {
-        rows.push(row_of(rt, *day, *time))?;
-    }
-    Ok(rows)
-}
 
 // The book of the archive on a disk.
 fn open<D: Disk>(

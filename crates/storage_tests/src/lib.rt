@@ -6,6 +6,9 @@ mod archive_copy_tests;
 #[cfg(test)]
 mod daily_summary_tests;
 #[cfg(test)]
+mod dated_rows;
+pub mod fixtures;
+#[cfg(test)]
 mod gated_log_tests;
 #[cfg(test)]
 mod quality_tests;

@@ -1,70 +1,15 @@
-ghost use Rattle.std.specs.Prelude.{◌≡◌, All, IfOk, IsTrue};
-ghost use Rattle.station_base.specs.FieldSet.{AreMissing};
-ghost use Rattle.station_base.specs.RowLine.{IsPrintable};
-ghost use Rattle.weather_book.specs.Adding.{ArePrintable, AreLimited};
-ghost use Rattle.weather_book.specs.Rising.{RowsRise, rise};
-
+use crate::dated_rows::{OUTSIDE, at, row_of, rows_of};
+use crate::fixtures::may_follow;
 use arrayvec::ArrayVec;
 use daily_summary::FieldSum;
 use disk_model::{Disk, Disked, Length, MemDisk, Stopping};
-use station_base::{DayNumber, Period, Row, Stamp};
+use station_base::{DayNumber, Row};
 use std::alloc::Global;
 use std::process::Abort;
 use std::test::Fail;
 use weather_book::{Added, Book, BookStart, DayAnswer, Purpose, Room, RowAnswer, RowsAnswer};
 
 const LONGEST: usize = 20_000;
-
-// Where the first field is told.
-const OUTSIDE: usize = 0;
-
-// Whether the stamps rise, the first above this one.
-fn rise_after(last: Option<Stamp>, rows: &[Row]) -> bool
-    ensures { result ≡ rise last rows.now }
-{
-    match rows {
-        [] => true,
-        [row, rest @ ..] => last.is_none_or(|last| last < row.stamp)
-            && rise_after(Some(row.stamp), rest),
-    }
-}
-
-// Whether these rows may be added after this stamp.
-fn may_follow(last: Option<Stamp>, rows: &[Row]) -> bool
-    ensures { IsTrue result → RowsRise last rows.now }
-{
-    rise_after(last, rows)
-}
-
-// This day of July 2024 at a time that is written in one word, as 1200 for noon.
-fn at(rt: &impl Abort, day: u16, time: u16) -> Stamp {
-    assert!(rt; day < 32);
-    Stamp::from_words(day + 32 * 7 + 512 * 24, time).expect(rt, "a stamp")
-}
-
-// A row of one minute, of 65.1 F outside.
-fn row_of(rt: &impl Abort, day: u16, time: u16) -> Row
-    ensures printable { All IsPrintable result.values }
-    ensures limited { AreMissing result.limited result.values }
-{
-    let mut row = Row::default();
-    row.stamp = at(rt, day, time);
-    row.interval = Period::shortest();
-    row.values[OUTSIDE] = Some(651);
-    row
-}
-
-// Rows of these days and times.
-fn rows_of(rt: &impl Abort, alloc: Global, times: &[(u16, u16)]) -> Result<Vec<Row>, Fail>
-    ensures printable { IfOk result (λ rows. ArePrintable rows.items) }
-    ensures limited { IfOk result (λ rows. AreLimited rows.items) }
-{
-    let mut rows = Vec::new(alloc);
-    for (day, time) in times {
-        rows.push(row_of(rt, *day, *time))?;
-    }
-    Ok(rows)
-}
 
 // The book of the archive on a disk.
 fn open<D: Disk>(

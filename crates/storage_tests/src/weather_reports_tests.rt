@@ -1,9 +1,9 @@
-ghost use Rattle.std.specs.Prelude.{◌≡◌, All, IsTrue};
+ghost use Rattle.std.specs.Prelude.{◌≡◌, All};
 ghost use Rattle.station_base.specs.FieldSet.{AreMissing};
 ghost use Rattle.station_base.specs.RowLine.{IsPrintable};
 ghost use Rattle.weather_book.specs.Adding.{AreLimited, ArePrintable};
-ghost use Rattle.weather_book.specs.Rising.{RowsRise, rise};
 
+use crate::fixtures::may_follow;
 use disk_model::{Disk, MemDisk};
 use station_base::{DayNumber, Period, Row, Stamp};
 use station_io::MemSink;
@@ -27,24 +27,6 @@ const WIND_SAMPLES: usize = 7;
 const WIND_GUST: usize = 12;
 
 const EVAPORATION: usize = 16;
-
-// Whether the stamps rise, the first above this one.
-fn rise_after(last: Option<Stamp>, rows: &[Row]) -> bool
-    ensures { result ≡ rise last rows.now }
-{
-    match rows {
-        [] => true,
-        [row, rest @ ..] => last.is_none_or(|last| last < row.stamp)
-            && rise_after(Some(row.stamp), rest),
-    }
-}
-
-// Whether these rows may be added after this stamp.
-fn may_follow(last: Option<Stamp>, rows: &[Row]) -> bool
-    ensures { IsTrue result → RowsRise last rows.now }
-{
-    rise_after(last, rows)
-}
 
 // A row of five minutes, of 2024, with an outside temperature alone.
 fn row_at(rt: &impl Abort, month: u16, day: u16, time: u16, tenths: u16) -> Row

@@ -1,5 +1,5 @@
 use Rattle.weather_book.specs.Adding.{ArePrintable, AreLimited}
-use Rattle.storage_tests.proofs.archive_copy_tests.rows_of.Given as goal
+use Rattle.storage_tests.proofs.dated_rows.rows_of.Given as goal
 
 abbrev pub invariant-loop-day : goal.invariant-loop-day
 invariant-loop-day g l = record {

@@ -4,7 +4,7 @@ use Rattle.station_base.specs.RowLine.{IsPrintable}
 use Rattle.station_base.specs.declared.row.Row.{Row}
 use Rattle.station_base.proofs.Printable.{printable_blank, printable_set}
 use Rattle.station_base.proofs.FieldSets.{none_missing_of}
-use Rattle.storage_tests.proofs.weather_book_tests.row_of.Goals as goal
+use Rattle.storage_tests.proofs.dated_rows.row_of.Goals as goal
 
 pub returns-clause-printable : goal.returns-clause-printable
 returns-clause-printable g c =

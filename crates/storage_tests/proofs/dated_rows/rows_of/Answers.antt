@@ -4,7 +4,7 @@ use Rattle.std.proofs.lemmas.List.Elements.{All-push}
 use Rattle.station_base.specs.FieldSet.{AreMissing}
 use Rattle.station_base.specs.RowLine.{IsPrintable}
 use Rattle.station_base.specs.declared.row.Row.{Row}
-use Rattle.storage_tests.proofs.weather_book_tests.rows_of.Goals as goal
+use Rattle.storage_tests.proofs.dated_rows.rows_of.Goals as goal
 
 pushed : (P : Row → Type 0) (rows : List Row) (row : Row) (b : Bool) → All P rows → P row → All P (cond b (rows ++ row ∷ []) rows)
 pushed P rows row true all one = All-push P rows row all one

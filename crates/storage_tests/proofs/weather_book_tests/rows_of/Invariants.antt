@@ -1,8 +1,0 @@
-use Rattle.weather_book.specs.Adding.{ArePrintable, AreLimited}
-use Rattle.storage_tests.proofs.weather_book_tests.rows_of.Given as goal
-
-abbrev pub invariant-loop-day : goal.invariant-loop-day
-invariant-loop-day g l = record {
-  printable : ArePrintable l.rows.items;
-  limited : AreLimited l.rows.items;
-}
