@@ -1,6 +1,6 @@
 #!/usr/bin/env bash
 # Tries chart, export and check, the units, and that what is installed is taken away again, on a handful of rows and with a
-# script in the program's place. With one in rt's place it tries that no wrong body passes try_edits.sh unless it was refused.
+# script in the program's place; and that no case of a table, and no wrong body, passes where it has to fail.
 # The last line is 'N passed, M failed', and the status is 1 where any failed.
 set -u
 tools=$(cd "$(dirname "$0")" && pwd)
@@ -183,6 +183,54 @@ refused, as it must be|1|1|rt ci ended with status 1*1 of 1 wrong bodies were re
 SAYINGS
 expect 'a crate without wrong bodies' 2 'b has no wrong body in more-edits' "${try_edits[@]}" a b
 expect 'a crate that is none' 2 'c is no crate' "${try_edits[@]}" c
+
+cat >stand_in <<'PROGRAM'
+#!/usr/bin/env bash
+case $1 in
+    print) echo told ;;
+    fail) exit 1 ;;
+    keep) printf '\1\2' >kept ;;
+    call)
+        exec 3<>"/dev/tcp/${2%:*}/${2#*:}"
+        echo ask >&3
+        read -r answer <&3
+        echo "$answer"
+        ;;
+esac
+PROGRAM
+chmod +x stand_in
+
+# Runs a table of one case over the stand-in, which ends well unless a key says otherwise.
+try_case() {
+    printf '[[case]]\nname = "a case"\nstatus = 0\n%s\n' "$1" >table.toml
+    "$tools/try_rows.py" ./stand_in table.toml
+}
+
+called='words = "call {address}"
+prints = "yes\n"'
+expect 'a case that holds' 0 '1 passed, 0 failed' try_case $'words = "print"\nprints = "told\\n"'
+expect 'a case of a file' 0 '1 passed, 0 failed' try_case $'words = "keep"\nprints = ""\nleaves.kept = "0102"'
+expect 'a case of a line' 0 '1 passed, 0 failed' try_case "$called
+line = \"hears 'ask' 0a\nsays 'yes' 0a\""
+expect 'a case with another output' 1 $'*-said\n+told\n0 passed, 1 failed' try_case $'words = "print"\nprints = "said\\n"'
+expect 'a case with another status' 1 $'*\nstatus 1 in place of 0\n0 passed, 1 failed' try_case $'words = "fail"\nprints = ""'
+expect 'a case without its file' 1 $'*\nkept is missing\n0 passed, 1 failed' \
+    try_case $'words = "print"\nprints = "told\\n"\nleaves.kept = "0102"'
+expect 'a case with a file that is not said' 1 $'*\nkept was made\n0 passed, 1 failed' \
+    try_case $'words = "keep"\nprints = ""'
+expect 'a case with another file' 1 '*kept has 2 bytes, and 2 are said; they differ from 1 on*0 passed, 1 failed' \
+    try_case $'words = "keep"\nprints = ""\nleaves.kept = "0103"'
+expect 'a case with another line' 1 '*heard 61 73 6b 0a, in place of 62 73 6b 0a*0 passed, 1 failed' try_case "$called
+line = \"hears 'bsk' 0a\nsays 'yes' 0a\""
+expect 'a case with more on its line' 1 '*heard 0a behind the last step*0 passed, 1 failed' try_case "$called
+line = \"hears 'ask'\nsays 'yes' 0a\""
+expect 'a case with a line that is not quiet' 1 '*in place of 1 quiet waits*0 passed, 1 failed' try_case "$called
+line = \"quiet 1\nhears 'ask' 0a\nsays 'yes' 0a\""
+expect 'a case that calls' 1 '*somebody called*0 passed, 1 failed' try_case "$called
+line = \"uncalled\""
+expect 'a case with a key that is none' 1 '*no key of a case: print*' try_case $'words = "print"\nprints = ""\nprint = ""'
+: >table.toml
+expect 'a table without a case' 1 '0 passed, 0 failed' "$tools/try_rows.py" ./stand_in table.toml
 
 expect 'the schedule of the stormy week' 0 '' cmp <(python3 "$tools/make_week.py") "$tools/../examples/week.schedule"
 

@@ -1,21 +1,19 @@
-//! The tests of the program, whose crates are proved once, without them.
+//! The tests of the program over an outside that fails or is modelled, apart from the crates that they test.
 #![tactic(auto)]
 
 #[cfg(test)]
-mod console_tests;
+mod archives;
 #[cfg(test)]
-mod copy_tests;
+mod disk_tests;
 #[cfg(test)]
-mod make_tests;
+mod file_tests;
 #[cfg(test)]
-mod pages_tests;
+mod line_tests;
 #[cfg(test)]
-mod replay_tests;
+mod modelled_tests;
 #[cfg(test)]
-mod report_tests;
+mod running;
 #[cfg(test)]
-mod serving_tests;
+mod scripts;
 #[cfg(test)]
-mod station_tests;
-#[cfg(test)]
-mod task_tests;
+mod sink_tests;

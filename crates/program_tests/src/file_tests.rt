@@ -1,0 +1,40 @@
+use crate::running::{Given, over, plain};
+use crate::scripts::line;
+use serial_link::{Connected, Link, Side};
+use std::test::Fail;
+
+#[test]
+fn a_file_that_cannot_be_read_ends_the_command(rt: HostRuntime) -> Result<(), Fail> {
+    let alloc = rt.alloc();
+    let files = [
+        ("settings", b"period = 5".as_slice()),
+        ("schedule", b"".as_slice()),
+    ];
+    // The words, and which reading fails.
+    let rows: [(&[&str], u64); 7] = [
+        (&["pages", "schedule"], 1),
+        (&["pages", "settings", "schedule"], 1),
+        (&["pages", "settings", "schedule"], 2),
+        (&["replay", "settings", "schedule"], 1),
+        (&["replay", "settings", "schedule"], 2),
+        (&["console", "settings", "schedule", "here", "2"], 1),
+        (&["console", "settings", "schedule", "here", "2"], 2),
+    ];
+    for (words, call) in rows {
+        let given = Given {
+            files: &files,
+            failing: &[call],
+            ..plain(words)
+        };
+        let mut link = line(alloc, "s")?;
+        let (status, text) = over(&rt, alloc, &given, &mut link)?;
+        assert_eq!(rt;
+            (status, text.as_slice()),
+            (8, b"read fault\n".as_slice()),
+            "{words:?}, {call}"
+        );
+        // Nobody was waited for.
+        assert_eq!(rt; link.connect(Side::Call, "here"), Connected::Failed);
+    }
+    Ok(())
+}

@@ -1,0 +1,91 @@
+use disk_model::{Disk, Disked, MemDisk};
+use serial_link::Link;
+use station_io::{MemFile, MemFiles, MemSink};
+use station_top::run;
+use std::alloc::Global;
+use std::process::Abort;
+use std::test::Fail;
+
+// More bytes than any test here writes.
+const ROOM: usize = 20_000;
+
+// Room for the longest archive here, and for the changes that make it.
+const LONGEST: usize = 50_000;
+
+const CHANGES: usize = 200;
+
+// More changes than any disk here begins.
+const MOST_CHANGES: u64 = 5_000;
+
+// The words, the files by their names, which calls of these fail, and the capacity of the sink.
+#[derive(Clone, Copy)]
+pub struct Given<'a> {
+    pub words: &'a [&'a str],
+    pub files: &'a [(&'a str, &'a [u8])],
+    pub failing: &'a [u64],
+    pub capacity: usize,
+}
+
+// These words without a file, and a sink that has room.
+pub fn plain<'a>(words: &'a [&'a str]) -> Given<'a> {
+    Given {
+        words,
+        files: &[],
+        failing: &[],
+        capacity: ROOM,
+    }
+}
+
+// How the words end over a link and two disks, and what they write.
+pub fn done<L: Link, D: Disk>(
+    rt: &impl Abort,
+    alloc: Global,
+    given: &Given,
+    link: &mut L,
+    disk: &mut D,
+    second: &mut D,
+) -> Result<(u8, Vec<u8>), Fail> {
+    let mut listed = Vec::new(alloc);
+    for (name, bytes) in given.files {
+        listed.push(MemFile {
+            name: String::from_str(alloc, name)?,
+            bytes: Vec::from_slice(alloc, bytes)?,
+        })?;
+    }
+    let mut files = MemFiles::new(listed, Vec::from_slice(alloc, given.failing)?);
+    let mut sink = MemSink::new(alloc, given.capacity)?;
+    assert!(rt; disk.moment() < MOST_CHANGES);
+    assert!(rt; second.moment() < MOST_CHANGES);
+    let status = run(
+        alloc,
+        given.words,
+        &mut files,
+        &mut sink,
+        link,
+        disk,
+        second,
+    );
+    Ok((status, Vec::from_slice(alloc, sink.bytes())?))
+}
+
+// A disk that reads as these bytes, and has room for more.
+pub fn holding(rt: &impl Abort, alloc: Global, bytes: &[u8]) -> Result<MemDisk, Fail> {
+    let mut disk = MemDisk::new(alloc, LONGEST, CHANGES, LONGEST)?;
+    assert!(rt; disk.moment() == 0);
+    if !bytes.is_empty() {
+        assert!(rt; disk.write_at(0, bytes) == Disked::Done);
+    }
+    Ok(disk)
+}
+
+// How the words end over a link and empty disks, and what they write.
+pub fn over<L: Link>(
+    rt: &impl Abort,
+    alloc: Global,
+    given: &Given,
+    link: &mut L,
+) -> Result<(u8, Vec<u8>), Fail> {
+    let mut disk = holding(rt, alloc, &[])?;
+    let mut second = holding(rt, alloc, &[])?;
+    done(rt, alloc, given, link, &mut disk, &mut second)
+}

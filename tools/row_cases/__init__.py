@@ -1,0 +1,1 @@
+"""Tables of cases, each of which is run over the built program."""
