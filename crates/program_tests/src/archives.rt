@@ -12,14 +12,16 @@ const LENGTH: usize = 3 * SLOT + 1;
 
 const LONG: usize = (MANY as usize + 1) * SLOT + 1;
 
-// The rows of the longer archive and of each of its batches. A read brings 16 of them, and their lines take two writes.
+/// The rows of the longer archive. Their lines take two writes.
 pub const MANY: u16 = 40;
 
+// The rows of each of its batches.
 const BATCH: u8 = 20;
 
+/// The rows that a read brings.
 pub const READ: usize = 16;
 
-// The bytes of the line of each.
+/// The bytes of the line of each.
 pub const LINE: usize = 87;
 
 // The row slot of 2024-07-01 00:05 with 65.0 degrees outside, and of the five fields that always have a value 0, up to
@@ -33,6 +35,7 @@ const SECOND: [u8; USED] = [
     0, 1, 0, 0, 0xE1, 0x30, 10, 0, 5, 0, 0, 0, 0x99, 0x10, 1, 0, 0, 0, 0, 0, 0x9F, 2,
 ];
 
+/// The lines of the day of the two rows.
 pub const DAYS: &str =
     "day 2024-07-01 outTemp min 650 at 2024-07-01 00:05 max 671 at 2024-07-01 00:10 sum 1321 count 2 wsum 396300 sumtime 600
 day 2024-07-01 rain min 0 at 2024-07-01 00:05 max 0 at 2024-07-01 00:05 sum 0 count 2 wsum 0 sumtime 600
@@ -42,6 +45,7 @@ day 2024-07-01 windGust min 0 at 2024-07-01 00:05 max 0 at 2024-07-01 00:05 sum 
 day 2024-07-01 ET min 0 at 2024-07-01 00:05 max 0 at 2024-07-01 00:05 sum 0 count 2 wsum 0 sumtime 600
 ";
 
+/// The lines of their month.
 pub const MONTHS: &str =
     "month 2024-07 outTemp min 650 at 2024-07-01 00:05 max 671 at 2024-07-01 00:10 sum 1321 count 2 wsum 396300 sumtime 600
 month 2024-07 rain min 0 at 2024-07-01 00:05 max 0 at 2024-07-01 00:05 sum 0 count 2 wsum 0 sumtime 600
@@ -51,7 +55,7 @@ month 2024-07 windGust min 0 at 2024-07-01 00:05 max 0 at 2024-07-01 00:05 sum 0
 month 2024-07 ET min 0 at 2024-07-01 00:05 max 0 at 2024-07-01 00:05 sum 0 count 2 wsum 0 sumtime 600
 ";
 
-// The bytes of the archive of these two rows.
+/// The bytes of the archive of the two rows.
 pub fn archive() -> [u8; LENGTH] {
     let mut bytes = [0; LENGTH];
     bytes[..8].copy_from_slice(b"DVARCH02");
@@ -69,7 +73,7 @@ fn time_of(number: u16) -> (u16, u16)
     (1 + number / 12, number % 12 * 5)
 }
 
-// The bytes of that archive: each row as the first one of two, but at its time and in its batch.
+/// The bytes of the longer archive: each row as the first one of two, but at its time and in its batch.
 pub fn long_archive() -> [u8; LONG] {
     let mut bytes = [0; LONG];
     bytes[..8].copy_from_slice(b"DVARCH02");
@@ -86,7 +90,7 @@ pub fn long_archive() -> [u8; LONG] {
     bytes
 }
 
-// The lines of its rows.
+/// The lines of its rows.
 pub fn long_lines(alloc: Global) -> Result<String, AllocError> {
     let mut lines = String::new(alloc);
     for number in 0..MANY {

@@ -1,8 +1,7 @@
 //! The tests of the program over an outside that fails or is modelled, apart from the crates that they test.
 #![tactic(auto)]
 
-#[cfg(test)]
-mod archives;
+pub mod archives;
 #[cfg(test)]
 mod disk_tests;
 #[cfg(test)]

@@ -1,26 +1,11 @@
-use archive_record::RECORD_SIZE;
 use serial_link::{ScriptItem, ScriptLink, TalkItem};
 use std::alloc::Global;
 use std::test::Fail;
-use vantage_frames::{PAGE_SIZE, SLOTS, write_header};
+use value_tests::page_of_letters;
+use vantage_frames::write_header;
 
-// The date word of 2024-07-01, the day of all records: `a` is that of 00:01, `b` that of 00:02, and so on.
+// The date word of 2024-07-01, the day of all records.
 pub const DAY: u16 = 0x30E1;
-
-// A page whose slots hold the records of these letters, with each field behind the stamp all ones. The slots behind them
-// are empty.
-pub fn page(sequence: u8, letters: &[u8]) -> [u8; PAGE_SIZE] {
-    let mut page = [0xFF; PAGE_SIZE];
-    page[0] = sequence;
-    for (place, letter) in letters.iter().take(SLOTS as usize).enumerate() {
-        let at = 1 + RECORD_SIZE * place;
-        page[at..at + 2].copy_from_slice(&DAY.to_le_bytes());
-        page[at + 2..at + 4].copy_from_slice(&[letter.wrapping_sub(b'a' - 1), 0]);
-        page[at + 42] = 0;
-    }
-    crc_ccitt::seal(&mut page);
-    page
-}
 
 // The number that digits write.
 fn number(digits: &[u8]) -> u16 {
@@ -64,7 +49,7 @@ fn add_word(items: &mut Vec<ScriptItem>, word: &[u8]) -> Result<(), Fail> {
             hear(items, &write_header(number(pages), 0))
         }
         [kind, sequence, letters @ ..] => {
-            let mut bytes = page(sequence.wrapping_sub(b'0'), letters);
+            let mut bytes = page_of_letters(sequence.wrapping_sub(b'0'), letters);
             if *kind == b'x' {
                 bytes[100] ^= 1;
             }

@@ -1,9 +1,10 @@
 use crate::archives::{DAYS, MONTHS, archive, long_archive, long_lines};
 use crate::running::{Given, done, holding, over, plain};
-use crate::scripts::{line, page, said};
+use crate::scripts::{line, said};
 use std::alloc::Global;
 use std::process::Abort;
 use std::test::Fail;
+use value_tests::page_of_letters;
 
 // A text of at most so many bytes is cut at each of them, and a longer one at the end of each line.
 const SHORT: usize = 30;
@@ -61,7 +62,7 @@ fn a_sink_that_ends_within_a_line_takes_a_front(rt: HostRuntime) -> Result<(), F
     replayed.push_str(DAYS)?;
     replayed.push_str("end rows 2 days 1\n")?;
     let listed = long_lines(alloc)?;
-    let (dump, two, many) = (page(0, b"a"), archive(), long_archive());
+    let (dump, two, many) = (page_of_letters(0, b"a"), archive(), long_archive());
     let files = [
         ("dump", dump.as_slice()),
         ("settings", b"".as_slice()),

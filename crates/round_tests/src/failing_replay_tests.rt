@@ -1,8 +1,8 @@
+use crate::five_minutes;
 use console_tests::new_console;
 use disk_model::{Disk, MemDisk};
 use loop_packet::LoopPacket;
 use settings_file::Settings;
-use station_base::Period;
 use station_session::{Report, RoundEnd, Session};
 use station_sim::{Fates, Schedule, Sim, Step};
 use std::alloc::Global;
@@ -19,7 +19,7 @@ const CHANGES: usize = 50;
 
 // A line to a console at which ten records fell due.
 fn ten_records(rt: &impl Abort, alloc: Global) -> Result<Sim, Fail> {
-    let five = Period::from_minutes(5).expect(rt, "a period");
+    let five = five_minutes();
     let text = b"run 2024-07-01 00:05 10\n";
     let schedule = Schedule::read(alloc, text, five).expect(rt, "a schedule");
     let console = new_console(alloc, five, LoopPacket::blank())?;

@@ -5,6 +5,7 @@
 mod failing_replay_tests;
 #[cfg(test)]
 mod made_run_tests;
+mod periods;
 #[cfg(test)]
 mod replay_member;
 #[cfg(test)]
@@ -17,3 +18,5 @@ mod schedule_language_tests;
 mod station_session_tests;
 #[cfg(test)]
 mod station_sim_tests;
+
+pub use periods::five_minutes;

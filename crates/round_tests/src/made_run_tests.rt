@@ -1,6 +1,6 @@
+use crate::five_minutes;
 use made_run::{MOST_MADE, MakeEnd, made_schedule, make};
 use schedule_replay::Counts;
-use settings_file::Settings;
 use station_sim::{Fate, Fates, Schedule, Step};
 use std::alloc::Global;
 use std::process::Abort;
@@ -57,7 +57,7 @@ fn are_alike(one: &Step, other: &Step) -> bool {
 #[test]
 fn made_schedules_have_these_lines(rt: HostRuntime) -> Result<(), Fail> {
     let alloc = rt.alloc();
-    let five = Settings::plain().period();
+    let five = five_minutes();
     let rows = [
         (0, "outTemp=-200 rain=0\nround\nhost 4 lost\nround\n"),
         (1, "outTemp=638 rain=1\nround\nround\n"),

@@ -1,11 +1,11 @@
-use station_base::Period;
+use crate::five_minutes;
 use station_sim::{Fate, Schedule, ScheduleFault, Step, Stop};
 use std::alloc::Global;
 use std::test::Fail;
 
 // The line and the kind of the fault of a text, at a period of 5 minutes.
 fn fault_of(alloc: Global, text: &[u8]) -> Option<(u32, u8)> {
-    match Schedule::read(alloc, text, Period::from_minutes(5)?) {
+    match Schedule::read(alloc, text, five_minutes()) {
         Err(ScheduleFault::Line { line, kind }) => Some((line, kind)),
         _ => None,
     }
@@ -13,7 +13,7 @@ fn fault_of(alloc: Global, text: &[u8]) -> Option<(u32, u8)> {
 
 // The schedule of a text.
 fn read(alloc: Global, text: &[u8]) -> Option<Schedule> {
-    Schedule::read(alloc, text, Period::from_minutes(5)?).ok()
+    Schedule::read(alloc, text, five_minutes()).ok()
 }
 
 #[test]

@@ -1,3 +1,4 @@
+use crate::five_minutes;
 use archive_record::Rec52;
 use arrayvec::ArrayVec;
 use console_model::Due;
@@ -13,7 +14,7 @@ use value_tests::record_of;
 
 // A line to a new console.
 fn line(alloc: Global) -> Option<Sim> {
-    let console = new_console(alloc, Period::from_minutes(5)?, LoopPacket::blank()).ok()?;
+    let console = new_console(alloc, five_minutes(), LoopPacket::blank()).ok()?;
     Sim::new(alloc, console).ok()
 }
 
