@@ -1,6 +1,6 @@
 #!/usr/bin/env bash
 # Tries the built program: the cases of tools/program_rows, and then trouble of streams, of links between files and of other
-# processes, which no such case can make. The last line is 'N passed, M failed', and the status is 1 where any failed.
+# processes, which no such case can make. The last line is 'N passed, M failed', and the status is 1 if any failed.
 #
 #     tools/try_program.sh [PROGRAM]
 #

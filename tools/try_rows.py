@@ -5,7 +5,7 @@ what is said over its line.
     tools/try_rows.py PROGRAM [TABLE ..]
 
 Without a table it takes all of that folder. The cases run side by side, each in a folder of its own. The last line is
-'N passed, M failed', counted by runs; the status is 1 where a run failed or there was none, else 0.
+'N passed, M failed', counted by runs; the status is 1 if a run failed or there was none, else 0.
 """
 import shlex
 import sys

@@ -216,17 +216,17 @@ expect 'a case with another output' 1 $'*-said\n+told\n0 passed, 1 failed' try_c
 expect 'a case with another status' 1 $'*\nstatus 1 in place of 0\n0 passed, 1 failed' try_case $'words = "fail"\nprints = ""'
 expect 'a case without its file' 1 $'*\nkept is missing\n0 passed, 1 failed' \
     try_case $'words = "print"\nprints = "told\\n"\nleaves.kept = "0102"'
-expect 'a case with a file that is not said' 1 $'*\nkept was made\n0 passed, 1 failed' \
+expect 'a case with a file that it does not name' 1 $'*\nkept was made\n0 passed, 1 failed' \
     try_case $'words = "keep"\nprints = ""'
-expect 'a case with another file' 1 '*kept has 2 bytes, and 2 are said; they differ from 1 on*0 passed, 1 failed' \
+expect 'a case with another file' 1 '*kept has 2 bytes, expected 2; they differ from byte 1 on*0 passed, 1 failed' \
     try_case $'words = "keep"\nprints = ""\nleaves.kept = "0103"'
 expect 'a case with another line' 1 '*heard 61 73 6b 0a, in place of 62 73 6b 0a*0 passed, 1 failed' try_case "$called
 line = \"hears 'bsk' 0a\nsays 'yes' 0a\""
-expect 'a case with more on its line' 1 '*heard 0a behind the last step*0 passed, 1 failed' try_case "$called
+expect 'a case with more on its line' 1 '*heard 0a after the last step*0 passed, 1 failed' try_case "$called
 line = \"hears 'ask'\nsays 'yes' 0a\""
 expect 'a case with a line that is not quiet' 1 '*in place of 1 quiet waits*0 passed, 1 failed' try_case "$called
 line = \"quiet 1\nhears 'ask' 0a\nsays 'yes' 0a\""
-expect 'a case that calls' 1 '*somebody called*0 passed, 1 failed' try_case "$called
+expect 'a case that calls' 1 '*a call that the case does not have*0 passed, 1 failed' try_case "$called
 line = \"uncalled\""
 expect 'a case with a key that is none' 1 '*no key of a case: print*' try_case $'words = "print"\nprints = ""\nprint = ""'
 : >table.toml

@@ -20,8 +20,8 @@ def check(data):
 
 
 def bytes_of(text):
-    """The bytes of pieces apart by spaces: 'text', pairs of digits as 0a0d, these so many times as 00*154, and
-    brackets, behind whose bytes stands their check."""
+    """The bytes of pieces with spaces between them: 'text'; pairs of digits, for example 0a0d; these several times, for
+    example 00*154; and brackets, whose bytes are followed by their check."""
     data, begun = bytearray(), []
     for word in re.findall(r"'[^']*'|[\[\]]|[^\s\[\]]+", text):
         piece = PIECE.fullmatch(word)

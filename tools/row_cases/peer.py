@@ -9,6 +9,7 @@ QUIET_SECONDS = 0.4  # one quiet wait
 LONGEST_SECONDS = 120
 POLL_SECONDS = 0.02
 PIECE = 4096
+UNCALLED = [("uncalled", None)]
 
 
 class Differs(Exception):
@@ -34,7 +35,7 @@ def waited(ready, process, what):
         if is_over:
             break
         time.sleep(POLL_SECONDS)
-    raise Differs(f"{what}")
+    raise Differs(what)
 
 
 def called(place):
@@ -97,25 +98,20 @@ def take(line, verb, what):
 
 
 def play(line, steps):
-    """Takes the steps of a script. Behind the last one nothing more is heard."""
+    """Takes the steps of a script. After the last one nothing more is heard."""
     with line:
         line.setsockopt(socket.IPPROTO_TCP, socket.TCP_NODELAY, 1)
         if all(take(line, verb, what) for verb, what in steps):
             rest = heard(line, LONGEST_SECONDS, PIECE)
             if rest != b"":
-                raise Differs(f"heard {shown(rest or b'')} behind the last step, and not its end")
+                raise Differs(f"heard {shown(rest or b'')} after the last step, in place of the end")
 
 
 def meet(place, run, process):
     """Plays the other side of a run, whose line is at a socket."""
-    if run.steps == [("uncalled", None)]:
-        while process.poll() is None:
-            if called(place):
-                raise Differs("somebody called")
-            time.sleep(POLL_SECONDS)
-        if called(place):
-            raise Differs("somebody called")
-    elif run.is_caller:
+    if run.steps in (None, UNCALLED):
+        return
+    if run.is_caller:
         play(waited(lambda: calling(place.getsockname()), process, "nobody served"), run.steps)
-    elif run.steps is not None:
+    else:
         play(waited(lambda: called(place), process, "nobody called"), run.steps)

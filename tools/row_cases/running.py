@@ -1,11 +1,12 @@
-"""Runs a case over the program, and holds what comes of it against what is said."""
+"""Runs a case over the program, and compares what comes of it with what the case expects."""
 
 import difflib
+import itertools
 import subprocess
 import tempfile
 from pathlib import Path
 
-from .peer import HOST, LONGEST_SECONDS, Differs, bound, meet
+from .peer import HOST, LONGEST_SECONDS, Differs, bound, called, meet
 from .tables import ADDRESS
 
 GAP = "...\n"
@@ -14,18 +15,24 @@ SHOWN_LINES = 20
 
 def difference(wanted, printed):
     """The first lines of a comparison."""
-    lines = difflib.unified_diff(wanted.splitlines(), printed.splitlines(), "said", "printed", lineterm="", n=1)
-    return "\n".join(list(lines)[:SHOWN_LINES]) or "they differ in the end of the last line"
+    lines = difflib.unified_diff(wanted.splitlines(), printed.splitlines(), "expected", "printed", lineterm="", n=1)
+    return "\n".join(list(lines)[:SHOWN_LINES]) or "the ends of the last lines differ"
 
 
 def judge_output(run, data):
     """What is wrong with what was printed. A line of three points stands for any lines."""
     text = data.decode(errors="backslashreplace")
-    kept = "".join(line for line in text.splitlines(keepends=True) if not line.startswith(run.passes_over or "\0"))
+    kept = "".join(line for line in text.splitlines(keepends=True) if not line.startswith(run.passes_over))
     front, gap, end = run.prints.partition(GAP)
     if gap and len(kept) >= len(front) + len(end) and kept.startswith(front) and kept.endswith(end):
         return []
     return [] if kept == run.prints else [difference(run.prints, kept)]
+
+
+def data_difference(wanted, data):
+    """How long two differing texts of bytes are, and where they begin to differ."""
+    same = itertools.takewhile(lambda pair: pair[0] == pair[1], zip(data, wanted))
+    return f"has {len(data)} bytes, expected {len(wanted)}; they differ from byte {sum(1 for _ in same)} on"
 
 
 def judge_files(wanted, folder):
@@ -35,16 +42,13 @@ def judge_files(wanted, folder):
     faults += [f"{name} was made" for name in sorted(left.keys() - wanted.keys())]
     for name in sorted(wanted.keys() & left.keys()):
         if left[name] != wanted[name]:
-            pairs = zip(left[name], wanted[name])
-            shorter = min(len(left[name]), len(wanted[name]))
-            at = next((at for at, (one, other) in enumerate(pairs) if one != other), shorter)
-            faults.append(f"{name} has {len(left[name])} bytes, and {len(wanted[name])} are said; they differ from {at} on")
+            faults.append(f"{name} {data_difference(wanted[name], left[name])}")
     return faults
 
 
 def started(program, run, folder, out, place):
     """The program at the words of a run, in a folder, with a console at a socket if there is one."""
-    if run.steps is not None and not run.is_caller:
+    if run.has_console:
         place.listen()
     address = f"{HOST}:{place.getsockname()[1]}"
     words = [word.replace(ADDRESS, address) for word in run.words]
@@ -52,7 +56,7 @@ def started(program, run, folder, out, place):
 
 
 def ended(process):
-    """What is wrong with how long a program takes to end, behind the other side's last step."""
+    """What is wrong with how long a program takes to end, after the other side's last step."""
     try:
         process.wait(LONGEST_SECONDS)
         return []
@@ -72,6 +76,8 @@ def faults_of_run(program, run, folder, files):
         except (Differs, OSError) as fault:
             faults.append(f"the line: {fault}")
         faults += ended(process)
+        if run.has_console and called(place):
+            faults.append("the line: a call that the case does not have")
         out.seek(0)
         faults += judge_output(run, out.read())
     if process.returncode != run.status:

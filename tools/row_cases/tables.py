@@ -26,6 +26,11 @@ class Run:
     steps: list | None   # what the other side of the line does, by verbs and bytes
     is_caller: bool      # whether the other side calls
 
+    @property
+    def has_console(self):
+        """Whether the other side waits for a call."""
+        return self.steps is not None and not self.is_caller
+
 
 @dataclass
 class Case:
@@ -88,7 +93,8 @@ def run_of(entry, values):
 
 def completed(shared, entry):
     """The entry with what all entries share, where it has nothing else."""
-    return shared | {key: shared.get(key, {}) | value if isinstance(value, dict) else value for key, value in entry.items()}
+    own = {key: shared.get(key, {}) | value if isinstance(value, dict) else value for key, value in entry.items()}
+    return shared | own
 
 
 def cases_of(entry, values):

@@ -14,28 +14,28 @@ const REPORT: [&str; 5] = ["report", "a", "rows", "2024-07-01", "2024-07-01"];
 // What a round prints in front of the line of a disk fault, but for how many rows there are.
 const ROUND: &[u8] = b"round disk attempts 1 pages 1 skipped 0 acked 0 rows ";
 
-// How words are done of whose calls of one disk each fails in turn.
+// A command that is done again and again, while each call of one of its disks fails in turn.
 #[derive(Clone, Copy)]
-struct Doing<'a> {
+struct Trial<'a> {
     words: &'a [&'a str],
     script: &'a str,
     old: &'a [u8],
     is_of_second: bool,
-    // What is written where none fails.
+    // What is written if none fails.
     lines: &'a str,
-    // The most bytes that are in front of a fault, where these are lines of that.
+    // The most bytes of these lines that are written in front of a fault.
     most: usize,
-    // More calls are made than these.
+    // How many calls are made at least.
     calls: u64,
 }
 
-// The bytes in front of `disk fault` where this call of the disk fails, each line whole. None where there is no such call,
-// and all lines are written.
-fn cut_at(rt: &impl Abort, alloc: Global, doing: &Doing, call: u64) -> Result<Option<usize>, Fail> {
-    let mut disk = holding(rt, alloc, doing.old)?;
+// How many bytes of the lines stand in front of `disk fault` if this call of the disk fails, each line whole. None if there
+// is no such call, and all lines are written.
+fn cut_at(rt: &impl Abort, alloc: Global, trial: &Trial, call: u64) -> Result<Option<usize>, Fail> {
+    let mut disk = holding(rt, alloc, trial.old)?;
     let mut second = holding(rt, alloc, &[])?;
     assert!(rt; call >= 1);
-    if doing.is_of_second {
+    if trial.is_of_second {
         second.fail_at(call);
     } else {
         disk.fail_at(call);
@@ -43,42 +43,42 @@ fn cut_at(rt: &impl Abort, alloc: Global, doing: &Doing, call: u64) -> Result<Op
     let files = [("settings", b"".as_slice())];
     let given = Given {
         files: &files,
-        ..plain(doing.words)
+        ..plain(trial.words)
     };
-    let mut link = line(alloc, doing.script)?;
+    let mut link = line(alloc, trial.script)?;
     let (status, text) = done(rt, alloc, &given, &mut link, &mut disk, &mut second)?;
     if status == 0 {
-        assert_eq!(rt; text.as_slice(), doing.lines.as_bytes());
+        assert_eq!(rt; text.as_slice(), trial.lines.as_bytes());
         return Ok(None);
     }
-    assert_eq!(rt; status, 7, "{:?}, call {call}", doing.words);
+    assert_eq!(rt; status, 7, "{:?}, call {call}", trial.words);
     let front = text.strip_suffix(b"disk fault\n").ok_or("no line")?;
     assert!(rt;
         front.is_empty() || front.ends_with(b"\n"),
         "{:?}, call {call}",
-        doing.words
+        trial.words
     );
     if front.starts_with(ROUND) {
         return Ok(Some(0));
     }
     assert!(rt;
-        doing.lines.as_bytes().starts_with(front),
+        trial.lines.as_bytes().starts_with(front),
         "{:?}, call {call}",
-        doing.words
+        trial.words
     );
     Ok(Some(front.len()))
 }
 
 // Has each call fail in turn, up to one that is not made.
-fn cut(rt: &impl Abort, alloc: Global, doing: &Doing) -> Result<(), Fail> {
+fn cut(rt: &impl Abort, alloc: Global, trial: &Trial) -> Result<(), Fail> {
     let mut most = 0;
     for call in 1..200 {
-        let Some(front) = cut_at(rt, alloc, doing, call)? else {
-            assert_eq!(rt; most, doing.most, "{:?}", doing.words);
-            assert!(rt; call > doing.calls, "{:?}", doing.words);
+        let Some(front) = cut_at(rt, alloc, trial, call)? else {
+            assert_eq!(rt; most, trial.most, "{:?}", trial.words);
+            assert!(rt; call > trial.calls, "{:?}", trial.words);
             return Ok(());
         };
-        assert!(rt; most <= front, "{:?}, call {call}", doing.words);
+        assert!(rt; most <= front, "{:?}, call {call}", trial.words);
         most = front;
     }
     Err("always a disk fault")?
@@ -106,7 +106,7 @@ fn each_call_that_fails_leaves_whole_lines_and_a_disk_fault(rt: HostRuntime) -> 
         (&station, five, &[], false, round, 0, 8),
     ];
     for (words, script, old, is_of_second, lines, most, calls) in rows {
-        let doing = Doing {
+        let trial = Trial {
             words,
             script,
             old,
@@ -115,7 +115,7 @@ fn each_call_that_fails_leaves_whole_lines_and_a_disk_fault(rt: HostRuntime) -> 
             most,
             calls,
         };
-        cut(&rt, alloc, &doing)?;
+        cut(&rt, alloc, &trial)?;
     }
     Ok(())
 }
