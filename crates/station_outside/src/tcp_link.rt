@@ -122,7 +122,7 @@ fn left(clock: &impl Clock, begun: Instant, millis: u64) -> io::Result<Duration>
     Ok(left.max(Duration::from_millis(LEAST)))
 }
 
-// Says all of the bytes.
+// Says all of the bytes. What is left once the time has passed is not said.
 fn say(clock: &impl Clock, stream: &mut Option<TcpStream>, bytes: &[u8]) -> io::Result<()> {
     let stream = connected(stream)?;
     let begun = Instant::now(clock)?;
@@ -130,6 +130,9 @@ fn say(clock: &impl Clock, stream: &mut Option<TcpStream>, bytes: &[u8]) -> io::
     for _ in 0..u64::MAX {
         if at == bytes.len() {
             return Ok(());
+        }
+        if begun.elapsed(clock)? >= Duration::from_millis(SAYING) {
+            break;
         }
         stream.set_write_timeout(Some(left(clock, begun, SAYING)?))?;
         let count = match understand(stream.write(&bytes[at..])) {
