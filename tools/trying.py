@@ -1,0 +1,148 @@
+"""Cases over a built program, for try_disk.py and try_line.py: each passes, fails, or is left out on this machine."""
+import os
+import shutil
+import signal
+import subprocess
+import sys
+import tempfile
+import time
+from concurrent.futures import ThreadPoolExecutor
+from contextlib import suppress
+from pathlib import Path
+from typing import NamedTuple
+
+LONGEST = 30  # seconds that one run may take
+AT_ONCE = 0.25  # seconds in which what does not wait is done
+SLACK = 0.25  # the part of a time by which it may be missed
+MOST_TEXT = 500  # characters of what was in the way of a case
+TRIES = 3  # how often a case that missed a time is tried, since other processes may have been in its way
+
+
+class LeftOut(Exception):
+    """Why a case cannot be run here."""
+
+
+class Differs(Exception):
+    """What was seen in place of what is wanted."""
+
+
+class Missed(Differs):
+    """Which time was missed."""
+
+
+class Ended(NamedTuple):
+    """How a run ended."""
+    status: int
+    printed: str
+
+
+class Run:
+    """A run of the program, which has begun. Neither it nor what it runs under outlives its `with`."""
+
+    def __init__(self, command, folder, **options):
+        self.began = time.monotonic()
+        self.process = subprocess.Popen(command, cwd=folder, stdout=subprocess.PIPE, start_new_session=True, **options)
+
+    def __enter__(self):
+        return self
+
+    def __exit__(self, *_):
+        with suppress(ProcessLookupError):
+            os.killpg(self.process.pid, signal.SIGKILL)
+        self.process.communicate()
+
+    def seconds(self):
+        """How long ago it began."""
+        return time.monotonic() - self.began
+
+    def end(self):
+        """Waits for its end, and gives its status and what it printed."""
+        try:
+            printed, _ = self.process.communicate(timeout=LONGEST)
+        except subprocess.TimeoutExpired:
+            raise Differs(f"it still runs after {self.seconds():.0f} s") from None
+        return Ended(self.process.returncode, printed.decode())
+
+
+class Program:
+    """A built program, and the folder in which a case runs it."""
+
+    def __init__(self, path, folder):
+        self.path = path
+        self.folder = folder
+
+    def write(self, name, data):
+        """Makes a file in its folder."""
+        (self.folder / name).write_bytes(data.encode() if isinstance(data, str) else data)
+
+    def read(self, name):
+        """The bytes of a file in its folder."""
+        return (self.folder / name).read_bytes()
+
+    def start(self, words, under=(), **options):
+        """Begins a run with the words of a text, under another command if one is given."""
+        return Run([*under, self.path, *words.split()], self.folder, **options)
+
+    def run(self, words, **options):
+        """Runs it to its end."""
+        with self.start(words, **options) as run:
+            return run.end()
+
+
+def hold(what, seen, wanted):
+    """Holds what was seen against what is wanted."""
+    if seen != wanted:
+        raise Differs(f"{what}: {seen!r}, in place of {wanted!r}")
+
+
+def hold_seconds(what, seconds, wanted):
+    """Holds a time against the one that is wanted, within a quarter."""
+    if abs(seconds - wanted) > max(SLACK * wanted, AT_ONCE):
+        raise Missed(f"{what}: {seconds:.2f} s, in place of {wanted:.2f} s")
+
+
+def need(*command):
+    """Leaves a case out where a command is missing, or fails when it is tried with these words."""
+    if shutil.which(command[0]) is None:
+        raise LeftOut(f"{command[0]} is missing")
+    if subprocess.run(command, capture_output=True, check=False).returncode != 0:
+        raise LeftOut(f"{command[0]} is refused")
+
+
+def try_once(path, case):
+    """Tries a case in a folder of its own; gives what was in its way, or nothing."""
+    with tempfile.TemporaryDirectory() as folder:
+        try:
+            case(Program(path, Path(folder)))
+        except Exception as reason:  # whatever it is, the other cases go on
+            return reason
+    return None
+
+
+def try_case(path, case):
+    """Tries a case, also again; gives what was in its way at last, or nothing."""
+    for _ in range(TRIES):
+        reason = try_once(path, case)
+        if not isinstance(reason, Missed):
+            break
+    return reason
+
+
+def try_all(words, usage, cases, at_once):
+    """Tries the cases, so many at once, over the program of the command line; gives the status."""
+    if len(words) != 2:
+        sys.exit(usage)
+    path = str(Path(words[1]).resolve())
+    with ThreadPoolExecutor(at_once) as pool:
+        tried = {case: pool.submit(try_case, path, case) for case in cases}
+    passed = failed = 0
+    for case, future in tried.items():
+        reason = future.result()
+        if reason is None:
+            passed += 1
+            continue
+        failed += not isinstance(reason, LeftOut)
+        answer = "left out" if isinstance(reason, LeftOut) else "failed"
+        print(f"{case.__name__} {answer}: {reason!r:.{MOST_TEXT}}", file=sys.stderr)
+    print(f"{passed} passed, {failed} failed")
+    return 1 if failed else 0
