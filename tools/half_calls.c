@@ -11,18 +11,10 @@ static size_t half(size_t count) {
     return count - count / 2;
 }
 
-ssize_t pread64(int file, void *into, size_t count, off_t at) {
+ssize_t pread(int file, void *into, size_t count, off_t at) {
     return syscall(SYS_pread64, file, into, half(count), at);
 }
 
-ssize_t pwrite64(int file, const void *from, size_t count, off_t at) {
-    return syscall(SYS_pwrite64, file, from, half(count), at);
-}
-
-ssize_t pread(int file, void *into, size_t count, off_t at) {
-    return pread64(file, into, count, at);
-}
-
 ssize_t pwrite(int file, const void *from, size_t count, off_t at) {
-    return pwrite64(file, from, count, at);
+    return syscall(SYS_pwrite64, file, from, half(count), at);
 }
