@@ -3,10 +3,10 @@
 
     jofitrana report weather.archive rows 2024-01-01 2024-12-31 | jofitrana-export --zone Europe/Berlin weather.csv
 
-The configuration is weather.conf then. Stamps are the console's own civil time. With `--zone` each row has its time in
-UTC besides. A row in the hour that the end of summer time doubles could be of either time, and one in the hour that its
+The configuration is weather.conf then. Neither file may be there already. Stamps are the console's own civil time. With
+`--zone` each row has its time in UTC besides. A row in the hour that the end of summer time doubles could be of either time, and one in the hour that its
 beginning leaves out of none: each such row is named on standard error and left out.
-Statuses: 0, 1 where the input has no rows or a file cannot be written, 2 where the words are out of form, 3 where rows
+Statuses: 0, 1 if the input has no rows or a file is there or cannot be written, 2 if the words are out of form, 3 if rows
 were left out.
 """
 import argparse
@@ -96,7 +96,7 @@ def told(rows, zone):
 def write_table(name, rows, names, zone):
     """Writes the rows as CSV, a value that is missing as nothing."""
     heads = [*times(rows[0].stamp, zone), INTERVAL, *map(column, names)] if rows else []
-    with open(name, 'w', encoding='utf-8', newline='') as file:
+    with open(name, 'x', encoding='utf-8', newline='') as file:
         table = csv.DictWriter(file, heads, restval='', lineterminator='\n')
         table.writeheader()
         for row in rows:
@@ -111,9 +111,16 @@ def write_configuration(name, table, names, zone):
     entries += [(OTHER_NAMES.get(field, field), column(field), row_lines.unit_of(field))
                 for field in names if field not in WITHOUT_PLACE]
     mapped = ''.join(ENTRY.format(name=name, column=column, unit=unit) for name, column, unit in entries)
-    with open(name, 'w', encoding='utf-8') as file:
+    with open(name, 'x', encoding='utf-8') as file:
         file.write(CONFIGURATION.format(file=os.path.abspath(table), conf=os.path.abspath(name), map=mapped,
                                         has_uv='UV' in names, has_sun='radiation' in names))
+
+
+def refuse_taken(names):
+    """Ends if a file of one of these names is there, since it would be written over."""
+    for name in names:
+        if os.path.lexists(name):
+            sys.exit(f'export: {name} is there already: nothing was written. Move it away, or choose another name')
 
 
 def table_name(name):
@@ -137,12 +144,14 @@ def main():
     words.add_argument('--zone', type=zone_named, help="the console's time zone, as Europe/Berlin")
     words.add_argument('--bucket', choices=row_lines.BUCKETS, default='0.01in', help='a click of the rain bucket')
     chosen = words.parse_args()
+    configuration = chosen.table.removesuffix('.csv') + '.conf'
+    refuse_taken([chosen.table, configuration])
     try:
         rows = row_lines.read_rows(sys.stdin, chosen.bucket)
         kept = told(rows, chosen.zone)
         names = [name for name in row_lines.FIELDS if any(name in row.values for row in kept)]
         write_table(chosen.table, kept, names, chosen.zone)
-        write_configuration(chosen.table.removesuffix('.csv') + '.conf', chosen.table, names, chosen.zone)
+        write_configuration(configuration, chosen.table, names, chosen.zone)
     except (row_lines.NotRows, OSError) as trouble:
         sys.exit(f'export: {trouble}')
     sys.exit(0 if len(kept) == len(rows) else LEFT_OUT)

@@ -77,8 +77,16 @@ outHumidity (percent),windSpeed (mile_per_hour),windGust (mile_per_hour),windDir
 2024-07-01 00:10,5,,,,0,,,,6,
 2024-07-01 00:25,5,64,,,0.01,29.93,,,5," cat table.csv
 expect 'a configuration' 0 9 grep -c 'source_field = ' table.conf
+expect 'an export to a table that is there' 1 'export: table.csv is there already: *' on summer "$tools/export.py" table.csv
+rm table.csv
+expect 'an export to a configuration that is there' 1 'export: table.conf is there already: *' \
+    on summer "$tools/export.py" table.csv
+expect 'a configuration that is kept' 0 9 grep -c 'source_field = ' table.conf
+expect 'no table beside it' 1 '' [ -e table.csv ]
+rm table.conf
 expect 'an export of small clicks' 0 '' on rows "$tools/export.py" --bucket 0.2mm table.csv
 expect 'two small clicks' 0 '*,65.1,65.5,-4.8,0.015748,29.921,*' cat table.csv
+rm table.*
 expect 'an export over both ends of summer time' 3 "\
 export: left out: 2024-03-31 02:30 does not come in Europe/Berlin
 export: left out: 2024-10-27 02:30 comes twice in Europe/Berlin" on summer "$tools/export.py" --zone Europe/Berlin table.csv
@@ -87,43 +95,115 @@ stamp,time (UTC),time (unix_epoch),interval (minute),outTemp (degree_F)
 2024-03-31 01:55,2024-03-31T00:55:00Z,1711846500,5,50
 2024-10-27 01:55,2024-10-26T23:55:00Z,1729986900,5,50.2
 2024-10-27 03:00,2024-10-27T02:00:00Z,1729994400,5,50.4" cat table.csv
+rm table.*
 expect 'an export of a refusal' 1 'export: the program said: disk fault' on refusal "$tools/export.py" table.csv
 expect 'a zone that is none' 2 '*Nowhere is no time zone*' on rows "$tools/export.py" --zone Nowhere table.csv
 
+# A program that reports the rows of the file `listed`, and answers a task by the file of its words in the folder `answers`.
 cat >program <<'PROGRAM'
 #!/bin/sh
-[ ! -e refused ] || { echo 'damaged at 352'; exit 11; }
-awk -v first="$4" -v last="$5" '$2 >= first && $2 <= last' listed
+case $1 in
+    report)
+        [ ! -e refused ] || { echo 'damaged at 352'; exit 11; }
+        awk -v first="$4" -v last="$5" '$2 >= first && $2 <= last' listed
+        ;;
+    task)
+        address=$2
+        shift 2
+        answer=$(cat "answers/$*" 2>/dev/null) || answer='link fault'
+        echo "$answer"
+        echo "$address $*" >>asked
+        case $answer in 'link fault') exit 6 ;; 'task '*) exit 4 ;; flood) exit 13 ;; esac
+        ;;
+esac
 PROGRAM
 chmod +x program
+mkdir answers
 export TZ=UTC
 
-# Prints the rows of a day, of which the last is so many minutes old.
-a_day() {
+# Prints rows of so many minutes each, of which the last is so many minutes old. The third word is how many.
+some_rows() {
     local now ago
     now=$(date '+%F %H:%M')
-    for ago in {287..0}; do printf '%s UTC %+d minutes\n' "$now" $((-5 * ago - $1)); done | date -f - '+row %F %H:%M 5 rain=0'
+    for ((ago = $3 - 1; ago >= 0; ago--)); do
+        printf '%s UTC %+d minutes\n' "$now" $((-$1 * ago - $2))
+    done | date -f - "+row %F %H:%M $1 rain=0"
 }
 
-a_day 3 >listed
-expect 'a whole day' 0 'JOFITRANA OK - last row * [34] minutes ago; the day up to it lacks 0 rows | age=* lacking=0' \
-    "$tools/check.sh" -p ./program a
+# Runs the check on the rows that are listed.
+check() {
+    "$tools/check.sh" -p ./program "$@"
+}
+
+some_rows 5 3 290 >listed
+expect 'a whole day' 0 'JOFITRANA OK - last row * [34] minutes ago; the day up to it lacks 0 rows | age=* lacking=0' check a
 sed -i '100,104d' listed
-expect 'a day that lacks rows' 1 'JOFITRANA WARNING * lacks 5 rows *' "$tools/check.sh" -p ./program a
-expect 'other limits' 0 'JOFITRANA OK * lacks 5 rows *' "$tools/check.sh" -w 15,5 -p ./program a
-a_day 70 >listed
-expect 'an old row' 2 'JOFITRANA CRITICAL * 7[01] minutes ago*' "$tools/check.sh" -p ./program a
-a_day -30 >listed
-expect 'a row of the future' 1 'JOFITRANA WARNING * [23]? minutes ahead of the clock*' "$tools/check.sh" -p ./program a
+expect 'a day that lacks rows' 1 'JOFITRANA WARNING * lacks 5 rows *' check a
+expect 'other limits' 0 'JOFITRANA OK * lacks 5 rows *' check -w 15,5 a
+sed -i '100,120d' listed
+expect 'a day that lacks more' 2 'JOFITRANA CRITICAL * lacks 26 rows *' check a
+expect 'another critical limit' 1 'JOFITRANA WARNING * lacks 26 rows *' check -c 60,26 a
+some_rows 5 18 290 >listed
+expect 'a row that grows old' 1 'JOFITRANA WARNING * 1[89] minutes ago*' check a
+some_rows 5 70 290 >listed
+expect 'an old row' 2 'JOFITRANA CRITICAL * 7[01] minutes ago*' check a
+some_rows 30 80 50 >listed
+expect 'rows of half an hour, in time' 0 'JOFITRANA OK * 8[01] minutes ago; the day up to it lacks 0 rows *' check a
+some_rows 30 95 50 >listed
+expect 'rows of half an hour that grow old' 1 'JOFITRANA WARNING * 9[56] minutes ago*' check a
+some_rows 60 725 26 >listed
+expect 'old rows of an hour' 2 'JOFITRANA CRITICAL * 72[56] minutes ago*' check a
+some_rows 60 5 26 | sed '20,22d' >listed
+expect 'three rows of an hour that are lacking' 2 'JOFITRANA CRITICAL * lacks 3 rows *' check a
+some_rows 5 3 20 | sed '7d' >listed
+expect 'an archive that began today' 0 'JOFITRANA OK * lacks 1 rows *' check a
+some_rows 5 -4 290 >listed
+expect 'a row as of a clock that is a little ahead' 0 'JOFITRANA OK * [34] minutes ahead of the clock*' check a
+some_rows 5 -30 290 >listed
+expect 'a row of the future' 2 'JOFITRANA CRITICAL * [23]? minutes ahead of the clock*was set back*' check -w 99,9 -c 99,9 a
 cp rows listed
-expect 'a row of long ago' 2 'JOFITRANA CRITICAL - last row 2024-07-01 00:25,* lacks 285 rows *' \
-    "$tools/check.sh" -p ./program a
+expect 'a row of long ago' 2 'JOFITRANA CRITICAL - last row 2024-07-01 00:25,* lacks 2 rows *' check a
+
+some_rows 5 3 290 >listed
+printf 'period = 10\n' >ten.toml
+echo 05 >'answers/eeprom read 2D 1'
+date '+time %F %T' >answers/time
+expect 'a console as it has to be' 0 'JOFITRANA OK * lacks 0 rows | age=*' check --console there:1 a
+expect 'what it was asked' 0 $'there:1 time\nthere:1 eeprom read 2D 1' cat asked
+expect 'settings of another period' 2 '* a record every 5 minutes, and ten.toml has 10: *' \
+    check --settings ten.toml --console there:1 a
+echo 0a >'answers/eeprom read 2D 1'
+expect 'settings of its period' 0 'JOFITRANA OK *' check --settings ten.toml --console there:1 a
+expect 'rows of another period' 2 '* a record every 10 minutes, and the last row has 5: *' check --console there:1 a
+expect 'settings that are none' 3 '*rows cannot be read as settings' check --settings rows --console there:1 a
+expect 'no settings' 3 '*missing.toml cannot be read as settings' check --settings missing.toml --console there:1 a
+echo 05 >'answers/eeprom read 2D 1'
+date -d '9 minutes' '+time %F %T' >answers/time
+expect 'a console that is ahead' 1 'JOFITRANA WARNING *, [89] minutes ahead of this machine*' check --console there:1 a
+date -d '10 minutes ago' '+time %F %T' >answers/time
+expect 'a console that was set back' 2 'JOFITRANA CRITICAL *, before the last row: it was set back, *' check --console there:1 a
+some_rows 5 14 290 >listed
+expect 'a console that is behind' 1 'JOFITRANA WARNING *, 1[01] minutes behind this machine*' check --console there:1 a
+rm answers/time
+expect 'a console that does not answer' 1 'JOFITRANA WARNING *was asked for its time: link fault *' check --console there:1 a
+
+expect 'a zone that is none' 3 'JOFITRANA UNKNOWN - TZ=Europe/Nowhere is no time zone *' env TZ=Europe/Nowhere "$tools/check.sh" a
+expect 'a zone that is a folder' 3 'JOFITRANA UNKNOWN - TZ=Europe is no time zone *' env TZ=Europe "$tools/check.sh" a
+expect 'a zone that is a rule' 0 'JOFITRANA OK *' env TZ='<+00>-0' "$tools/check.sh" -p ./program a
+expect 'a zone of this system' 0 'JOFITRANA OK *' env TZ=Etc/UTC "$tools/check.sh" -p ./program a
+for name in a.toml a.env a.conf; do
+    expect "an archive of the name $name" 3 "JOFITRANA UNKNOWN - $name is named as settings are, *" check "$name"
+done
+expect 'an archive that is text' 3 'JOFITRANA UNKNOWN - rows holds text, *' check rows
 : >listed
-expect 'an archive without rows' 2 'JOFITRANA CRITICAL - a has no row' "$tools/check.sh" -p ./program a
+expect 'an archive without rows' 2 'JOFITRANA CRITICAL - a has no row' check a
 : >refused
-expect 'a damaged archive' 2 'JOFITRANA CRITICAL - a: damaged at 352' "$tools/check.sh" -p ./program a
+expect 'a damaged archive' 2 'JOFITRANA CRITICAL - a: damaged at 352' check a
+rm refused
 expect 'no program' 3 'JOFITRANA UNKNOWN - the program is missing: ./nowhere' "$tools/check.sh" -p ./nowhere a
-expect 'limits out of form' 3 'JOFITRANA UNKNOWN - usage: *' "$tools/check.sh" -w 5 a
+expect 'limits out of form' 3 'JOFITRANA UNKNOWN - usage: *' check -w 5 a
+expect 'an option that is none' 3 'JOFITRANA UNKNOWN - usage: *' check -x 5 a
+expect 'two archives' 3 'JOFITRANA UNKNOWN - usage: *' check a b
 
 mkdir -p prefix/bin
 expect 'what is installed' 0 '' "$tools/install.sh" install --prefix prefix --program ./program
