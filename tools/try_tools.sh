@@ -1,34 +1,74 @@
 #!/usr/bin/env bash
-# Tries chart, export and check, the units, and that what is installed is taken away again, on a handful of rows and with a
-# script in the program's place; and that no case of a table, and no wrong body, passes where it has to fail.
-# The last line is 'N passed, M failed', and the status is 1 where any failed.
+# Tries the tools beside the program, the units, and that what is installed is taken away again: on a handful of rows with a
+# script in the program's place, and with the program itself over modelled consoles. The last line is 'N passed, M failed',
+# and the status is 1 if any failed.
+#
+#     tools/try_tools.sh [PROGRAM]
+#
+# Without a program it is that of this checkout, which is built first if that is not done yet.
 set -u
 tools=$(cd "$(dirname "$0")" && pwd)
-work=$(mktemp -d)
-trap 'rm -rf "$work"' EXIT
-cd "$work" || exit 1
+# shellcheck source=tools/served_console.sh
+. "$tools/served_console.sh"
+prepare "${1-}"
 passed=0
-failed=0
 
-# Runs a command, and holds its status and output against the status and the pattern that are wanted.
-expect() {
-    local name=$1 wanted=$2 pattern=$3 output status
-    shift 3
-    output=$("$@" 2>&1)
-    status=$?
+# Whether a status and an output are the status and the pattern that are wanted.
+judge() {
     # shellcheck disable=SC2053  # it is a pattern
-    if [ "$status" = "$wanted" ] && [[ $output == $pattern ]]; then
+    if [ "$4" = "$2" ] && [[ $5 == $3 ]]; then
         passed=$((passed + 1))
     else
         failed=$((failed + 1))
-        echo "$name: status $status and '${output:0:300}', in place of $wanted and '${pattern:0:300}'" >&2
+        echo "$1: status $4 and '${5:0:800}', in place of $2 and '${3:0:300}'" >&2
     fi
 }
+
+# Runs a command, and holds its status and output against the status and the pattern that are wanted.
+expect() {
+    local output status
+    output=$("${@:4}" 2>&1)
+    status=$?
+    judge "$1" "$2" "$3" "$status" "$output"
+}
+
+# Starts a command that takes long. The first word is its name.
+begin() {
+    "${@:2}" >"$1.output" 2>&1 &
+    begun[$1]=$!
+    started+=($!)
+}
+
+# Waits for the command of that name, and holds its status and output against what is wanted.
+expect_end() {
+    wait "${begun[$1]}"
+    judge "$1" "$2" "$3" "$?" "$(cat "$1.output")"
+}
+declare -A begun
 
 # Runs a command on the text of a file.
 on() {
     "${@:2}" <"$1"
 }
+
+# Starts a console of an odd kind under a name, and sets `port` to its port.
+odd_console() {
+    port=$(free_port)
+    start "$1" "$tools/fake_console.py" "${@:2}" "$port"
+    await "$1" listens "$port"
+}
+
+# Makes a round with a console whose clock was set back, and checks the archive.
+round_and_check() {
+    "$program" station settings.toml back.archive "$1"
+    "$tools/check.sh" -p "$program" --console "$1" back.archive
+}
+
+# These take some seconds each, in which the rest is tried.
+odd_console late --clock '2020-01-01 00:00' --byte 2B=10
+begin setup "$tools/setup.py" --program "$program" --set-clock --settings talk --archives talk roof "127.0.0.1:$port"
+odd_console back --clock '2024-10-27 02:30' --run '2024-10-27 01:00' 24 --run '2024-10-27 02:00' 24
+begin check round_and_check "127.0.0.1:$port"
 
 cat >rows <<'ROWS'
 row 2024-07-01 00:05 5 outTemp=651 highOutTemp=655 lowOutTemp=-48 rain=2 barometer=29921 outHumidity=48 windSpeed=3 windGust=7 windDir=4
@@ -110,11 +150,13 @@ case $1 in
     task)
         address=$2
         shift 2
+        echo "$address $*" >>asked
+        case $* in 'time set '*) set -- time set ;; esac
         answer=$(cat "answers/$*" 2>/dev/null) || answer='link fault'
         echo "$answer"
-        echo "$address $*" >>asked
         case $answer in 'link fault') exit 6 ;; 'task '*) exit 4 ;; flood) exit 13 ;; esac
         ;;
+    pages) [ ! -e refused ] || { echo 'settings bad period'; exit 2; } ;;
 esac
 PROGRAM
 chmod +x program
@@ -205,6 +247,135 @@ expect 'limits out of form' 3 'JOFITRANA UNKNOWN - usage: *' check -w 5 a
 expect 'an option that is none' 3 'JOFITRANA UNKNOWN - usage: *' check -x 5 a
 expect 'two archives' 3 'JOFITRANA UNKNOWN - usage: *' check a b
 
+# Prints the 29 bytes of a console's memory from 0x11 on, with summer time off and a period of five minutes, but for the
+# places that the words name, as 2D=0a.
+memory() {
+    local bytes=() place
+    for place in {1..29}; do bytes+=(00); done
+    for place in 12=01 2D=05 "$@"; do bytes[16#${place%=*}-16#11]=${place#*=}; done
+    (IFS= && echo "${bytes[*]}") >'answers/eeprom read 11 29'
+}
+
+# Runs setup for the station roof.
+set_up() {
+    "$tools/setup.py" --program ./program --settings etc --archives var "$@" roof there:1
+}
+
+rm -r answers
+mkdir answers var
+echo 'kind 16' >answers/kind
+echo 'time set' >'answers/time set'
+date '+time %F %T' >answers/time
+memory
+expect 'a first setup' 0 "First of all: switch the console's summer time off, and set its clock, before the first round.*\
+  A console answers at there:1, of kind 16.
+  It keeps a record every 5 minutes.
+  A click of its rain bucket is 0.01in: *
+  Its summer time is off, as it has to be.
+  Its zone is number 0 of its own list; this machine's is UTC+00:00 without summer time.
+  Its clock shows *, as this machine's does without summer time.
+  Written: etc/roof.toml
+  Written: etc/roof.env
+Now make the first round, by: sudo systemctl enable --now jofitrana@roof.timer" set_up
+expect 'its settings' 0 $'period = 5\nADDRESS=there:1\nTZ=<+00>-00' cat etc/roof.toml etc/roof.env
+expect 'a second setup' 0 $'*Kept as it is: etc/roof.toml\n  Kept as it is: etc/roof.env\nNow make *' set_up
+memory 2D=1e 2B=10
+expect 'a console of another period' 1 '*every 30 minutes.*0.2mm: *! etc/roof.toml has period = 5 in place of period = 30: *' set_up
+expect 'settings that are kept' 0 'period = 5' cat etc/roof.toml
+sed -i 's/there/here/' etc/roof.env
+expect 'another address' 1 '*! etc/roof.env has ADDRESS=here:1 in place of ADDRESS=there:1: *' set_up
+rm -r etc
+memory 2D=07 2B=30
+expect 'a period and a bucket that are none' 1 '*! Its period is 7 minutes, *! Its rain bucket is of a size *' set_up
+expect 'settings without a period' 0 '' cat etc/roof.toml
+rm -r etc
+memory 12=00 16=01 14=d8 15=ff
+expect 'summer time by itself, and a zone of its own' 1 \
+    '*! Summer time comes and goes by itself: *Its zone is UTC-00:24; this*See to each line with ! above*' set_up
+memory 13=01 11=15
+expect 'summer time by hand, and a zone of the list' 1 '*! Summer time is switched on: *Its zone is number 21 of *' set_up
+memory
+echo 'kind 17' >answers/kind
+expect 'a console of another kind' 1 '*, of kind 17.*! A Vantage Pro or Pro2 has kind 16.*' set_up
+echo 'kind 16' >answers/kind
+
+: >asked
+date -d '9 hours' '+time %F %T' >answers/time
+expect 'a clock that is ahead' 1 \
+    '*! Its clock shows *, 9 hours ahead of *Set it before *--set-clock roof there:1*' set_up
+expect 'no clock is set unasked' 1 0 grep -c 'time set' asked
+expect 'a clock that is set' 1 "*Its clock was set to this machine's time*" set_up --set-clock
+expect 'to what it is set' 0 "there:1 time set $(date -d '4 seconds' +%F' '%H):*" grep 'time set' asked
+head -c 178 /dev/zero >var/roof.archive
+some_rows 5 3 9 >listed
+: >asked
+expect 'a clock that was to be set after a round' 1 '*! Its clock is not set: var/roof.archive has rows, *' set_up --set-clock
+expect 'no clock is set after a round' 1 0 grep -c 'time set' asked
+expect 'a clock that is ahead after a round' 1 '*9 hours ahead of *Leave it as it is: *' set_up
+cp rows listed
+date -d '9 minutes ago' '+time %F %T' >answers/time
+expect 'a clock that is behind after a round' 1 '*, 9 minutes behind *To set it forward loses nothing: *' set_up
+some_rows 5 3 9 >listed
+expect 'a clock that was set back' 1 '*! Its clock shows *, before the last row of *: it was set back.*' set_up
+date '+time %F %T' >answers/time
+: >listed
+: >asked
+expect 'a clock that is set before any row' 0 '*Its clock was set*Now make *' set_up --set-clock
+: >refused
+expect 'an archive that is damaged' 1 '*! var/roof.archive: damaged at 352. See DIAGNOSTICS*' set_up
+rm var/roof.archive
+expect 'settings that are refused' 1 '*! The program refuses etc/roof.toml: settings bad period*' set_up
+rm refused
+expect 'the zone of a clock without summer time' 1 \
+    "*this machine's is UTC+05:30 *! etc/roof.env has TZ=<+00>-00 in place of TZ=<+0530>-05:30: *" env TZ=Asia/Kolkata \
+    "$tools/setup.py" --program ./program --settings etc --archives var roof there:1
+rm -r etc
+expect 'a clock in a zone with summer time' 1 '*UTC-05:00 without summer time.*5 hours ahead of *' env TZ=America/New_York \
+    "$tools/setup.py" --program ./program --settings etc --archives var roof there:1
+
+cat >etc/roof.toml <<'TOML'
+period = 5
+[calibration.rain]
+num = 11
+den = 14
+[calibration.windSpeed]
+num = 11
+den = 10
+[calibration.outTemp]
+num = 9
+den = 10
+[[change]]
+from = "2024-07-01 00:10"
+[change.calibration.UV]
+num = 9
+den = 10
+TOML
+expect 'settings that round values away' 1 "\
+*! etc/roof.toml: ?calibration.rain? loses small values for good, *
+  1 becomes 0, 2 becomes 1, 3 becomes 2. Take *
+! etc/roof.toml: ?calibration.windSpeed? changes no value below 10, *
+! etc/roof.toml: ?change.calibration.UV? loses small values for good, *
+  1 becomes 0, 2 becomes 1, 3 becomes 2. Take *
+  Kept as it is: etc/roof.toml*" set_up
+rm -r etc
+
+expect 'a folder that cannot be made' 1 '*! rows/etc: Not a directory. *' set_up --settings rows/etc
+for trouble in 'link fault/nobody answers at there:1' 'task asleep/somebody answers at there:1' 'flood/does not stop sending' \
+    "task bad check/the console answered 'task bad check' to: kind"; do
+    echo "${trouble%/*}" >answers/kind
+    expect "a console that ends as ${trouble%/*}" 1 "*! *${trouble#*/}*" set_up
+done
+expect 'nothing is written without an answer' 1 '' [ -e etc ]
+cp rows var/roof.archive
+expect 'an archive of setup that is text' 1 '*! var/roof.archive holds text, *' set_up
+expect 'a zone of setup that is none' 1 '*! TZ=Nowhere is no time zone *' env TZ=Nowhere "$tools/setup.py" roof there:1
+for name in roof.toml roof.env roof.conf roof.archive roof.timer a/b .roof -roof 'a b' a@b ''; do
+    expect "a station of the name '$name'" 2 '*usage: *' "$tools/setup.py" "$name" there:1
+done
+for address in there there: there:x 'there :1' "there:1'" ''; do
+    expect "the address '$address'" 2 '*usage: *' "$tools/setup.py" roof "$address"
+done
+
 mkdir -p prefix/bin
 expect 'what is installed' 0 '' "$tools/install.sh" install --prefix prefix --program ./program
 expect 'the program installed' 0 '' cmp program prefix/bin/jofitrana
@@ -218,9 +389,9 @@ expect 'a name that is taken' 1 'station: * nothing is changed' "$tools/install.
 expect 'a file of that name is kept' 0 '' cmp rows prefix/bin/jofitrana
 
 if command -v systemd-analyze >/dev/null; then
-    units=("$work/units/jofitrana@.service" "$work/units/jofitrana@.timer")
+    units=("$folder/units/jofitrana@.service" "$folder/units/jofitrana@.timer")
     mkdir units && cp "$tools"/../systemd/jofitrana@.* units
-    sed -i "s|^ExecStart=jofitrana |ExecStart=$work/program |" units/*
+    sed -i "s|^ExecStart=jofitrana |ExecStart=$folder/program |" units/*
     expect 'the units' 0 '' systemd-analyze verify --man=no --recursive-errors=no "${units[@]}"
     expect 'how far a round is shut in' 0 '*exposure level*' \
         systemd-analyze security --offline=true --threshold=20 "${units[0]}"
@@ -229,90 +400,15 @@ else
 fi
 if command -v systemd-sysusers >/dev/null; then
     expect 'the user of the rounds' 0 "*Creating user 'jofitrana'*" \
-        on "$tools/../systemd/jofitrana.conf" systemd-sysusers --dry-run --root="$work" -
+        on "$tools/../systemd/jofitrana.conf" systemd-sysusers --dry-run --root="$folder" -
 else
     echo 'systemd-sysusers is missing: no user was tried' >&2
 fi
 
-mkdir -p tree/tools tree/crates/a/{more-edits,must-fail,out} tree/crates/b/{more-edits,must-fail} bin
-cp "$tools/try_edits.sh" tree/tools
-printf '%s: causes\n' a b >tree/crates.txt
-: >tree/HANDLES
-: >tree/crates/b/must-fail/of_the_gate.edit
-cat >bin/rt <<'RT'
-#!/bin/sh
-[ "$*" = 'ci a' ] && [ -d .git ] && [ -e HANDLES ] && [ ! -e crates/a/out ] && [ ! -e crates/b/must-fail ] || exit 3
-[ ! -s crates/a/must-fail/x.edit ] || echo "rt: must-fail a/x.edit: $(cat crates/a/must-fail/x.edit)"
-exit "$(cat "$ENDED")"
-RT
-chmod +x bin/rt
-try_edits=(env PATH="$work/bin:$PATH" ENDED="$work/ended" tree/tools/try_edits.sh)
-
-while IFS='|' read -r said ended wanted pattern; do
-    echo "$ended" >ended
-    printf '%s' "$said" >tree/crates/a/more-edits/x.edit
-    expect "a wrong body of which rt says '$said' and ends with $ended" "$wanted" "*$pattern" "${try_edits[@]}" a
-done <<'SAYINGS'
-refused, as it must be|0|0|1 of 1 wrong bodies were refused
-refused, as it must be (only by a limit of the prover)|0|0|1 of 1 wrong bodies were refused
-refused, as it must be (only because a proof file names it)|0|1|a/x.edit: refused*0 of 1 wrong bodies were refused
-NOT REFUSED|1|1|a/x.edit: NOT REFUSED*0 of 1 wrong bodies were refused
-BAD EDIT|0|1|a/x.edit: BAD EDIT*0 of 1 wrong bodies were refused
-|0|1|a/x.edit: NOT TRIED*0 of 1 wrong bodies were refused
-refused, as it must be|1|1|rt ci ended with status 1*1 of 1 wrong bodies were refused
-SAYINGS
-expect 'a crate without wrong bodies' 2 'b has no wrong body in more-edits' "${try_edits[@]}" a b
-expect 'a crate that is none' 2 'c is no crate' "${try_edits[@]}" c
-
-cat >stand_in <<'PROGRAM'
-#!/usr/bin/env bash
-case $1 in
-    print) echo told ;;
-    fail) exit 1 ;;
-    keep) printf '\1\2' >kept ;;
-    call)
-        exec 3<>"/dev/tcp/${2%:*}/${2#*:}"
-        echo ask >&3
-        read -r answer <&3
-        echo "$answer"
-        ;;
-esac
-PROGRAM
-chmod +x stand_in
-
-# Runs a table of one case over the stand-in, which ends well unless a key says otherwise.
-try_case() {
-    printf '[[case]]\nname = "a case"\nstatus = 0\n%s\n' "$1" >table.toml
-    "$tools/try_rows.py" ./stand_in table.toml
-}
-
-called='words = "call {address}"
-prints = "yes\n"'
-expect 'a case that holds' 0 '1 passed, 0 failed' try_case $'words = "print"\nprints = "told\\n"'
-expect 'a case of a file' 0 '1 passed, 0 failed' try_case $'words = "keep"\nprints = ""\nleaves.kept = "0102"'
-expect 'a case of a line' 0 '1 passed, 0 failed' try_case "$called
-line = \"hears 'ask' 0a\nsays 'yes' 0a\""
-expect 'a case with another output' 1 $'*-said\n+told\n0 passed, 1 failed' try_case $'words = "print"\nprints = "said\\n"'
-expect 'a case with another status' 1 $'*\nstatus 1 in place of 0\n0 passed, 1 failed' try_case $'words = "fail"\nprints = ""'
-expect 'a case without its file' 1 $'*\nkept is missing\n0 passed, 1 failed' \
-    try_case $'words = "print"\nprints = "told\\n"\nleaves.kept = "0102"'
-expect 'a case with a file that it does not name' 1 $'*\nkept was made\n0 passed, 1 failed' \
-    try_case $'words = "keep"\nprints = ""'
-expect 'a case with another file' 1 '*kept has 2 bytes, expected 2; they differ from byte 1 on*0 passed, 1 failed' \
-    try_case $'words = "keep"\nprints = ""\nleaves.kept = "0103"'
-expect 'a case with another line' 1 '*heard 61 73 6b 0a, in place of 62 73 6b 0a*0 passed, 1 failed' try_case "$called
-line = \"hears 'bsk' 0a\nsays 'yes' 0a\""
-expect 'a case with more on its line' 1 '*heard 0a after the last step*0 passed, 1 failed' try_case "$called
-line = \"hears 'ask'\nsays 'yes' 0a\""
-expect 'a case with a line that is not quiet' 1 '*in place of 1 quiet waits*0 passed, 1 failed' try_case "$called
-line = \"quiet 1\nhears 'ask' 0a\nsays 'yes' 0a\""
-expect 'a case that calls' 1 '*a call that the case does not have*0 passed, 1 failed' try_case "$called
-line = \"uncalled\""
-expect 'a case with a key that is none' 1 '*no key of a case: print*' try_case $'words = "print"\nprints = ""\nprint = ""'
-: >table.toml
-expect 'a table without a case' 1 '0 passed, 0 failed' "$tools/try_rows.py" ./stand_in table.toml
-
 expect 'the schedule of the stormy week' 0 '' cmp <(python3 "$tools/make_week.py") "$tools/../examples/week.schedule"
+
+expect_end setup 0 "*Its clock was set to this machine's time*Its clock shows *, as this machine's does*Now make *"
+expect_end check 2 $'round ok attempts 1 pages 10 skipped 0 acked 36 rows 36\nJOFITRANA CRITICAL *, before the last row: *'
 
 echo "$passed passed, $failed failed"
 [ "$failed" = 0 ]

@@ -1,0 +1,107 @@
+#!/usr/bin/env bash
+# Tries that no wrong body passes try_edits.sh unless it was refused, with a script in rt's place, and that a case of a table
+# fails where it has to, with one in the program's place. The last line is 'N passed, M failed', and the status is 1 if any
+# failed.
+set -u
+tools=$(cd "$(dirname "$0")" && pwd)
+work=$(mktemp -d)
+trap 'rm -rf "$work"' EXIT
+cd "$work" || exit 1
+passed=0
+failed=0
+
+# Runs a command, and compares its status and output with the status and the pattern that are wanted.
+expect() {
+    local name=$1 wanted=$2 pattern=$3 output status
+    shift 3
+    output=$("$@" 2>&1)
+    status=$?
+    # shellcheck disable=SC2053  # it is a pattern
+    if [ "$status" = "$wanted" ] && [[ $output == $pattern ]]; then
+        passed=$((passed + 1))
+    else
+        failed=$((failed + 1))
+        echo "$name: status $status and '${output:0:300}', in place of $wanted and '${pattern:0:300}'" >&2
+    fi
+}
+
+mkdir -p tree/tools tree/crates/a/{more-edits,must-fail,out} tree/crates/b/{more-edits,must-fail} bin
+cp "$tools/try_edits.sh" tree/tools
+printf '%s: causes\n' a b >tree/crates.txt
+: >tree/HANDLES
+: >tree/crates/b/must-fail/of_the_gate.edit
+cat >bin/rt <<'RT'
+#!/bin/sh
+[ "$*" = 'ci a' ] && [ -d .git ] && [ -e HANDLES ] && [ ! -e crates/a/out ] && [ ! -e crates/b/must-fail ] || exit 3
+[ ! -s crates/a/must-fail/x.edit ] || echo "rt: must-fail a/x.edit: $(cat crates/a/must-fail/x.edit)"
+exit "$(cat "$ENDED")"
+RT
+chmod +x bin/rt
+try_edits=(env PATH="$work/bin:$PATH" ENDED="$work/ended" tree/tools/try_edits.sh)
+
+while IFS='|' read -r said ended wanted pattern; do
+    echo "$ended" >ended
+    printf '%s' "$said" >tree/crates/a/more-edits/x.edit
+    expect "a wrong body of which rt says '$said' and ends with $ended" "$wanted" "*$pattern" "${try_edits[@]}" a
+done <<'SAYINGS'
+refused, as it must be|0|0|1 of 1 wrong bodies were refused
+refused, as it must be (only by a limit of the prover)|0|0|1 of 1 wrong bodies were refused
+refused, as it must be (only because a proof file names it)|0|1|a/x.edit: refused*0 of 1 wrong bodies were refused
+NOT REFUSED|1|1|a/x.edit: NOT REFUSED*0 of 1 wrong bodies were refused
+BAD EDIT|0|1|a/x.edit: BAD EDIT*0 of 1 wrong bodies were refused
+|0|1|a/x.edit: NOT TRIED*0 of 1 wrong bodies were refused
+refused, as it must be|1|1|rt ci ended with status 1*1 of 1 wrong bodies were refused
+SAYINGS
+expect 'a crate without wrong bodies' 2 'b has no wrong body in more-edits' "${try_edits[@]}" a b
+expect 'a crate that is none' 2 'c is no crate' "${try_edits[@]}" c
+
+cat >stand_in <<'PROGRAM'
+#!/usr/bin/env bash
+case $1 in
+    print) echo told ;;
+    fail) exit 1 ;;
+    keep) printf '\1\2' >kept ;;
+    call)
+        exec 3<>"/dev/tcp/${2%:*}/${2#*:}"
+        echo ask >&3
+        read -r answer <&3
+        echo "$answer"
+        ;;
+esac
+PROGRAM
+chmod +x stand_in
+
+# Runs a table of one case over the stand-in, which ends well unless a key says otherwise.
+try_case() {
+    printf '[[case]]\nname = "a case"\nstatus = 0\n%s\n' "$1" >table.toml
+    "$tools/try_rows.py" ./stand_in table.toml
+}
+
+called='words = "call {address}"
+prints = "yes\n"'
+expect 'a case that holds' 0 '1 passed, 0 failed' try_case $'words = "print"\nprints = "told\\n"'
+expect 'a case of a file' 0 '1 passed, 0 failed' try_case $'words = "keep"\nprints = ""\nleaves.kept = "0102"'
+expect 'a case of a line' 0 '1 passed, 0 failed' try_case "$called
+line = \"hears 'ask' 0a\nsays 'yes' 0a\""
+expect 'a case with another output' 1 $'*-said\n+told\n0 passed, 1 failed' try_case $'words = "print"\nprints = "said\\n"'
+expect 'a case with another status' 1 $'*\nstatus 1 in place of 0\n0 passed, 1 failed' try_case $'words = "fail"\nprints = ""'
+expect 'a case without its file' 1 $'*\nkept is missing\n0 passed, 1 failed' \
+    try_case $'words = "print"\nprints = "told\\n"\nleaves.kept = "0102"'
+expect 'a case with a file that it does not name' 1 $'*\nkept was made\n0 passed, 1 failed' \
+    try_case $'words = "keep"\nprints = ""'
+expect 'a case with another file' 1 '*kept has 2 bytes, expected 2; they differ from byte 1 on*0 passed, 1 failed' \
+    try_case $'words = "keep"\nprints = ""\nleaves.kept = "0103"'
+expect 'a case with another line' 1 '*heard 61 73 6b 0a, in place of 62 73 6b 0a*0 passed, 1 failed' try_case "$called
+line = \"hears 'bsk' 0a\nsays 'yes' 0a\""
+expect 'a case with more on its line' 1 '*heard 0a after the last step*0 passed, 1 failed' try_case "$called
+line = \"hears 'ask'\nsays 'yes' 0a\""
+expect 'a case with a line that is not quiet' 1 '*in place of 1 quiet waits*0 passed, 1 failed' try_case "$called
+line = \"quiet 1\nhears 'ask' 0a\nsays 'yes' 0a\""
+expect 'a case that calls' 1 '*a call that the case does not have*0 passed, 1 failed' try_case "$called
+line = \"uncalled\""
+expect 'a case with a key that is none' 1 '*no key of a case: print*' try_case $'words = "print"\nprints = ""\nprint = ""'
+: >table.toml
+expect 'a table without a case' 1 '0 passed, 0 failed' "$tools/try_rows.py" ./stand_in table.toml
+
+echo "$passed passed, $failed failed"
+[ "$failed" = 0 ]
