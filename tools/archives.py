@@ -5,7 +5,6 @@ import subprocess
 SETTINGS_ENDS = ('.toml', '.env', '.conf')
 FIRST_DAY, LAST_DAY = '1999-12-31', '2127-12-31'
 TEXT_BYTES = 512  # as many are looked at, of which an archive has zeros among the first nine
-DISK_FAULT = 7
 MISSING = 127
 
 
@@ -28,14 +27,23 @@ def refusal_of(name):
 
 
 def run(program, *words):
-    """What the program prints for these words, as lines, and its status."""
+    """The last line that the program prints for these words, or else what it ended with, and its status."""
     try:
         ran = subprocess.run([program, *words], stdout=subprocess.PIPE, text=True, check=False)
     except OSError:
-        return [f'the program is missing: {program}'], MISSING
-    return ran.stdout.splitlines(), ran.returncode
+        return f'the program is missing: {program}', MISSING
+    lines = ran.stdout.splitlines() or [f'status {ran.returncode}']
+    return lines[-1], ran.returncode
 
 
 def rows_of(program, name):
-    """The row lines of an archive as the program reports them, and its status."""
-    return run(program, 'report', name, 'rows', FIRST_DAY, LAST_DAY)
+    """How many lines the program prints of an archive's rows, the last of them, and its status."""
+    words = [program, 'report', name, 'rows', FIRST_DAY, LAST_DAY]
+    count, last = 0, ''
+    try:
+        with subprocess.Popen(words, stdout=subprocess.PIPE, text=True) as ran:
+            for last in ran.stdout:
+                count += 1
+    except OSError:
+        return 0, f'the program is missing: {program}', MISSING
+    return count, last.rstrip('\n') or f'status {ran.returncode}', ran.returncode

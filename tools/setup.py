@@ -128,8 +128,7 @@ class Station:
 
     def ask(self, *words):
         """What the console answers to a task. Ends if it gives no answer."""
-        lines, status = archives.run(self.program, 'task', self.address, *words)
-        line = lines[-1] if lines else f'status {status}'
+        line, status = archives.run(self.program, 'task', self.address, *words)
         if status == 0:
             return line
         self.report.trouble(ANSWERS.get(line, "the console answered '{line}' to: {words}. Try once more.").format(
@@ -140,11 +139,11 @@ class Station:
         """The stamp of the archive's last row, if a round was made. Ends if the archive cannot be read."""
         if not os.path.exists(self.archive) or os.path.getsize(self.archive) <= SHORT_FILE:
             return None
-        lines, status = archives.rows_of(self.program, self.archive)
+        count, line, status = archives.rows_of(self.program, self.archive)
         if status:
-            self.report.trouble(f'{self.archive}: {lines[-1] if lines else status}. See DIAGNOSTICS in: man jofitrana')
+            self.report.trouble(f'{self.archive}: {line}. See DIAGNOSTICS in: man jofitrana')
             sys.exit(1)
-        return datetime.strptime(' '.join(lines[-1].split(' ')[1:3]), '%Y-%m-%d %H:%M') if lines else None
+        return datetime.strptime(' '.join(line.split(' ')[1:3]), '%Y-%m-%d %H:%M') if count else None
 
 
 def look_at_kind(station, report):
@@ -285,9 +284,9 @@ def look_at_settings(station, period, report):
     """Writes the settings, or compares those that are there with the console and looks through them."""
     settings = None
     if os.path.exists(station.settings):
-        lines, status = archives.run(station.program, 'pages', station.settings, os.devnull)
+        line, status = archives.run(station.program, 'pages', station.settings, os.devnull)
         if status:
-            report.trouble(f'The program refuses {station.settings}: {lines[-1] if lines else status}')
+            report.trouble(f'The program refuses {station.settings}: {line}')
             return
         try:
             with open(station.settings, 'rb') as file:

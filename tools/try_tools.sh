@@ -69,6 +69,7 @@ odd_console late --clock '2020-01-01 00:00' --byte 2B=10
 begin setup "$tools/setup.py" --program "$program" --set-clock --settings talk --archives talk roof "127.0.0.1:$port"
 odd_console back --clock '2024-10-27 02:30' --run '2024-10-27 01:00' 24 --run '2024-10-27 02:00' 24
 begin check round_and_check "127.0.0.1:$port"
+begin salvage "$tools/try_salvage.py" "$program"
 
 cat >rows <<'ROWS'
 row 2024-07-01 00:05 5 outTemp=651 highOutTemp=655 lowOutTemp=-48 rain=2 barometer=29921 outHumidity=48 windSpeed=3 windGust=7 windDir=4
@@ -376,6 +377,54 @@ for address in there there: there:x 'there :1' "there:1'" ''; do
     expect "the address '$address'" 2 '*usage: *' "$tools/setup.py" roof "$address"
 done
 
+# Runs salvage with the program itself.
+salvage() {
+    "$tools/salvage.py" --program "$program" "$@"
+}
+
+PYTHONPATH=$tools python3 -c 'import sys, try_salvage
+sys.stdout.buffer.write(try_salvage.Image(try_salvage.made_rows()).bytes)' >whole.archive
+head -c 8000 whole.archive >cut.archive
+cp cut.archive cut.kept
+expect 'an archive that is whole' 0 $'salvage: whole.archive is not damaged\nsalvage: copy.archive has its first 26 rows, *' \
+    salvage whole.archive copy.archive
+expect 'its copy' 0 '' cmp whole.archive copy.archive
+expect 'an archive that is cut' 0 "\
+row 2024-07-02 00:40 5 outTemp=361 rain=0 *
+row 2024-07-02 00:45 5 outTemp=3758 rain=101 *
+row 2024-07-03 10:05 5 outTemp=0 rain=0 *
+salvage: cut.archive is damaged at 5104
+salvage: new.archive has its first 15 rows, the last of 2024-07-02 00:35
+salvage: 3 rows behind them can be read. They are printed, and may be wrong: new.archive has none of them
+salvage: the other rows behind them are missing. The next round with new.archive adds what the console still has:
+salvage: the records later than the last row, out of its last 2,560" salvage cut.archive new.archive
+expect 'what was made of it' 0 15 grep -c . <("$program" report new.archive rows 2024-07-01 2024-07-31)
+expect 'an archive to make that is there' 1 'salvage: new.archive is there already' salvage cut.archive new.archive
+expect 'an archive to make that is the damaged one' 1 'salvage: cut.archive is there already' salvage cut.archive cut.archive
+expect 'a damaged archive is only read' 0 '' cmp cut.archive cut.kept
+rm new.archive
+: >refused
+expect 'an archive that the program refuses' 1 'salvage: the program does not take new.archive, *: damaged at 352' \
+    "$tools/salvage.py" --program ./program cut.archive new.archive
+rm refused
+expect 'a program that reports other rows' 1 'salvage: the program does not take new.archive, *' \
+    "$tools/salvage.py" --program ./program cut.archive new.archive
+expect 'a salvage without the program' 1 '*: the program is missing: ./nowhere' \
+    "$tools/salvage.py" --program ./nowhere cut.archive new.archive
+expect 'an archive in another program' 1 'salvage: cut.archive is open in another program: *' \
+    flock -o cut.archive "$tools/salvage.py" --program "$program" cut.archive new.archive
+expect 'a damaged archive that is not there' 1 'salvage: missing.archive: No such file *' salvage missing.archive new.archive
+head -c 2000 /dev/zero >zeros.archive
+head -c 177 whole.archive >short.archive
+for name in zeros short; do
+    expect "an archive of $name" 1 "salvage: $name.archive has no row that can be read" salvage "$name.archive" new.archive
+done
+expect 'what is refused makes no archive' 1 '' [ -e new.archive ]
+expect 'a damaged archive that is text' 2 '*rows holds text, *' salvage rows new.archive
+for name in new.toml new.env new.conf; do
+    expect "an archive to make of the name $name" 2 "*$name is named as settings are, *" salvage cut.archive "$name"
+done
+
 mkdir -p prefix/bin
 expect 'what is installed' 0 '' "$tools/install.sh" install --prefix prefix --program ./program
 expect 'the program installed' 0 '' cmp program prefix/bin/jofitrana
@@ -409,6 +458,7 @@ expect 'the schedule of the stormy week' 0 '' cmp <(python3 "$tools/make_week.py
 
 expect_end setup 0 "*Its clock was set to this machine's time*Its clock shows *, as this machine's does*Now make *"
 expect_end check 2 $'round ok attempts 1 pages 10 skipped 0 acked 36 rows 36\nJOFITRANA CRITICAL *, before the last row: *'
+expect_end salvage 0 '* passed, 0 failed'
 
 echo "$passed passed, $failed failed"
 [ "$failed" = 0 ]

@@ -1,0 +1,305 @@
+#!/usr/bin/python3
+"""Makes a new archive of the whole batches before the damage of an archive (docs/FORMATS.md).
+
+    jofitrana-salvage [--program PROGRAM] OLD NEW >behind.rows
+
+OLD is only read. NEW must not be there. It is judged by the program at once, and taken away again if that refuses it.
+The rows behind the damage that can be read are printed as row lines. What was found goes to standard error.
+Statuses: 0 if NEW was made, 1 if not, 2 if the words are out of form.
+"""
+import argparse
+import fcntl
+import os
+import struct
+import sys
+from datetime import date, datetime, timedelta
+
+sys.dont_write_bytecode = True  # nothing is left beside an installed script
+import archives
+import rows as row_lines
+
+NAMES = list(row_lines.FIELDS)
+SLOT_BYTES = 176
+FIRST_HEAD, HEAD = b'DVARCH01', b'DVARCH02'
+EMPTY_BYTES = SLOT_BYTES + 1
+CLOSED = b'\0'
+MOST_SLOTS = 70  # of a batch
+ROW_KIND, SUMMARY_KIND = 1, 2
+PARTS, FIELDS_OF_PART = 13, 3  # of a day's summary
+PERIODS = (1, 5, 10, 15, 30, 60, 120)
+MOST_VALUE = 2_000_000
+CONSOLE_RECORDS = 2560
+MINUTE = timedelta(minutes=1)
+FIRST_OF_DAYS = date(1970, 1, 1)
+
+# Gate, kind, number of slots, date word, time word, interval, zero, presence, values, limited.
+ROW = struct.Struct(f'<BBHHHHHQ{len(NAMES)}iQ')
+# Gate, kind, number of slots, day, part, zeros, rows of the day, zeros; three entries and zeros follow.
+SUMMARY = struct.Struct('<BBHiB3sI8s')
+# Least and its stamp, greatest and its stamp, sum, count, weighted sum, seconds.
+ENTRY = struct.Struct('<iHHiHHqIqq')
+TIMES_OF_ENTRY = {*range(4, 8), *range(12, 16), *range(36, 44)}  # the bytes of both stamps and of the seconds
+BATCH_BYTES = {0, 2, 3}  # the gate and the number of slots, which a reading of a summary does not test
+
+
+class Damage(Exception):
+    """A slot that may not stand where it does."""
+
+    def __init__(self, place, doubtful=None):
+        super().__init__(place)
+        self.place = place
+        self.doubtful = doubtful  # the first place whose row may be wrong too, if there is one
+
+
+def stamp_of(date_word, time_word):
+    """The stamp of two words, if they name one."""
+    try:
+        return datetime(2000 + date_word // 512, date_word // 32 % 16, date_word % 32, time_word // 100, time_word % 100)
+    except ValueError:
+        return None
+
+
+def day_of(stamp):
+    """The day of a row: midnight is of the day that it ends."""
+    return (stamp - MINUTE).date()
+
+
+class Row:
+    """What a row slot holds."""
+
+    def __init__(self, stamp, words, interval, values, limited):
+        self.stamp, self.words, self.interval, self.values, self.limited = stamp, words, interval, values, limited
+
+    def line(self):
+        """The row's line, as the program prints it."""
+        cells = [f'{name}=limit' if self.limited >> place & 1 else f'{name}={value}'
+                 for place, (name, value) in enumerate(zip(NAMES, self.values))
+                 if value is not None or self.limited >> place & 1]
+        return ' '.join([f'row {self.stamp:%Y-%m-%d %H:%M} {self.interval}', *cells])
+
+
+def row_of(slot, opens_batch):
+    """The row of a slot, or none if it is ill-formed."""
+    gate, kind, count, date_word, time_word, interval, zero, presence, *values, limited = ROW.unpack(slot)
+    stamp = stamp_of(date_word, time_word)
+    known = (1 << len(NAMES)) - 1
+    well_formed = (kind == ROW_KIND and (opens_batch or gate == count == 0) and stamp and interval in PERIODS and zero == 0
+                   and (presence | limited) & ~known == 0 and presence & limited == 0
+                   and all(abs(value) <= MOST_VALUE and (value == 0 or presence >> place & 1)
+                           for place, value in enumerate(values)))
+    if not well_formed:
+        return None
+    present = tuple(value if presence >> place & 1 else None for place, value in enumerate(values))
+    return Row(stamp, (date_word, time_word), interval, present, limited)
+
+
+def entry(rows, place):
+    """What a summary keeps of the field at a place."""
+    there = [row for row in rows if place < len(NAMES) and row.values[place] is not None]
+    if not there:
+        return bytes(ENTRY.size)
+    values = [row.values[place] for row in there]
+    seconds = [60 * row.interval for row in there]
+    least, greatest = min(values), max(values)
+    return ENTRY.pack(least, *there[values.index(least)].words, greatest, *there[values.index(greatest)].words, sum(values),
+                      len(values), sum(value * each for value, each in zip(values, seconds)), sum(seconds))
+
+
+def summary_slot(rows, part):
+    """A slot of the summary of these rows, which are a day's."""
+    day = (day_of(rows[0].stamp) - FIRST_OF_DAYS).days
+    head = SUMMARY.pack(0, SUMMARY_KIND, 0, day, part, bytes(3), len(rows), bytes(8))
+    places = range(FIELDS_OF_PART * part, FIELDS_OF_PART * (part + 1))
+    return (head + b''.join(entry(rows, place) for place in places)).ljust(SLOT_BYTES, b'\0')
+
+
+def is_own_damage(slot, right):
+    """Whether a summary slot differs from the right one as only a byte of itself that was changed can make it.
+
+    A value of a row that was changed moves several numbers of the summary, and its stamp or its interval may move one.
+    """
+    differing = [place for place in range(SLOT_BYTES) if slot[place] != right[place] and place not in BATCH_BYTES]
+    if any(place < SUMMARY.size or place >= SUMMARY.size + FIELDS_OF_PART * ENTRY.size for place in differing):
+        return True
+    return len(differing) == 1 and (differing[0] - SUMMARY.size) % ENTRY.size not in TIMES_OF_ENTRY
+
+
+class Reading:
+    """The slots that were read so far, from the first on, and what the next one is judged by."""
+
+    def __init__(self, has_limited):
+        self.has_limited = has_limited  # an archive of the first version has none
+        self.last = None       # the last row
+        self.last_place = 0
+        self.day_rows = []     # the rows of its day
+        self.day_place = 0     # where they begin
+        self.parts = 0         # summary slots since the last row
+        self.count = 0         # rows
+
+    def take(self, slot, place, opens_batch):
+        """Takes the slot that stands at a place, or raises what is damaged."""
+        if slot[1] == SUMMARY_KIND:
+            self.take_summary(slot, place)
+        else:
+            self.take_row(row_of(slot, opens_batch), place)
+
+    def take_summary(self, slot, place):
+        """Takes a slot of a summary."""
+        if not self.last or self.parts == PARTS:
+            raise Damage(place)
+        right = summary_slot(self.day_rows, self.parts)
+        if slot[1:2] + slot[4:] != right[1:2] + right[4:]:
+            raise Damage(place, None if is_own_damage(slot, right) else self.day_place)
+        self.parts += 1
+
+    def take_row(self, row, place):
+        """Takes a row."""
+        if row is None or row.limited and not self.has_limited:
+            raise Damage(place)
+        if self.last and row.stamp <= self.last.stamp:
+            raise Damage(place, self.last_place)
+        is_later_day = bool(self.last) and day_of(row.stamp) > day_of(self.last.stamp)
+        if self.parts != (PARTS if is_later_day else 0):
+            raise Damage(place)
+        if is_later_day or not self.last:
+            self.day_rows, self.day_place = [], place
+        self.day_rows.append(row)
+        self.last, self.last_place, self.parts, self.count = row, place, 0, self.count + 1
+
+
+class Whole(Reading):
+    """The whole batches of a file before its damage."""
+
+    def __init__(self, file, size):
+        self.file, self.size = file, size
+        head = self.bytes_at(0, len(HEAD))
+        super().__init__(head != FIRST_HEAD)
+        self.ends = [(SLOT_BYTES, 0, None)]  # where a batch ends at which a log may end, the rows until there, and the last
+        self.damage = None if head in (FIRST_HEAD, HEAD) else 0
+
+    def bytes_at(self, place, count):
+        """So many bytes from a place on, or fewer at the end of the file."""
+        self.file.seek(place)
+        return self.file.read(count)
+
+    def read(self):
+        """Reads batch after batch until the closed gate, or the damage."""
+        place = SLOT_BYTES
+        try:
+            while True:
+                gate = self.bytes_at(place, 4)
+                if gate[:1] == CLOSED:
+                    return
+                place = self.read_batch(place, int.from_bytes(gate[2:4], 'little'))
+        except Damage as damage:
+            self.damage = damage.place
+            self.drop_from(place if damage.doubtful is None else damage.doubtful)
+
+    def read_batch(self, place, slots):
+        """Reads the batch at a place, and gives where it ends."""
+        end = place + SLOT_BYTES * slots
+        if not 1 <= slots <= MOST_SLOTS or end > self.size:
+            raise Damage(place)
+        batch = self.bytes_at(place, SLOT_BYTES * slots)
+        for at in range(0, len(batch), SLOT_BYTES):
+            self.take(batch[at:at + SLOT_BYTES], place + at, at == 0)
+        if self.parts == 0:
+            self.ends.append((end, self.count, self.last))
+        return end
+
+    def drop_from(self, place):
+        """Drops each batch that does not end at or before a place."""
+        while self.ends[-1][0] > place:
+            self.ends.pop()
+
+    def rows_behind(self):
+        """The rows behind the whole batches that can be read, whatever gates and numbers of slots say."""
+        for place in range(self.ends[-1][0], self.size - SLOT_BYTES + 1, SLOT_BYTES):
+            row = row_of(self.bytes_at(place, SLOT_BYTES), True)
+            if row:
+                yield row
+
+
+def say(text):
+    """Prints what was found."""
+    print(f'salvage: {text}', file=sys.stderr)
+
+
+def give_up(text):
+    """Prints why there is no NEW, and ends."""
+    sys.exit(f'salvage: {text}')
+
+
+def opened(name):
+    """A file that no other program writes, for reading, and its size."""
+    file = open(name, 'rb')
+    try:
+        fcntl.flock(file, fcntl.LOCK_SH | fcntl.LOCK_NB)
+    except BlockingIOError:
+        give_up(f'{name} is open in another program: wait until that is done')
+    return file, os.fstat(file.fileno()).st_size
+
+
+def write_new(name, whole, program):
+    """Writes the whole batches to a new file, and has the program judge it."""
+    end, count, _ = whole.ends[-1]
+    with open(name, 'xb') as new:
+        new.write(HEAD.ljust(SLOT_BYTES, b'\0'))
+        for place in range(SLOT_BYTES, end, SLOT_BYTES * MOST_SLOTS):
+            new.write(whole.bytes_at(place, min(SLOT_BYTES * MOST_SLOTS, end - place)))
+        new.write(CLOSED)
+        new.flush()
+        os.fsync(new.fileno())
+    found, line, status = archives.rows_of(program, name)
+    if status or found != count:
+        os.remove(name)
+        give_up(f'the program does not take {name}, which is taken away again: {line}')
+
+
+def report(whole, old, new):
+    """Prints the rows behind the whole batches, and what was found."""
+    _, count, last = whole.ends[-1]
+    behind = 0
+    for row in whole.rows_behind():
+        behind += 1
+        print(row.line())
+    sys.stdout.flush()
+    say(f'{old} is ' + ('not damaged' if whole.damage is None else f'damaged at {whole.damage}'))
+    say(f'{new} has its first {count} rows' + (f', the last of {last.stamp:%Y-%m-%d %H:%M}' if last else ''))
+    if whole.damage or behind:
+        say(f'{behind} rows behind them can be read. They are printed, and may be wrong: {new} has none of them')
+        say(f'the other rows behind them are missing. The next round with {new} adds what the console still has:')
+        say(f'the records later than the last row, out of its last {CONSOLE_RECORDS:,}')
+
+
+def archive_word(name):
+    """A name that an archive may have."""
+    refusal = archives.refusal_of(name)
+    if refusal:
+        raise argparse.ArgumentTypeError(refusal)
+    return name
+
+
+def main():
+    words = argparse.ArgumentParser(prog='jofitrana-salvage', description='Makes an archive of what is whole of a damaged one.')
+    words.add_argument('old', type=archive_word, metavar='OLD', help='the damaged archive, which is only read')
+    words.add_argument('new', type=archive_word, metavar='NEW', help='the archive to make, which must not be there')
+    words.add_argument('--program', default='jofitrana', help='the program that judges NEW')
+    chosen = words.parse_args()
+    try:
+        if os.path.lexists(chosen.new):
+            give_up(f'{chosen.new} is there already')
+        file, size = opened(chosen.old)
+        with file:
+            whole = Whole(file, size)
+            whole.read()
+            if size <= EMPTY_BYTES or not whole.ends[-1][1] and not any(whole.rows_behind()):
+                give_up(f'{chosen.old} has no row that can be read')
+            write_new(chosen.new, whole, chosen.program)
+            report(whole, chosen.old, chosen.new)
+    except OSError as fault:
+        give_up(f'{fault.filename}: {fault.strerror}')
+
+
+if __name__ == '__main__':
+    main()
