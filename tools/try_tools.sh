@@ -70,6 +70,8 @@ begin setup "$tools/setup.py" --program "$program" --set-clock --settings talk -
 odd_console back --clock '2024-10-27 02:30' --run '2024-10-27 01:00' 24 --run '2024-10-27 02:00' 24
 begin check round_and_check "127.0.0.1:$port"
 begin salvage "$tools/try_salvage.py" "$program"
+mkdir shown
+begin demo env TMPDIR="$folder/shown" "$tools/demo.sh" "$program"
 
 cat >rows <<'ROWS'
 row 2024-07-01 00:05 5 outTemp=651 highOutTemp=655 lowOutTemp=-48 rain=2 barometer=29921 outHumidity=48 windSpeed=3 windGust=7 windDir=4
@@ -459,6 +461,22 @@ expect 'the schedule of the stormy week' 0 '' cmp <(python3 "$tools/make_week.py
 expect_end setup 0 "*Its clock was set to this machine's time*Its clock shows *, as this machine's does*Now make *"
 expect_end check 2 $'round ok attempts 1 pages 10 skipped 0 acked 36 rows 36\nJOFITRANA CRITICAL *, before the last row: *'
 expect_end salvage 0 '* passed, 0 failed'
+expect_end demo 0 $'*
+\$ jofitrana console week.toml week.schedule 127.0.0.1:* 1000000 &
+*
+\$ jofitrana station week.toml week.archive 127.0.0.1:*
+round ok attempts 1 pages 513 skipped 0 acked 2560 rows 2560
+*
+\$ jofitrana report week.archive days *
+day 2024-10-11 outTemp *
+day 2024-10-20 outTemp min 427 at 2024-10-20 02:50 *
+*chart*'
+if /usr/bin/python3 -c 'import matplotlib' 2>/dev/null; then
+    expect 'the picture of the demo' 0 1 grep -ac PNG shown/jofitrana-demo.*/week.png
+fi
+expect 'a demo without the program' 1 'demo: the program is missing: ./nowhere' "$tools/demo.sh" ./nowhere
+expect 'a demo of a program that makes no round' 1 '*demo: the console does not serve; *' \
+    env TMPDIR="$folder/shown" "$tools/demo.sh" ./program
 
 echo "$passed passed, $failed failed"
 [ "$failed" = 0 ]
