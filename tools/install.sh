@@ -5,7 +5,7 @@
 #     tools/install.sh uninstall [--prefix DIR]
 #
 # tools/installed.txt lists what is copied. A note below the prefix has a line for each file that was copied, and for
-# each folder that was made for one.
+# each folder that was made for one. Install reports a prefix below which systemd finds no unit.
 set -u
 top=$(cd "$(dirname "$0")/.." && pwd)
 program=$top/crates/station_program/out/station_program
@@ -80,6 +80,14 @@ install_all() {
     [ -z "$failed" ] || fail "$prefix/$failed could not be installed; uninstall takes away what was"
 }
 
+# Reports that systemd finds neither the units nor the program, unless it looks below this prefix.
+report_units() {
+    case $(readlink -f "$prefix") in
+        /usr | /usr/local) ;;
+        *) echo "station: systemd finds no unit below $prefix: for rounds by its timer install below /usr/local" ;;
+    esac
+}
+
 command=${1-}
 [ $# = 0 ] || shift
 while [ $# -ge 2 ]; do
@@ -93,7 +101,10 @@ done
 [ $# = 0 ] || fail "what is '$1'?"
 [ -d "$prefix" ] || fail "there is no folder $prefix"
 case $command in
-    install) install_all ;;
+    install)
+        install_all
+        report_units
+        ;;
     uninstall)
         [ -e "$prefix/$note" ] || fail "nothing is installed below $prefix"
         uninstall

@@ -3,7 +3,8 @@
 #
 #     tools/package.sh [--program FILE]
 #
-# Its version is the day of the last commit. The program is packed as it was proved and built.
+# Its version is the latest day of a commit and the number of commits, so that each commit's is higher than those before
+# it. The program is packed as it was proved and built.
 set -eu -o pipefail
 top=$(cd "$(dirname "$0")/.." && pwd)
 stage=$(mktemp -d)
@@ -15,6 +16,7 @@ root=$stage/debian/jofitrana
 documents=$root/usr/share/doc/jofitrana
 overrides=$root/usr/share/lintian/overrides
 pages=$root/usr/share/man/man1
+entries=20 # of the changelog
 
 for command in dpkg-deb dpkg-shlibdeps git gzip; do
     if ! command -v "$command" >/dev/null; then
@@ -23,15 +25,25 @@ for command in dpkg-deb dpkg-shlibdeps git gzip; do
     fi
 done
 
-# What git says of the last commit by a format.
+# What git has of the last commit by a format.
 commit() {
-    git -C "$top" log -1 --date=format:%Y%m%d --format="$1"
+    git -C "$top" log -1 --format="$1"
 }
 
-# The first, and only, entry of the changes.
+# The version at a commit.
+version_at() {
+    local day
+    day=$(git -C "$top" log --date=format:%Y%m%d --format=%cd "$1" | sort | tail -n 1)
+    echo "0.$day.$(git -C "$top" rev-list --count "$1")"
+}
+
+# An entry for each of the last commits.
 changes() {
-    printf 'jofitrana (%s) unstable; urgency=medium\n\n' "$version"
-    commit '  * As of the commit %h.%n%n -- %an <%ae>  %cD'
+    local hash
+    for hash in $(git -C "$top" rev-list --first-parent -n "$entries" HEAD); do
+        printf 'jofitrana (%s) unstable; urgency=medium\n\n' "$(version_at "$hash")"
+        git -C "$top" log -1 --format='%w(78,2,4)* %s%w(0,0,0)%n%n -- %an <%ae>  %cD%n' "$hash"
+    done
 }
 
 # Compresses the manual's pages, and leads links to the compressed ones.
@@ -50,10 +62,14 @@ libraries() (
     dpkg-shlibdeps -O debian/jofitrana/usr/bin/jofitrana | sed -n 's/^shlibs:Depends=//p'
 )
 
-version=0.$(commit %cd)
+if [ "$(git -C "$top" rev-parse --is-shallow-repository)" = true ]; then
+    echo 'package: this clone lacks the older commits, which the version counts: git fetch --unshallow' >&2
+    exit 1
+fi
+version=$(version_at HEAD)
 architecture=$(dpkg --print-architecture)
 mkdir -p "$root/usr" "$root/DEBIAN"
-"$top/tools/install.sh" install --prefix "$root/usr" "$@"
+"$top/tools/install.sh" install --prefix "$root/usr" "$@" >/dev/null
 rm "$root/usr/share/jofitrana/installed"
 install -m 644 "$top/tools/debian/copyright" "$documents/copyright"
 install -D -m 644 "$top/tools/debian/lintian-overrides" "$overrides/jofitrana"

@@ -428,10 +428,11 @@ for name in new.toml new.env new.conf; do
 done
 
 mkdir -p prefix/bin
-expect 'what is installed' 0 '' "$tools/install.sh" install --prefix prefix --program ./program
+expect 'what is installed' 0 'station: systemd finds no unit below prefix: *' \
+    "$tools/install.sh" install --prefix prefix --program ./program
 expect 'the program installed' 0 '' cmp program prefix/bin/jofitrana
 expect 'an export that is installed' 0 '' on rows prefix/bin/jofitrana-export table.csv
-expect 'what is installed again' 0 '' "$tools/install.sh" install --prefix prefix --program ./program
+expect 'what is installed again' 0 'station: systemd finds no unit *' "$tools/install.sh" install --prefix prefix --program ./program
 expect 'what is taken away' 0 '' "$tools/install.sh" uninstall --prefix prefix
 expect 'what is left' 0 $'prefix\nprefix/bin' find prefix
 expect 'nothing to take away' 1 'station: nothing is installed below prefix' "$tools/install.sh" uninstall --prefix prefix
@@ -440,12 +441,13 @@ expect 'a name that is taken' 1 'station: * nothing is changed' "$tools/install.
 expect 'a file of that name is kept' 0 '' cmp rows prefix/bin/jofitrana
 
 if command -v systemd-analyze >/dev/null; then
-    units=("$folder/units/jofitrana@.service" "$folder/units/jofitrana@.timer")
-    mkdir units && cp "$tools"/../systemd/jofitrana@.* units
-    sed -i "s|^ExecStart=jofitrana |ExecStart=$folder/program |" units/*
-    expect 'the units' 0 '' systemd-analyze verify --man=no --recursive-errors=no "${units[@]}"
-    expect 'how far a round is shut in' 0 '*exposure level*' \
-        systemd-analyze security --offline=true --threshold=20 "${units[0]}"
+    mkdir units && cp "$tools"/../systemd/*@.* units
+    sed -i "s|^ExecStart=jofitrana[-a-z]* |ExecStart=$folder/program |" units/*
+    expect 'the units' 0 '' systemd-analyze verify --man=no --recursive-errors=no "$folder"/units/*
+    for name in jofitrana jofitrana-check; do
+        expect "how far $name is shut in" 0 '*exposure level*' \
+            systemd-analyze security --offline=true --threshold=20 "$folder/units/$name@.service"
+    done
 else
     echo 'systemd-analyze is missing: no unit was tried' >&2
 fi
