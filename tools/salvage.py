@@ -131,6 +131,7 @@ class Reading:
         self.has_limited = has_limited  # an archive of the first version has none
         self.last = None       # the last row
         self.last_place = 0
+        self.last_follows = False  # whether it is a period later than the one before it, so that its stamp is right
         self.day_rows = []     # the rows of its day
         self.day_place = 0     # where they begin
         self.parts = 0         # summary slots since the last row
@@ -157,13 +158,14 @@ class Reading:
         if row is None or row.limited and not self.has_limited:
             raise Damage(place)
         if self.last and row.stamp <= self.last.stamp:
-            raise Damage(place, self.last_place)
+            raise Damage(place, None if self.last_follows else self.last_place)
         is_later_day = bool(self.last) and day_of(row.stamp) > day_of(self.last.stamp)
         if self.parts != (PARTS if is_later_day else 0):
             raise Damage(place)
         if is_later_day or not self.last:
             self.day_rows, self.day_place = [], place
         self.day_rows.append(row)
+        self.last_follows = bool(self.last) and row.stamp == self.last.stamp + row.interval * MINUTE
         self.last, self.last_place, self.parts, self.count = row, place, 0, self.count + 1
 
 
