@@ -432,6 +432,14 @@ expect 'what is installed' 0 'station: systemd finds no unit below prefix: *' \
     "$tools/install.sh" install --prefix prefix --program ./program
 expect 'the program installed' 0 '' cmp program prefix/bin/jofitrana
 expect 'an export that is installed' 0 '' on rows prefix/bin/jofitrana-export table.csv
+expect 'a setup that is installed' 2 '*no name of a station*' prefix/bin/jofitrana-setup roof.toml there:1
+expect 'a check that is installed' 3 'JOFITRANA UNKNOWN - rows holds text, *' prefix/bin/jofitrana-check rows
+expect 'a salvage that is installed' 0 '*new.archive has its first 15 rows, *' \
+    prefix/bin/jofitrana-salvage --program "$program" cut.archive new.archive
+expect 'a demo that is installed' 1 '*demo: the console does not serve; *' \
+    env TMPDIR="$folder/shown" prefix/bin/jofitrana-demo ./program
+expect 'a manual for each tool' 0 '' diff <(sed -n 's|^link .* bin/||p' "$tools/installed.txt") \
+    <(sed -n 's|^link .* share/man/man1/\(.*\)[.]1$|\1|p' "$tools/installed.txt")
 expect 'what is installed again' 0 'station: systemd finds no unit *' "$tools/install.sh" install --prefix prefix --program ./program
 expect 'what is taken away' 0 '' "$tools/install.sh" uninstall --prefix prefix
 expect 'what is left' 0 $'prefix\nprefix/bin' find prefix
@@ -439,6 +447,19 @@ expect 'nothing to take away' 1 'station: nothing is installed below prefix' "$t
 cp rows prefix/bin/jofitrana
 expect 'a name that is taken' 1 'station: * nothing is changed' "$tools/install.sh" install --prefix prefix --program ./program
 expect 'a file of that name is kept' 0 '' cmp rows prefix/bin/jofitrana
+
+if command -v dpkg-shlibdeps >/dev/null && git -C "$tools" rev-parse 2>/dev/null; then
+    cp -L /bin/true true
+    package=$("$tools/package.sh" --program ./true)
+    expect 'a package' 0 "0.20??????.$(git -C "$tools" rev-list --count HEAD)" dpkg-deb -f "$package" Version
+    dpkg-deb --fsys-tarfile "$package" | tar -xO ./usr/share/doc/jofitrana/changelog.gz | gunzip >changelog
+    mapfile -t versions < <(sed -n 's/^jofitrana (\(.*\)) .*/\1/p' changelog)
+    expect 'the entries of its changelog' 0 20 echo "${#versions[@]}"
+    expect 'each version above the one before' 0 '' cmp <(printf '%s\n' "${versions[@]}") \
+        <(printf '%s\n' "${versions[@]}" | sort -uVr)
+else
+    echo 'dpkg-dev or the repository of git is missing: no package was tried' >&2
+fi
 
 if command -v systemd-analyze >/dev/null; then
     mkdir units && cp "$tools"/../systemd/*@.* units
