@@ -333,8 +333,11 @@ expect 'the zone of a clock without summer time' 1 \
     "*this machine's is UTC+05:30 *! etc/roof.env has TZ=<+00>-00 in place of TZ=<+0530>-05:30: *" env TZ=Asia/Kolkata \
     "$tools/setup.py" --program ./program --settings etc --archives var roof there:1
 rm -r etc
-expect 'a clock in a zone with summer time' 1 '*UTC-05:00 without summer time.*5 hours ahead of *' env TZ=America/New_York \
-    "$tools/setup.py" --program ./program --settings etc --archives var roof there:1
+# In one of these it is summer.
+for zone in 'America/New_York/5 hours ahead of' 'Australia/Sydney/10 hours behind'; do
+    expect "a clock in ${zone%/*}" 1 "* UTC[-+]??:00 without summer time.*, ${zone##*/} *" env TZ="${zone%/*}" \
+        "$tools/setup.py" --program ./program --settings etc --archives var roof there:1
+done
 
 cat >etc/roof.toml <<'TOML'
 period = 5
