@@ -154,14 +154,20 @@ def look_at_kind(station, report):
         report.trouble(f'A Vantage Pro or Pro2 has kind {VANTAGE_PRO}. No other console was ever tried.')
 
 
-def look_at_summer_time(memory, report):
+def emptying(station, memory):
+    """What to do about records in the console's memory that are later than a clock that goes back."""
+    return (f"  If the clock goes back by that, the console's memory has records of the future, which would block all others.\n"
+            f'  Empty it before the first round, by: jofitrana task {station.address} period {memory[PERIOD]}')
+
+
+def look_at_summer_time(station, memory, report):
     """Reports whether the console's clock changes for summer time."""
     where = "in the console's Setup Mode, at DAYLIGHT SAVINGS,"
     if not memory[SUMMER_BY_HAND]:
-        report.trouble(f'Summer time comes and goes by itself: {where} choose MANUAL and OFF before the first round.\n'
-                       '  Else an hour of records is lost each autumn.')
+        report.trouble('Summer time comes and goes by itself, and an hour of records is lost each autumn:\n'
+                       f'  {where} choose MANUAL and OFF before the first round.\n{emptying(station, memory)}')
     elif memory[SUMMER_ON]:
-        report.trouble(f'Summer time is switched on: {where} choose OFF before the first round.\n'
+        report.trouble(f'Summer time is switched on: {where} choose OFF before the first round.\n{emptying(station, memory)}\n'
                        '  After a round leave it on for good, since to switch it off loses an hour of records.')
     else:
         report.found('Its summer time is off, as it has to be.')
@@ -210,13 +216,23 @@ def set_clock(station, report):
     report.found("Its clock was set to this machine's time without summer time.")
 
 
-def look_at_clock(station, chosen, report):
+def set_clock_if_wanted(station, chosen, memory, last, report):
+    """Sets the console's clock if that is wanted and loses nothing."""
+    if not chosen.set_clock:
+        return
+    if last is not None:
+        report.trouble(f'Its clock is not set: {station.archive} has rows, and a clock that goes back loses records.')
+        return
+    shown, ahead = console_clock(station)
+    set_clock(station, report)
+    if ahead.total_seconds() > CLOCK_SECONDS:
+        report.trouble(f'Its clock showed {shown} before, and went back.\n{emptying(station, memory)}')
+
+
+def look_at_clock(station, chosen, memory, report):
     """Reports the console's clock, and sets it if that is wanted and loses nothing."""
     last = station.last_stamp()
-    if chosen.set_clock and last is None:
-        set_clock(station, report)
-    elif chosen.set_clock:
-        report.trouble(f'Its clock is not set: {station.archive} has rows, and a clock that goes back loses records.')
+    set_clock_if_wanted(station, chosen, memory, last, report)
     shown, ahead = console_clock(station)
     if last and shown < last:
         report.trouble(f'Its clock shows {shown}, before the last row of {last:%Y-%m-%d %H:%M}: it was set back.\n'
@@ -305,9 +321,9 @@ def look_at_all(station, chosen, report):
     memory = bytes(FIRST_PLACE) + bytes.fromhex(station.ask('eeprom', 'read', f'{FIRST_PLACE:X}', str(PLACES)))
     period = look_at_period(memory, report)
     look_at_bucket(memory, report)
-    look_at_summer_time(memory, report)
+    look_at_summer_time(station, memory, report)
     look_at_zone(memory, report)
-    look_at_clock(station, chosen, report)
+    look_at_clock(station, chosen, memory, report)
     look_at_settings(station, period, report)
     pairs = [('ADDRESS=', station.address), ('TZ=', zone_rule(standard_offset()))]
     write_or_compare(station.environment, pairs, keys_of_environment(station.environment), report)

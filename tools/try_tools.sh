@@ -294,7 +294,7 @@ expect 'settings without a period' 0 '' cat etc/roof.toml
 rm -r etc
 memory 12=00 16=01 14=d8 15=ff
 expect 'summer time by itself, and a zone of its own' 1 \
-    '*! Summer time comes and goes by itself: *Its zone is UTC-00:24; this*See to each line with ! above*' set_up
+    '*! Summer time comes and goes by itself, *Empty it *task there:1 period 5*Its zone is UTC-00:24; this*See to each line with ! above*' set_up
 memory 13=01 11=15
 expect 'summer time by hand, and a zone of the list' 1 '*! Summer time is switched on: *Its zone is number 21 of *' set_up
 memory
@@ -307,7 +307,8 @@ date -d '9 hours' '+time %F %T' >answers/time
 expect 'a clock that is ahead' 1 \
     '*! Its clock shows *, 9 hours ahead of *Set it before *--set-clock roof there:1*' set_up
 expect 'no clock is set unasked' 1 0 grep -c 'time set' asked
-expect 'a clock that is set' 1 "*Its clock was set to this machine's time*" set_up --set-clock
+expect 'a clock that is set back' 1 "*Its clock was set to this machine's time*! Its clock showed *, and went back.*period 5*" \
+    set_up --set-clock
 expect 'to what it is set' 0 "there:1 time set $(date -d '4 seconds' +%F' '%H):*" grep 'time set' asked
 head -c 178 /dev/zero >var/roof.archive
 some_rows 5 3 9 >listed
