@@ -48,7 +48,7 @@ serve() {
     lack "the console does not serve; it printed '$(cat console.txt)'"
 }
 
-program=$(command -v "${1-jofitrana}") || lack "the program is missing: ${1-jofitrana}"
+program=$(type -P "${1-jofitrana}") || lack "the program is missing: ${1-jofitrana}"
 program=$(readlink -f "$program")
 for examples in "$here/../examples" "$here/../doc/jofitrana/examples"; do
     [ ! -r "$examples/week.schedule" ] || break

@@ -191,6 +191,8 @@ class Whole(Reading):
             while True:
                 gate = self.bytes_at(place, 4)
                 if gate[:1] == CLOSED:
+                    if self.parts:
+                        raise Damage(place)
                     return
                 place = self.read_batch(place, int.from_bytes(gate[2:4], 'little'))
         except Damage as damage:

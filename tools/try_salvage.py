@@ -22,25 +22,30 @@ from model import archive, outcomes, rows, stamps
 
 PERIOD = 5
 FIRST_STAMP = (2024, 7, 1, 23, 20)
-LATER_DAYS = {17: 2000}  # minutes that are left out before the row of this number
+MINUTES_BEFORE = {17: 2000, 20: 10}  # between the row of this number and the one before it, if not a period
 ROWS_OF_BATCHES = (5, 1, 5, 4, 5, 1, 3, 2)
 CUT_BATCH = 5  # of one row
 STEP = 41      # from one byte that is changed to the next
 MASKS = (0x01, 0xFF)
+STAMP_PLACES = range(4, 8)  # of a row
+TIME_PLACE, TIME_MASKS = 6, (0x01, 0x10, 0x40)  # of the low byte of a row's time word
+SUMMARY_BATCH, COUNT_PLACE = 2, 2
+COUNT_MASKS = (0x02, 0x18)  # which end that batch right behind its summary slots, and among them
 USUAL_FIELDS = (0, 3, 4, 5, 7, 8, 12, 16)
-LIMITED_FIELD = 10
+LIMITED_FIELD, LIMITED_PLACE, LIMITED_MASK = 10, 169, 0x04  # the bit of the field in a row
+FIRST_VERSION = 1
 
 
-def made_rows():
+def made_rows(share_of_limited=0.3):
     """Rows of three days, with values of either sign, zeros, and fields that limits made missing."""
     draw = random.Random(1)
     stamp, made = stamps.stamp_of_parts(*FIRST_STAMP), []
     for number in range(sum(ROWS_OF_BATCHES)):
-        stamp += LATER_DAYS.get(number, PERIOD)
+        stamp += MINUTES_BEFORE.get(number, PERIOD)
         values = [None] * len(salvage.NAMES)
         for place in USUAL_FIELDS:
             values[place] = draw.choice((0, draw.randint(-500, 500), draw.randint(0, 30_000)))
-        limited = frozenset({LIMITED_FIELD} if draw.random() < 0.3 else ())
+        limited = frozenset({LIMITED_FIELD} if draw.random() < share_of_limited else ())
         made.append(rows.Row(stamp, PERIOD, tuple(values), limited))
     return made
 
@@ -48,9 +53,9 @@ def made_rows():
 class Image:
     """The bytes of an archive of these rows, and where its batches end."""
 
-    def __init__(self, made):
+    def __init__(self, made, version=archive.THIS_VERSION):
         self.rows = made
-        self.bytes = archive.head_slot(archive.THIS_VERSION)
+        self.bytes = archive.head_slot(version)
         self.ends = [(len(self.bytes), 0)]
         self.row_places = []
         for count in ROWS_OF_BATCHES:
@@ -70,9 +75,12 @@ class Image:
         """How many rows are surely good if the byte at a place is not.
 
         They are those of the batches before it. A row of a day that is over is doubted with its whole day, and so is that
-        day for some bytes of its summary.
+        day for some bytes of its summary. If a stamp falls, the row before it is doubted that follows no row at once.
         """
         told = [row for row, at in zip(self.rows, self.row_places) if at <= place]
+        number = len(told) - 1
+        if number - 1 in MINUTES_BEFORE and place - self.row_places[number] in STAMP_PLACES:
+            return self.rows_before(self.row_places[number - 1])
         last_day = stamps.archive_day(self.rows[-1].stamp)
         is_head_of_summary = (place // archive.SLOT_BYTES * archive.SLOT_BYTES not in self.row_places
                               and place % archive.SLOT_BYTES < archive.SUMMARY_HEAD.size)
@@ -153,22 +161,35 @@ class Trial:
         self.judge(f'cut to {length}', self.image.bytes[:length], least, lost)
 
 
+def try_images(trial, is_whole):
+    """Tries an archive that is whole, that is changed in one byte, and that is cut."""
+    image = trial.image
+    size = len(image.bytes)
+    trial.judge('an archive that is whole', image.bytes, len(image.rows), [])
+    for number, place in enumerate(range(0, size, 1 if is_whole else STEP)):
+        for mask in MASKS if is_whole else MASKS[number % len(MASKS):][:1]:
+            trial.change(place, mask)
+    for place in image.row_places:
+        for mask in TIME_MASKS:
+            trial.change(place + TIME_PLACE, mask)
+    for mask in COUNT_MASKS:
+        trial.change(image.ends[SUMMARY_BATCH][0] + COUNT_PLACE, mask)
+    begin, end = (image.ends[CUT_BATCH + number][0] for number in (0, 1))
+    for length in range(size) if is_whole else range(begin, end + 1):
+        trial.cut(length)
+
+
 def main():
     program = os.path.abspath(sys.argv[1])
-    is_whole = '--whole' in sys.argv
-    image = Image(made_rows())
-    size = len(image.bytes)
-    begin, end = (image.ends[CUT_BATCH + number][0] for number in (0, 1))
     with tempfile.TemporaryDirectory() as folder:
-        trial = Trial(program, folder, image)
-        trial.judge('an archive that is whole', image.bytes, len(image.rows), [])
-        for number, place in enumerate(range(0, size, 1 if is_whole else STEP)):
-            for mask in MASKS if is_whole else MASKS[number % len(MASKS):][:1]:
-                trial.change(place, mask)
-        for length in range(size) if is_whole else range(begin, end + 1):
-            trial.cut(length)
-    print(f'{trial.passed} passed, {trial.failed} failed')
-    sys.exit(trial.failed > 0)
+        trial = Trial(program, folder, Image(made_rows()))
+        try_images(trial, '--whole' in sys.argv)
+        first = Trial(program, folder, Image(made_rows(0), FIRST_VERSION))
+        first.judge('an archive of the first version', first.image.bytes, len(first.image.rows), [])
+        first.change(first.image.row_places[-1] + LIMITED_PLACE, LIMITED_MASK)
+    failed = trial.failed + first.failed
+    print(f'{trial.passed + first.passed} passed, {failed} failed')
+    sys.exit(failed > 0)
 
 
 if __name__ == '__main__':

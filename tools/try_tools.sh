@@ -70,8 +70,9 @@ begin setup "$tools/setup.py" --program "$program" --set-clock --settings talk -
 odd_console back --clock '2024-10-27 02:30' --run '2024-10-27 01:00' 24 --run '2024-10-27 02:00' 24
 begin check round_and_check "127.0.0.1:$port"
 begin salvage "$tools/try_salvage.py" "$program"
-mkdir shown
-begin demo env TMPDIR="$folder/shown" "$tools/demo.sh" "$program"
+mkdir shown path
+ln -s "$program" path/jofitrana
+begin demo env TMPDIR="$folder/shown" PATH="$folder/path:$PATH" "$tools/demo.sh"
 
 cat >rows <<'ROWS'
 row 2024-07-01 00:05 5 outTemp=651 highOutTemp=655 lowOutTemp=-48 rain=2 barometer=29921 outHumidity=48 windSpeed=3 windGust=7 windDir=4
