@@ -13,7 +13,6 @@ import socket
 import sys
 import time
 from contextlib import contextmanager
-from itertools import pairwise
 from pathlib import Path
 from statistics import median
 from threading import Thread
@@ -124,14 +123,13 @@ def hear(line, count):
 
 
 def hold_talk(line, wanted):
-    """Holds what comes over a line until its end, and the waits before each piece."""
-    times, heard = [time.monotonic()], []
-    while END not in heard:
-        heard.append(line.recv(SMALL_BUFFER))
-        times.append(time.monotonic())
-    hold("it said", heard, [piece for _, piece in wanted])
-    for (before, now), (waits, piece) in zip(pairwise(times), wanted):
+    """Holds what comes over a line, and the waits before each piece."""
+    before = time.monotonic()
+    for waits, piece in wanted:
+        hold("it said", line.recv(SMALL_BUFFER), piece)
+        now = time.monotonic()
         hold_seconds(f"the waits before {piece}", now - before, waits * QUIET_WAIT)
+        before = now
 
 
 def stop_and_continue(process):
