@@ -1,5 +1,5 @@
-ghost use Rattle.crc_ccitt.specs.Check.{is_good};
-ghost use Rattle.std.specs.Prelude.{IsTrue};
+ghost use Rattle.crc_ccitt.specs.Check.{check};
+ghost use Rattle.std.specs.Prelude.{◌≡◌};
 
 use archive_record::{RECORD_SIZE, Rec52};
 use station_base::Stamp;
@@ -24,7 +24,7 @@ pub fn record_of(stamp: Stamp) -> Option<Rec52> {
 /// A page of which each slot holds the record of a letter: that of 2024-07-01 00:01 for `a`, of 00:02 for `b`, and so on;
 /// nothing for `-`, another revision for `R`, and a bad stamp for `B`. Slots without a letter hold nothing.
 pub fn page_of_letters(sequence: u8, letters: &[u8]) -> [u8; PAGE_SIZE]
-    ensures good { IsTrue (is_good result) }
+    ensures good { check result ≡ 0 }
 {
     let mut page = [0xFF; PAGE_SIZE];
     page[0] = sequence;
