@@ -406,6 +406,9 @@ salvage: 3 rows behind them can be read. They are printed, and may be wrong: new
 salvage: the other rows behind them are missing. The next round with new.archive adds what the console still has:
 salvage: the records later than the last row, out of its last 2,560" salvage cut.archive new.archive
 expect 'what was made of it' 0 15 grep -c . <("$program" report new.archive rows 2024-07-01 2024-07-31)
+{ head -c 1234 whole.archive; printf '\x0a'; tail -c +1236 whole.archive; } >summary.archive
+expect 'an archive that ends within a summary' 0 $'*salvage: summary.archive is damaged at 2992\n* its first 6 rows, *' \
+    salvage summary.archive six.archive
 expect 'an archive to make that is there' 1 'salvage: new.archive is there already' salvage cut.archive new.archive
 expect 'an archive to make that is the damaged one' 1 'salvage: cut.archive is there already' salvage cut.archive cut.archive
 expect 'a damaged archive is only read' 0 '' cmp cut.archive cut.kept
