@@ -1,6 +1,6 @@
 # shellcheck shell=bash
-# Sourced by tools/loopback.sh and tools/serial_try.sh, for a modelled console that serves a schedule of one line at a port
-# of its own. What they start ends with them, each process by its number.
+# Sourced by tools/loopback.sh, tools/serial_try.sh and tools/try_tools.sh, for a modelled console that serves a schedule of
+# one line at a port of its own. What they start ends with them, each process by its number.
 
 FIRST_DAY=2024-07-01
 TURNS=1000000

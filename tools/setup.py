@@ -35,7 +35,7 @@ VANTAGE_PRO = 16
 PERIODS = (1, 5, 10, 15, 30, 60, 120)
 
 CLOCK_SECONDS = 60  # so far two clocks may differ
-WHOLE_UNITS = 3  # of a unit of time, from which on a span is told in that unit
+WHOLE_UNITS = 3  # of a unit of time; a shorter span is given in the next smaller unit
 SECONDS_TO_SET = 4  # from the first byte to the console until it has the time that was said
 SHORT_FILE = 177  # bytes; a longer file is an archive, or is refused
 STAMP = '%Y-%m-%d %H:%M:%S'

@@ -421,8 +421,12 @@ expect 'a program that reports other rows' 1 'salvage: the program does not take
     "$tools/salvage.py" --program ./program cut.archive new.archive
 expect 'a salvage without the program' 1 '*: the program is missing: ./nowhere' \
     "$tools/salvage.py" --program ./nowhere cut.archive new.archive
-expect 'an archive in another program' 1 'salvage: cut.archive is open in another program: *' \
-    flock -o cut.archive "$tools/salvage.py" --program "$program" cut.archive new.archive
+if command -v flock >/dev/null; then
+    expect 'an archive in another program' 1 'salvage: cut.archive is open in another program: *' \
+        flock -o cut.archive "$tools/salvage.py" --program "$program" cut.archive new.archive
+else
+    echo 'flock is missing: no salvage of an archive in another program was tried' >&2
+fi
 expect 'a damaged archive that is not there' 1 'salvage: missing.archive: No such file *' salvage missing.archive new.archive
 head -c 2000 /dev/zero >zeros.archive
 head -c 177 whole.archive >short.archive
