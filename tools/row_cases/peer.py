@@ -107,11 +107,22 @@ def play(line, steps):
                 raise Differs(f"heard {shown(rest or b'')} after the last step, in place of the end")
 
 
+def hold_uncalled(place, process):
+    """Holds that a program calls nobody until its end."""
+    try:
+        waited(lambda: called(place), process, "").close()
+    except Differs:
+        return
+    raise Differs("a call that the case does not have")
+
+
 def meet(place, run, process):
     """Plays the other side of a run, whose line is at a socket."""
-    if run.steps in (None, UNCALLED):
+    if run.steps is None:
         return
-    if run.is_caller:
+    if run.steps == UNCALLED:
+        hold_uncalled(place, process)
+    elif run.is_caller:
         play(waited(lambda: calling(place.getsockname()), process, "nobody served"), run.steps)
     else:
         play(waited(lambda: called(place), process, "nobody called"), run.steps)
