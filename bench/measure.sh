@@ -10,7 +10,7 @@ copy_crates() {
     find "$copy"/crates/* -mindepth 1 -maxdepth 1 ! -name out -exec rm -r {} +
     mkdir "$copy/crates/measure/src"
     cp HANDLES "$copy"
-    sed -e "s/^station_replay:.*/measure: $2/" -e '/^[a-z_]*:.* station_replay\b/d' -e '/^station_top:/d' -e '/^station_program:/d' "$from/crates.txt" >"$copy/crates.txt"
+    sed -e "s/^station_replay:.*/measure: $2/" -e '/^[a-z_]*:.* station_replay\b/d' -e '/^station_top:/d' -e '/^station_program:/d' -e '/^[a-z_]*_tests:/d' "$from/crates.txt" >"$copy/crates.txt"
     local name
     for name in $(sed -n 's/^\([a-z_]*\):.*/\1/p' "$copy/crates.txt"); do
         [ "$name" = measure ] || tar -C "$from/crates" --exclude=out -c "$name" | tar -C "$copy/crates" -x

@@ -17,6 +17,12 @@ const GOOD: usize = 6 + 2 + 3 + 1 + 7 + PAGE_SIZE;
 // The link failed before a page was taken.
 const LINK: &str = "round link attempts 1 pages 0 skipped 0 acked 0 rows 0\nlink fault\n";
 
+// It failed at the last message, behind the page.
+const LATE: &str = "round link attempts 1 pages 1 skipped 0 acked 5 rows 5\nlink fault\n";
+
+// Settings without a key, and a schedule without a line.
+const EMPTY: [(&str, &[u8]); 2] = [("settings", b""), ("schedule", b"")];
+
 // How the words end over a link under settings without a key, with an empty schedule and an empty archive.
 fn plainly(
     rt: &impl Abort,
@@ -24,9 +30,8 @@ fn plainly(
     words: &[&str],
     link: &mut ScriptLink,
 ) -> Result<(u8, Vec<u8>), Fail> {
-    let files = [("settings", b"".as_slice()), ("schedule", b"".as_slice())];
     let given = Given {
-        files: &files,
+        files: &EMPTY,
         ..plain(words)
     };
     over(rt, alloc, &given, link)
@@ -56,17 +61,23 @@ fn each_receive_that_fails_ends_the_round(rt: HostRuntime) -> Result<(), Fail> {
     Ok(())
 }
 
+// A round ends so where the message before the item of that number is not sent.
+fn ends_unsent(rt: &impl Abort, alloc: Global, at: usize, want: &str) -> Result<(), Fail> {
+    let mut link = interrupted(rt, alloc, ScriptItem::SendFails, at)?;
+    let (status, text) = plainly(rt, alloc, &STATION, &mut link)?;
+    assert_eq!(rt; (status, text.as_slice()), (6, want.as_bytes()), "at {at}");
+    Ok(())
+}
+
 #[test]
 fn each_message_that_is_not_sent_ends_the_round(rt: HostRuntime) -> Result<(), Fail> {
     let alloc = rt.alloc();
-    let last = "round link attempts 1 pages 1 skipped 0 acked 5 rows 5\nlink fault\n";
-    // LF, DMPAFT, the stamp frame, 0x06 for the page, and the last 0x06.
-    for (at, want) in [(6, LINK), (11, LINK), (12, LINK), (19, LINK), (GOOD, last)] {
-        let mut link = interrupted(&rt, alloc, ScriptItem::SendFails, at)?;
-        let (status, text) = plainly(&rt, alloc, &STATION, &mut link)?;
-        assert_eq!(rt; (status, text.as_slice()), (6, want.as_bytes()), "at {at}");
+    // LF, DMPAFT, the stamp frame, and 0x06 for the page.
+    for at in [6, 11, 12, 19] {
+        ends_unsent(&rt, alloc, at, LINK)?;
     }
-    Ok(())
+    // The last 0x06.
+    ends_unsent(&rt, alloc, GOOD, LATE)
 }
 
 #[test]

@@ -19,15 +19,15 @@ const MOST_CHANGES: u64 = 5_000;
 
 // The words, the files by their names, which calls of these fail, and the capacity of the sink.
 #[derive(Clone, Copy)]
-pub struct Given<'a> {
-    pub words: &'a [&'a str],
-    pub files: &'a [(&'a str, &'a [u8])],
-    pub failing: &'a [u64],
+pub struct Given<'w, 'f, 'c> {
+    pub words: &'w [&'w str],
+    pub files: &'f [(&'f str, &'f [u8])],
+    pub failing: &'c [u64],
     pub capacity: usize,
 }
 
 // These words without a file, and a sink that has room.
-pub fn plain<'a>(words: &'a [&'a str]) -> Given<'a> {
+pub fn plain<'w, 'f, 'c>(words: &'w [&'w str]) -> Given<'w, 'f, 'c> {
     Given {
         words,
         files: &[],

@@ -26,15 +26,20 @@ fn made_runs_have_these_counts(rt: HostRuntime) {
 }
 
 // What becomes of the fourth messages of a round: whether that of the host is lost, to how many bytes the reply is cut,
-// how many waits it is late and from which place on; and how many messages and records the round speaks of.
-fn fourth_messages(fates: &Fates) -> (bool, Option<u32>, Option<(u8, u32)>, usize) {
+// how many waits it is late and from which place on; and of how many messages and records the round speaks.
+fn fourth_messages(fates: &Fates) -> (bool, Option<u32>, Option<(u8, u32)>, [usize; 4]) {
     let lost = matches!(fates.host.get(&4), Some(Fate::Lost));
     let cut = match fates.replies.get(&4) {
         Some(Fate::Cut(bytes)) => Some(*bytes),
         _ => None,
     };
     let late = fates.lates.get(&4).map(|late| (late.waits, late.place));
-    let named = fates.host.len() + fates.replies.len() + fates.lates.len() + fates.mids.len();
+    let named = [
+        fates.host.len(),
+        fates.replies.len(),
+        fates.lates.len(),
+        fates.mids.len(),
+    ];
     (lost, cut, late, named)
 }
 
