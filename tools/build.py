@@ -24,9 +24,9 @@ import build_rooms
 import build_runs
 import crate_list
 
-# What a first build takes on four processors.
-FIRST_MINUTES = 40
-FIRST_MEMORY = 8  # GB
+# What a first build takes, as measured one crate after another on a busy machine.
+FIRST_MINUTES = 65  # of processors
+FIRST_MEMORY = 4  # GB at most for one proof
 FIRST_DISK = 7  # GB
 
 MB, GB = 1_000_000, 1_000_000_000
@@ -145,8 +145,9 @@ def report(plan, ended, seconds):
 
 def build(lock):
     """Proves and builds the program, and all that it stands on, from the sources as they stand now."""
-    say(f'proves and builds the program first; from nothing that takes about {FIRST_MINUTES} minutes, {FIRST_MEMORY} GB of'
-        f' memory and {FIRST_DISK} GB of disk ({free_memory() // GB} GB and {free_disk() // GB} GB are free)')
+    say(f'proves and builds the program first; from nothing that takes some {FIRST_MINUTES} minutes of processor time, up to'
+        f' {FIRST_MEMORY} GB of memory for each proof and {FIRST_DISK} GB of disk ({free_memory() // GB} GB and'
+        f' {free_disk() // GB} GB are free)')
     if full_disk():
         raise Fault(full_disk())
     crates, runs, began = crate_list.needed(TOP), build_runs.Runs(lock), time.monotonic()
