@@ -7,23 +7,8 @@ tools=$(cd "$(dirname "$0")" && pwd)
 work=$(mktemp -d)
 trap 'rm -rf "$work"' EXIT
 cd "$work" || exit 1
-passed=0
-failed=0
-
-# Runs a command, and compares its status and output with the status and the pattern that are wanted.
-expect() {
-    local name=$1 wanted=$2 pattern=$3 output status
-    shift 3
-    output=$("$@" 2>&1)
-    status=$?
-    # shellcheck disable=SC2053  # it is a pattern
-    if [ "$status" = "$wanted" ] && [[ $output == $pattern ]]; then
-        passed=$((passed + 1))
-    else
-        failed=$((failed + 1))
-        echo "$name: status $status and '${output:0:300}', in place of $wanted and '${pattern:0:300}'" >&2
-    fi
-}
+# shellcheck source=tools/expecting.sh
+. "$tools/expecting.sh"
 
 mkdir -p tree/tools tree/crates/a/{more-edits,must-fail,out} tree/crates/b/{more-edits,must-fail} bin
 cp "$tools/try_edits.sh" tree/tools
@@ -103,5 +88,4 @@ expect 'a case with a key that is none' 1 '*no key of a case: print*' try_case $
 : >table.toml
 expect 'a table without a case' 1 '0 passed, 0 failed' "$tools/try_rows.py" ./stand_in table.toml
 
-echo "$passed passed, $failed failed"
-[ "$failed" = 0 ]
+conclude

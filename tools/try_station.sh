@@ -6,23 +6,8 @@ tools=$(cd "$(dirname "$0")" && pwd)
 work=$(mktemp -d)
 trap 'rm -rf "$work"' EXIT
 cd "$work" || exit 1
-passed=0
-failed=0
-
-# Runs a command, and compares its status and output with the status and the pattern that are wanted.
-expect() {
-    local name=$1 wanted=$2 pattern=$3 output status
-    shift 3
-    output=$("$@" 2>&1)
-    status=$?
-    # shellcheck disable=SC2053  # it is a pattern
-    if [ "$status" = "$wanted" ] && [[ $output == $pattern ]]; then
-        passed=$((passed + 1))
-    else
-        failed=$((failed + 1))
-        echo "$name: status $status and '${output:0:900}', in place of $wanted and '${pattern:0:300}'" >&2
-    fi
-}
+# shellcheck source=tools/expecting.sh
+. "$tools/expecting.sh"
 
 # The toolchain's place: notes what begins and ends, and which library is lacking below a crate. The crates that the file
 # `together` names wait for one another, one that `slow` names takes long, and one that `broken` or `full` names fails.
@@ -230,5 +215,4 @@ expect 'no try of them' 1 '' test -e tried
 rm bin/rt
 expect 'no toolchain' 70 'station: the toolchain is missing: *' env PATH=/usr/bin:/bin tree/station pages
 
-echo "$passed passed, $failed failed"
-[ "$failed" = 0 ]
+conclude

@@ -11,26 +11,8 @@ tools=$(cd "$(dirname "$0")" && pwd)
 # shellcheck source=tools/served_console.sh
 . "$tools/served_console.sh"
 prepare "${1-}"
-passed=0
-
-# Whether a status and an output are the status and the pattern that are wanted.
-judge() {
-    # shellcheck disable=SC2053  # it is a pattern
-    if [ "$4" = "$2" ] && [[ $5 == $3 ]]; then
-        passed=$((passed + 1))
-    else
-        failed=$((failed + 1))
-        echo "$1: status $4 and '${5:0:800}', in place of $2 and '${3:0:300}'" >&2
-    fi
-}
-
-# Runs a command, and holds its status and output against the status and the pattern that are wanted.
-expect() {
-    local output status
-    output=$("${@:4}" 2>&1)
-    status=$?
-    judge "$1" "$2" "$3" "$status" "$output"
-}
+# shellcheck source=tools/expecting.sh
+. "$tools/expecting.sh"
 
 # Starts a command that takes long. The first word is its name.
 begin() {
@@ -513,5 +495,4 @@ expect 'a demo without the program' 1 'demo: the program is missing: ./nowhere' 
 expect 'a demo of a program that makes no round' 1 '*demo: the console does not serve; *' \
     env TMPDIR="$folder/shown" "$tools/demo.sh" ./program
 
-echo "$passed passed, $failed failed"
-[ "$failed" = 0 ]
+conclude
