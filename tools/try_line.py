@@ -3,8 +3,8 @@
 
     tools/try_line.py PROGRAM
 
-The cases run side by side, each with a peer of its own, in some 20 seconds. Times are held within a quarter, and a case
-that misses one is tried again. A case that cannot be run here is named with the reason. The last line is
+The cases run side by side, each with a peer of its own, in some 20 seconds. Times are held within a quarter, or
+longer by what the machine spent on others, and a case that misses one is tried again. A case that cannot be run here is named with the reason. The last line is
 'N passed, M failed', and the status is 1 if any failed.
 """
 import re
@@ -19,7 +19,7 @@ from threading import Thread
 
 sys.dont_write_bytecode = True  # nothing is left beside the scripts
 
-from trying import LONGEST, Differs, Ended, hold, hold_seconds, need, try_all
+from trying import LONGEST, SLEEPER, Differs, Ended, hold, hold_seconds, need, try_all
 
 HERE, ALSO_HERE = "127.0.0.1", "127.0.0.2"
 QUIET_WAIT = 0.4  # seconds
@@ -124,12 +124,10 @@ def hear(line, count):
 
 def hold_talk(line, wanted):
     """Holds what comes over a line, and the waits before each piece."""
-    before = time.monotonic()
+    before = SLEEPER.now()
     for waits, piece in wanted:
         hold("it said", line.recv(SMALL_BUFFER), piece)
-        now = time.monotonic()
-        hold_seconds(f"the waits before {piece}", now - before, waits * QUIET_WAIT)
-        before = now
+        before = hold_seconds(f"the waits before {piece}", before, waits * QUIET_WAIT)
 
 
 def stop_and_continue(process):
@@ -180,9 +178,9 @@ def console_that_hangs_up(program):
     """The end of the line is a fault, and no quiet wait."""
     with calling(program, TASK) as (run, line):
         line.close()
-        began = run.seconds()
+        began = SLEEPER.now()
         hold("the task", run.end(), LINK_FAULT)
-        hold_seconds("its end", run.seconds() - began, 0)
+        hold_seconds("its end", began, 0)
 
 
 def call_that_is_not_answered(program):
@@ -190,7 +188,7 @@ def call_that_is_not_answered(program):
     with listener(backlog=0) as peer, socket.create_connection(peer.getsockname()):
         with program.start(TASK.format(word_for(peer))) as run:
             hold("the task", run.end(), LINK_FAULT)
-            hold_seconds("the call", run.seconds(), TO_CALL / 2)
+            hold_seconds("the call", run.began, TO_CALL / 2)
 
 
 def call_where_nobody_listens(program):
@@ -228,9 +226,9 @@ def call_to_itself(program):
 def turns_of_a_console(program):
     """A console's turn without a byte is one quiet wait."""
     with serving(program, FEW_TURNS) as (run, port), socket.create_connection((HERE, port)):
-        began = run.seconds()
+        began = SLEEPER.now()
         hold("the console", run.end(), Ended(0, "served 0 0\n"))
-        hold_seconds("its turns", run.seconds() - began, FEW_TURNS * QUIET_WAIT)
+        hold_seconds("its turns", began, FEW_TURNS * QUIET_WAIT)
 
 
 def caller_elsewhere(program):
@@ -275,9 +273,9 @@ def untaken_message(program, calls):
 
 def hold_untaken(run):
     """Holds how a console ends that cannot say its message, and when."""
-    began = run.seconds()
+    began = SLEEPER.now()
     hold("the console", run.end(), LINK_FAULT)
-    hold_seconds("the message", run.seconds() - began, TO_SAY)
+    hold_seconds("the message", began, TO_SAY)
 
 
 def message_that_is_not_taken(program):

@@ -9,12 +9,14 @@ import time
 from concurrent.futures import ThreadPoolExecutor
 from contextlib import suppress
 from pathlib import Path
+from threading import Thread
 from typing import NamedTuple
 
 LONGEST = 30  # seconds that one run may take
 AT_ONCE = 0.25  # seconds in which what does not wait is done
 SLACK = 0.25  # the part of a time by which it may be missed
 MOST_TEXT = 500  # characters of what was in the way of a case
+NAP = 0.02  # seconds of one sleep of a sleeper
 TRIES = 3  # how often a case that missed a time is tried, since other processes may have been in its way
 
 
@@ -36,11 +38,39 @@ class Ended(NamedTuple):
     printed: str
 
 
+class Moment(NamedTuple):
+    """A time, and how many seconds a sleeper of our own had been kept from running until then."""
+    time: float
+    late: float
+
+
+class Sleeper:
+    """Sleeps again and again, and counts by how much it wakes too late: so long the machine ran others."""
+
+    def __init__(self):
+        self.late = 0.0
+        Thread(target=self.sleep, daemon=True).start()
+
+    def sleep(self):
+        """Sleeps until the script ends."""
+        while True:
+            began = time.monotonic()
+            time.sleep(NAP)
+            self.late += max(0.0, time.monotonic() - began - 2 * NAP)
+
+    def now(self):
+        """This moment."""
+        return Moment(time.monotonic(), self.late)
+
+
+SLEEPER = Sleeper()
+
+
 class Run:
     """A run of the program, which has begun. Neither it nor what it runs under outlives its `with`."""
 
     def __init__(self, command, folder, **options):
-        self.began = time.monotonic()
+        self.began = SLEEPER.now()
         self.process = subprocess.Popen(command, cwd=folder, stdout=subprocess.PIPE, start_new_session=True, **options)
 
     def __enter__(self):
@@ -53,7 +83,7 @@ class Run:
 
     def seconds(self):
         """How long ago it began."""
-        return time.monotonic() - self.began
+        return time.monotonic() - self.began.time
 
     def end(self):
         """Waits for its end, and gives its status and what it printed."""
@@ -95,10 +125,19 @@ def hold(what, seen, wanted):
         raise Differs(f"{what}: {seen!r}, in place of {wanted!r}")
 
 
-def hold_seconds(what, seconds, wanted):
-    """Holds a time against the one that is wanted, within a quarter."""
-    if abs(seconds - wanted) > max(SLACK * wanted, AT_ONCE):
-        raise Missed(f"{what}: {seconds:.2f} s, in place of {wanted:.2f} s")
+def hold_seconds(what, began, wanted):
+    """Holds the time since a moment against the one that is wanted, within a quarter, and gives this moment. The time may be
+    longer by what the machine spent on others meanwhile."""
+    now = SLEEPER.now()
+    seconds = now.time - began.time
+    slack = max(SLACK * wanted, AT_ONCE)
+    late = 0.0
+    if seconds > wanted + slack:
+        time.sleep(2 * NAP)  # until the sleeper has counted too
+        late = SLEEPER.late - began.late
+    if not wanted - slack <= seconds <= wanted + slack + late:
+        raise Missed(f"{what}: {seconds:.2f} s, in place of {wanted:.2f} s; others took {late:.2f} s")
+    return now
 
 
 def need(*command):
