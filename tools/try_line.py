@@ -3,9 +3,9 @@
 
     tools/try_line.py PROGRAM
 
-The cases run side by side, each with a peer of its own, in some 20 seconds. Times are held within a quarter, or
-longer by what the machine spent on others, and a case that misses one is tried again. A case that cannot be run here is named with the reason. The last line is
-'N passed, M failed', and the status is 1 if any failed.
+The cases run side by side, each with a peer of its own, in some 20 seconds. Times are held within a quarter, or longer by
+what the machine spent on others, and a case that misses one is tried again. A case that cannot be run here is named with
+the reason. The last line is 'N passed, M failed', and the status is 1 if any failed.
 """
 import re
 import signal
