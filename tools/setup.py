@@ -157,7 +157,8 @@ def look_at_kind(station, report):
 def emptying(station, memory):
     """What to do about records in the console's memory that are later than a clock that goes back."""
     return (f"  If the clock goes back by that, the console's memory has records of the future, which would block all others.\n"
-            f'  Empty it before the first round, by: jofitrana task {station.address} period {memory[PERIOD]}')
+            f'  Empty it before the first round, by: jofitrana task {station.address} period {memory[PERIOD]}\n'
+            '  That deletes its records.')
 
 
 def look_at_summer_time(station, memory, report):
