@@ -3,8 +3,9 @@
 
     bench/gate.py [WORDS ..]
 
-Words take the place of `--anew`. It prints what rt prints, and behind that the minutes by the clock, and the minutes of
-processors by crate: for its proof, for its tests and for its wrong bodies. The status is rt's.
+Words take the place of `--anew`. It prints what rt prints, and behind that the minutes by the clock, with those that it
+would have taken had the host of this machine given its processors to nobody else, and the minutes of processors by crate:
+for its proof, for its tests and for its wrong bodies. The status is rt's.
 """
 import os
 import subprocess
@@ -58,7 +59,33 @@ def looked_at():
     return {name: (task_above(name), seconds[name]) for name in parents}
 
 
-def watch(run):
+class Clock:
+    """The seconds since it was made, and how many of them the work took, slowed by what the machine's host took away."""
+
+    def __init__(self):
+        self.began = self.looked = time.monotonic()
+        self.worked, self.taken = self.processors()
+        self.own = 0.0
+
+    @staticmethod
+    def processors():
+        """The seconds for which the processors worked, and for which work waited since the host had given them away."""
+        with open("/proc/stat", encoding="utf-8") as file:
+            user, nice, system, _, _, irq, softirq, steal = map(int, file.readline().split()[1:9])
+        return (user + nice + system + irq + softirq) / TICKS, steal / TICKS
+
+    def look(self):
+        """Goes on to now."""
+        now, (worked, taken) = time.monotonic(), self.processors()
+        wanted = worked - self.worked + taken - self.taken
+        self.own += (now - self.looked) * ((worked - self.worked) / wanted if wanted else 1)
+        self.looked, self.worked, self.taken = now, worked, taken
+
+    def __str__(self):
+        return f"{(self.looked - self.began) / MINUTE:.0f} minutes by the clock, {self.own / MINUTE:.0f} without what the host took"
+
+
+def watch(run, clock):
     """The seconds of processors by crate and kind, up to the end of a run."""
     latest = {}
     while run.poll() is None:
@@ -66,6 +93,7 @@ def watch(run):
             if task:
                 latest[name, task] = seconds
         time.sleep(LOOK_AGAIN)
+        clock.look()
     total = Counter()
     for (_, task), seconds in latest.items():
         total[task] += seconds
@@ -73,11 +101,11 @@ def watch(run):
 
 
 def main(words):
-    began = time.monotonic()
+    clock = Clock()
     with subprocess.Popen(["rt", "ci", *(words or ["--anew"])]) as run:
-        total = watch(run)
+        total = watch(run, clock)
     crates = sorted({crate for crate, _ in total}, key=lambda crate: -sum(total[crate, kind] for kind in KINDS))
-    print(f"\n{(time.monotonic() - began) / MINUTE:.0f} minutes by the clock; minutes of processors:")
+    print(f"\n{clock}; minutes of processors:")
     print("| Crate | " + " | ".join(KINDS) + " |")
     for crate in crates:
         print(f"| {crate} | " + " | ".join(f"{total[crate, kind] / MINUTE:.1f}" for kind in KINDS) + " |")
