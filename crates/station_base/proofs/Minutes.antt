@@ -1,13 +1,17 @@
 -- Minutes and the civil minutes that they number.
 use Rattle.std.proofs.Common.{◌≡◌, ℕ, ◌/◌, ◌%◌, ◌≤◌, pos, ap, arith, unsigned_abs}
 use Rattle.jiff_core.proofs.SignedLemmas.{signed_arith}
+use Rattle.jiff_core.proofs.StandardFacts.{known_days}
 use Rattle.jiff_core.specs.Calendar.{days_from_civil}
 use Rattle.station_base.specs.declared.calendar.CivilDate.{CivilDate}
 use Rattle.station_base.specs.CivilDate.{date_of}
-use Rattle.station_base.specs.CivilMinute.{CivilMinute, IsCivilMinute, minute_of, last_minute}
+use Rattle.station_base.specs.CivilMinute.{CivilMinute, IsCivilMinute, minute_of, first_minute, last_minute}
 use Rattle.station_base.proofs.Days.{date_civil, date_counted, last_day, jiff_date, year_from, year_to}
 
--- the last minute that two words can name, in minutes since 1970-01-01 00:00
+-- the first and the last minute that two words can name, in minutes since 1970-01-01 00:00
+pub first_minute_number : minute_of first_minute ≡ 15778080
+first_minute_number = omega (arith, ap unsigned_abs known_days.2)
+
 pub last_minute_number : minute_of last_minute ≡ 83099519
 last_minute_number = omega (arith, ap unsigned_abs last_day)
 

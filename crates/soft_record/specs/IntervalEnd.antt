@@ -1,0 +1,24 @@
+-- Where the interval of an entry ends. (This project's own.)
+use Rattle.std.specs.Prelude.{ℕ, ◌≡◌, ◌≤◌, ◌<◌, ◌+◌, ◌*◌, ◌%◌}
+use Rattle.station_base.specs.CivilMinute.{CivilMinute, minute_of}
+use Rattle.soft_record.specs.declared.entry.Entry.{Entry}
+use Rattle.soft_record.specs.Entry.{moment}
+
+-- how many seconds the longest period has, which is two hours
+abbrev pub longest : ℕ
+longest = 7200
+
+-- the minute is not before the entry, and less than the longest period behind it
+pub record IsNear (e : Entry) (end : CivilMinute) : Type 0 where
+  pub reached : moment e ≤ 60 * minute_of end
+  pub near : 60 * minute_of end < moment e + longest
+
+-- a full minute that is not before the entry, and whose number in its day is a multiple of the period
+pub record CanEnd (period : ℕ) (e : Entry) (minute : ℕ) : Type 0 where
+  pub reached : moment e ≤ 60 * minute
+  pub whole : minute % 1440 % period ≡ 0
+
+-- it is the earliest of these
+pub record IsEarliest (period : ℕ) (e : Entry) (minute : ℕ) : Type 0 where
+  pub ends : CanEnd period e minute
+  pub first : (other : ℕ) → CanEnd period e other → minute ≤ other

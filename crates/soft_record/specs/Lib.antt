@@ -1,0 +1,12 @@
+pub mod Entry
+pub mod Given
+pub mod Interval
+pub mod IntervalEnd
+pub mod Marks
+pub mod Numbers
+pub mod OpenInterval
+pub mod Readings
+pub mod SoftRow
+pub mod Spread
+pub mod Standing
+pub mod Sums

@@ -1,0 +1,21 @@
+ghost use Rattle.std.specs.Prelude.{◌≡◌, ◌≤◌, ◌<◌, ◌↔◌, IsSome, IfSome};
+ghost use Rattle.station_base.specs.CivilMinute.{last_minute, minute_of};
+ghost use Rattle.station_base.specs.Period.{IsPeriod};
+ghost use Rattle.soft_record.specs.Entry.{end_of};
+ghost use Rattle.soft_record.specs.IntervalEnd.{IsNear};
+
+use crate::entry::Entry;
+use station_base::{Period, Stamp};
+
+/// The end of the entry's interval: the earliest full minute, not before the entry, whose number in its day is a multiple of
+/// the period. None if that is no stamp.
+pub fn interval_end(period: Period, entry: &Entry) -> Option<Stamp>
+    requires civil { entry.now.second < 60 }
+    ensures found { IsSome result ↔ (end_of period entry.now ≤ minute_of last_minute) }
+    ensures end { IfSome result (λ end. minute_of end ≡ end_of period entry.now) }
+    ensures near { IfSome result (IsNear entry.now) }
+    ensures period { IsPeriod period }
+{
+    let minutes = u32::from(period.minutes());
+    Stamp::from_minute(entry.full_minute().next_multiple_of(minutes))
+}

@@ -1,0 +1,68 @@
+ghost use Rattle.std.specs.Prelude.{◌≡◌, ◌≢◌, ◌+◌, ◌*◌, ◌<◌, ◌≤◌, ◌++◌, [], ◌∷◌, ℕ, List, Some, None};
+ghost use Rattle.std.proofs.Props.{props};
+ghost use Rattle.station_base.specs.CivilMinute.{minute_of};
+ghost use Rattle.station_base.specs.Period.{IsPeriod};
+ghost use Rattle.soft_record.specs.Entry.{end_of, moment};
+ghost use Rattle.soft_record.specs.Given.{AreGood, CanFollow};
+ghost use Rattle.soft_record.specs.IntervalEnd.{IsNear, longest};
+ghost use Rattle.soft_record.specs.Sums.{AreSmall, entries_in};
+ghost use Rattle.soft_record.specs.declared.entry.Entry as heard;
+
+use crate::entry::Entry;
+use crate::sums::Sums;
+use station_base::Stamp;
+
+/// The interval of the last entry: its end, that entry, and what its entries come to. Moments rise, so it has no more entries
+/// than seconds.
+#[derive(Clone, Copy, Debug)]
+pub struct OpenInterval {
+    pub end: Stamp,
+    pub last: Entry,
+    pub sums: Sums,
+    ghost small: { AreSmall sums } by { Prim.hlevel props },
+    ghost few: { entries_in sums + 60 * minute_of end ≤ moment last + longest },
+}
+
+impl OpenInterval {
+    ghost use Rattle.soft_record.specs.OpenInterval.{IsOpen};
+
+    /// That of the first entry of all.
+    pub fn first(end: Stamp, entry: &Entry) -> OpenInterval
+        requires near { IsNear entry.now end }
+        ensures { (period : ℕ) → minute_of end ≡ end_of period entry.now → IsOpen period (entry.now ∷ []) result }
+    {
+        OpenInterval {
+            end,
+            last: *entry,
+            sums: Sums::first(entry),
+        }
+    }
+
+    /// With one entry more.
+    pub fn with(&self, entry: &Entry) -> OpenInterval
+        requires later { moment self.now.last < moment entry.now }
+        requires reached { moment entry.now ≤ 60 * minute_of self.now.end }
+        ensures { (period : ℕ) (entries : List heard.Entry) → IsOpen period entries self.now → minute_of self.now.end ≡ end_of period entry.now
+            → IsOpen period (entries ++ entry.now ∷ []) result }
+    {
+        OpenInterval {
+            end: self.end,
+            last: *entry,
+            sums: self.sums.with(&self.last, entry),
+        }
+    }
+
+    /// The interval that an entry begins behind this one.
+    pub fn next(&self, end: Stamp, entry: &Entry) -> OpenInterval
+        requires near { IsNear entry.now end }
+        ensures { (period : ℕ) (entries : List heard.Entry) → IsPeriod period → AreGood period None entries → IsOpen period entries self.now
+            → CanFollow period (Some self.now.last) entry.now → minute_of end ≡ end_of period entry.now
+            → minute_of self.now.end ≢ minute_of end → IsOpen period (entries ++ entry.now ∷ []) result }
+    {
+        OpenInterval {
+            end,
+            last: *entry,
+            sums: Sums::new().with(&self.last, entry),
+        }
+    }
+}
