@@ -1,4 +1,4 @@
-"""Cases over a built program, for try_disk.py and try_line.py: each passes, fails, or is left out on this machine."""
+"""Cases over a built program, for try_disk.py, try_line.py and try_beside.py: each passes, fails, or is left out on this machine."""
 import os
 import shutil
 import signal

@@ -19,6 +19,8 @@ mod settings_changes_tests;
 #[cfg(test)]
 mod settings_file_tests;
 #[cfg(test)]
+mod shared_file;
+#[cfg(test)]
 mod weather_book_tests;
 #[cfg(test)]
 mod weather_reports_tests;

@@ -1,8 +1,10 @@
 use crate::dated_rows::{OUTSIDE, at, row_of, rows_of};
 use crate::fixtures::may_follow;
+use crate::shared_file::SharedFile;
 use arrayvec::ArrayVec;
 use daily_summary::FieldSum;
 use disk_model::{Disk, Disked, Length, MemDisk, Stopping};
+use gated_log::SLOT_SIZE;
 use station_base::{DayNumber, Row};
 use std::alloc::Global;
 use std::process::Abort;
@@ -208,5 +210,142 @@ fn the_first_version_is_read_and_not_written(rt: HostRuntime) -> Result<(), Fail
     assert!(rt; disk.write_at(0, b"DVARCH02") == Disked::Done);
     let second = open(&rt, rt.alloc(), &mut disk, Purpose::Read)?;
     assert_eq!(rt; second.len(), 2);
+    Ok(())
+}
+
+// The gate behind a row that was added alone.
+const GATE: usize = 352;
+
+// What a file holds before an add, behind its first write, and in the end.
+#[derive(Drop)]
+struct AddedFile {
+    before: Vec<u8>,
+    written: Vec<u8>,
+    opened: Vec<u8>,
+}
+
+impl AddedFile {
+    fn images(&self) -> [&[u8]; 3] {
+        [
+            self.before.as_slice(),
+            self.written.as_slice(),
+            self.opened.as_slice(),
+        ]
+    }
+}
+
+// The bytes of the file on a disk.
+fn bytes_of(rt: &impl Abort, alloc: Global, disk: &mut MemDisk) -> Result<Vec<u8>, Fail> {
+    let Length::Known(len) = disk.length() else {
+        return Err("no length")?;
+    };
+    let mut bytes = vec![in alloc; 0u8; len as usize]?;
+    assert!(rt; disk.read(0, bytes.as_mut_slice()) == Disked::Done);
+    Ok(bytes)
+}
+
+// The archive of one row, and an add of rows of these times behind it.
+fn added_file(rt: &impl Abort, alloc: Global, times: &[(u16, u16)]) -> Result<AddedFile, Fail> {
+    let mut disk = MemDisk::new(alloc, LONGEST, 20, LONGEST)?;
+    let mut book = open(rt, alloc, &mut disk, Purpose::Write)?;
+    assert!(rt; add(rt, alloc, &mut book, &mut disk, &[(1, 5)])? == Added::Done);
+    let before = bytes_of(rt, alloc, &mut disk)?;
+    assert!(rt; add(rt, alloc, &mut book, &mut disk, times)? == Added::Done);
+    let opened = bytes_of(rt, alloc, &mut disk)?;
+    let mut written = opened.clone()?;
+    assert!(rt; before.len() == GATE + 1 && written.len() > GATE);
+    written[GATE] = 0;
+    Ok(AddedFile {
+        before,
+        written,
+        opened,
+    })
+}
+
+// How many rows are found while the two writes of an add come before these calls, each row being the one that was added.
+fn rows_beside_a_writer(
+    rt: &impl Abort,
+    alloc: Global,
+    file: &AddedFile,
+    times: &[(u16, u16)],
+    written_at: u64,
+    opened_at: u64,
+) -> Result<u64, Fail> {
+    let mut disk = SharedFile::new(file.images(), written_at, opened_at);
+    let book = open(rt, alloc, &mut disk, Purpose::Read)?;
+    let rows = rows_of(rt, alloc, times)?;
+    for (n, row) in rows.as_slice().iter().enumerate() {
+        let n = n as u64;
+        if n < book.len() {
+            assert!(rt; book.row(&mut disk, n) == RowAnswer::Row(*row));
+        }
+    }
+    Ok(book.len())
+}
+
+#[test]
+fn a_reader_beside_a_writer_finds_the_rows_before_or_after_an_add(
+    rt: HostRuntime,
+) -> Result<(), Fail> {
+    // One slot; and 29 slots, of three rows that close two days.
+    let adds: [(&[(u16, u16)], u64); 2] = [
+        (&[(1, 5), (1, 10)], 2),
+        (&[(1, 5), (1, 10), (2, 5), (3, 5)], 4),
+    ];
+    for (times, after) in adds {
+        let [_, added @ ..] = times else {
+            return Err("no row")?;
+        };
+        let file = added_file(&rt, rt.alloc(), added)?;
+        for opened_at in 1..12 {
+            for written_at in 1..opened_at + 1 {
+                let rows = rows_beside_a_writer(
+                    &rt,
+                    rt.alloc(),
+                    &file,
+                    times,
+                    written_at,
+                    opened_at,
+                )?;
+                // The length, the head, a gate, its number of slots, and the gate behind the first row.
+                assert_eq!(rt;
+                    rows,
+                    if opened_at <= 5 { after } else { 1 },
+                    "written at {written_at}, opened at {opened_at}"
+                );
+            }
+        }
+    }
+    Ok(())
+}
+
+// The damaged place of a file that has these bytes from a call on, and others before.
+fn damaged_from(alloc: Global, before: &[u8], bytes: &[u8], call: u64) -> Result<u64, Fail> {
+    let mut disk = SharedFile::new([before, bytes, bytes], call, call);
+    match Book::recover(alloc, &mut disk, 10, Purpose::Read) {
+        BookStart::Damaged(at) => Ok(at),
+        _ => Err("no damage")?,
+    }
+}
+
+#[test]
+fn a_file_that_does_not_grow_is_damaged_at_its_place(rt: HostRuntime) -> Result<(), Fail> {
+    let file = added_file(&rt, rt.alloc(), &[(1, 10)])?;
+    let whole = file.opened.as_slice();
+    assert!(rt; whole.len() == GATE + SLOT_SIZE + 1);
+    // Cut behind the gate, in the number of slots, within the batch, and right behind it.
+    for len in [GATE + 1, GATE + 3, GATE + 100, GATE + SLOT_SIZE] {
+        assert!(rt; len <= whole.len());
+        let cut = &whole[..len];
+        assert_eq!(rt; damaged_from(rt.alloc(), cut, cut, 1)?, 352, "{len} bytes");
+    }
+    // A batch of no slots, in a file that grows once and no more.
+    let mut none = file.opened.clone()?;
+    assert!(rt; none.len() > GATE + 2);
+    none[GATE + 2] = 0;
+    for call in 1..6 {
+        let place = damaged_from(rt.alloc(), file.before.as_slice(), none.as_slice(), call)?;
+        assert_eq!(rt; place, 352, "from call {call}");
+    }
     Ok(())
 }
