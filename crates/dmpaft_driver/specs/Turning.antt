@@ -63,7 +63,7 @@ abbrev pub IsOneCall : List TalkItem → Type 0
 IsOneCall talk = ((bytes : List ℕ) × (bytes ≢ []) × ((talk ≡ message bytes) ⊎ (talk ≡ map Heard bytes)))
     ⊎ (talk ≡ Quiet ∷ [])
 
--- there was one call of the link, or one batch was answered
+-- one message was said, some bytes were heard or one wait passed, or one batch was answered
 abbrev pub IsOneStep : Option CivilMinute → State → List TalkItem → List Stored → Type 0
 IsOneStep after s talk answers = ((answers ≡ []) × IsOneCall talk)
     ⊎ ((talk ≡ []) × (answer : Stored) × (answers ≡ answer ∷ [])

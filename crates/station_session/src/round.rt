@@ -34,7 +34,7 @@ pub enum Begun {
 /// What comes of one turn of a round.
 #[derive(Clone, Copy, Debug, PartialEq, Eq)]
 pub enum Turn {
-    /// The link or the book was called once, and the round goes on.
+    /// One message was said, some bytes were heard, one wait passed or one batch was kept, and the round goes on.
     More,
     /// The round is over. No turn may follow.
     Ended(RoundEnd),
