@@ -4,8 +4,8 @@ use Rattle.console_model.specs.Console.{Console}
 use Rattle.console_model.specs.Due.{due}
 use Rattle.console_model.specs.Tick.{tick}
 use Rattle.station_sim.specs.Line.{due_all}
-use Rattle.station_sim.specs.declared.schedule.step.Step.{Step}
-use Rattle.station_sim.specs.declared.schedule.step.Step.TheVariants.{Due, Run, Idle, Open, Round}
+use Rattle.schedule_file.specs.declared.schedule.step.Step.{Step}
+use Rattle.schedule_file.specs.declared.schedule.step.Step.TheVariants.{Due, Run, Idle, Open, Round}
 use Rattle.console_server.specs.Runs.{run_from}
 
 -- so many ticks pass, and what the console says to them is not heard

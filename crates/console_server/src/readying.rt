@@ -4,8 +4,8 @@ ghost use Rattle.console_server.specs.Ready.{made_ready, ticked};
 
 use crate::run::run_falls_due;
 use console_model::Console;
+use schedule_file::Step;
 use station_base::Period;
-use station_sim::Step;
 
 /// Takes the steps of a schedule of this period before its first round: records fall due, and ticks pass.
 ///

@@ -2,9 +2,9 @@ use crate::new_console;
 use console_model::{Console, Due};
 use console_server::{ServeEnd, Served, make_ready, serve};
 use loop_packet::LoopPacket;
+use schedule_file::{Schedule, Step};
 use serial_link::{ScriptItem, ScriptLink, TalkItem};
 use station_base::{Period, Stamp};
-use station_sim::{Schedule, Step};
 use std::alloc::Global;
 use std::test::Fail;
 

@@ -6,8 +6,8 @@ use Rattle.eeprom_map.specs.Memory.{new_memory}
 use Rattle.loop_packet.specs.Blank.{IsBlank}
 use Rattle.loop_packet.specs.declared.packet.LoopPacket.{LoopPacket}
 use Rattle.settings_file.specs.StationSettings.{StationSettings, plain_settings}
-use Rattle.station_sim.specs.declared.schedule.step.Step as code_step
-use Rattle.station_sim.specs.ScheduleSteps.{steps_seen}
+use Rattle.schedule_file.specs.declared.schedule.step.Step as code_step
+use Rattle.schedule_file.specs.Steps.{steps_seen}
 use Rattle.station_replay.specs.Replay.{start}
 use Rattle.station_replay.specs.Schedule.{records}
 use Rattle.schedule_replay.specs.Accepted.{AreAccepted, HasRecord}

@@ -7,8 +7,8 @@ use Rattle.jiff_core.proofs.CalendarLemmas.{days_in_month_bounds}
 use Rattle.jiff_core.specs.Calendar.{day_count, days_from_civil, days_of_months, days_of_years}
 use Rattle.station_base.specs.CivilMinute.{IsCivilMinute, minute_of}
 use Rattle.station_base.proofs.Minutes.{last_minute_number}
-use Rattle.station_sim.specs.declared.schedule.step.Step as code_step
-use Rattle.station_sim.specs.ScheduleSteps.{MidRecord, Step, no_details, records_in, steps_seen}
+use Rattle.schedule_file.specs.declared.schedule.step.Step as code_step
+use Rattle.schedule_file.specs.Steps.{MidRecord, Step, no_details, records_in, steps_seen}
 use Rattle.station_replay.specs.Schedule.{records}
 use Rattle.station_replay.specs.Stopped.{IsStop}
 use Rattle.schedule_replay.specs.Accepted.{AreAccepted, HasRecord}

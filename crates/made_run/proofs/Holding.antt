@@ -10,7 +10,7 @@ use Rattle.archive_record.specs.Place.{can_hold}
 use Rattle.archive_record.specs.Table.{field_places, place, places}
 use Rattle.archive_record.specs.Writing.{can_hold_all}
 use Rattle.archive_record.specs.declared.kind.Kind.TheVariants.{SignedWord, Word}
-use Rattle.station_sim.specs.ScheduleForms.{no_values}
+use Rattle.schedule_file.specs.Forms.{no_values}
 use Rattle.made_run.specs.Made.{due_values}
 
 at_most : (a b : ℤ) → a ≤ℤ b → int_le a b ≡ true

@@ -15,10 +15,11 @@ use Rattle.console_model.specs.Hear.{hear}
 use Rattle.console_model.specs.Tick.{tick}
 use Rattle.console_model.specs.declared.reply.ReplyKind.{ReplyKind}
 use Rattle.console_model.specs.declared.reply.ReplyKind.TheVariants.{Nothing, Code, Test, Wake, Ack, AckFrame, Page, Packet}
-use Rattle.station_sim.specs.declared.fate.Fate.{Fate}
-use Rattle.station_sim.specs.declared.fate.Fate.TheVariants.{Lost, Cut, Dropped, Flipped}
+use Rattle.schedule_file.specs.declared.fate.Fate.{Fate}
+use Rattle.schedule_file.specs.declared.fate.Fate.TheVariants.{Lost, Cut, Dropped, Flipped}
 use Rattle.station_sim.specs.declared.unseen.Unseen.{Unseen}
-use Rattle.station_sim.specs.Fates.{Fates, delivered}
+use Rattle.schedule_file.specs.Fates.{Fates}
+use Rattle.station_sim.specs.Delivery.{delivered}
 use Rattle.station_sim.specs.Joining.{and_then_some}
 use Rattle.station_sim.specs.Line.{Line, begins_with_ack, completes, counted, earlier, flies, from_console, from_host, happens, hears, is_harmed, joins, pages, passes, replied, says}
 use Rattle.station_sim.specs.Talk.{console_talk, started, step}

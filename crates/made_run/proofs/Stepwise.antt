@@ -7,9 +7,9 @@ use Rattle.station_base.specs.Stamp.{stamp_of_text, stamp_text}
 use Rattle.station_base.specs.declared.row.Row.{Row}
 use Rattle.archive_record.specs.Reading.{reading}
 use Rattle.archive_record.specs.declared.record_read.RecordRead.TheVariants.{Row as ReadRow}
-use Rattle.station_sim.specs.declared.schedule.step.Step as code_step
-use Rattle.station_sim.specs.declared.schedule.step.Step.TheVariants as code
-use Rattle.station_sim.specs.ScheduleSteps.{Step, DueStep, step_seen, steps_seen}
+use Rattle.schedule_file.specs.declared.schedule.step.Step as code_step
+use Rattle.schedule_file.specs.declared.schedule.step.Step.TheVariants as code
+use Rattle.schedule_file.specs.Steps.{Step, DueStep, step_seen, steps_seen}
 use Rattle.archive_record.proofs.Stamping.{same_minute}
 use Rattle.made_run.specs.Draws.{drawn, next}
 use Rattle.made_run.specs.Made.{after_rounds, due_after, due_step, due_values, first_due, is_round, plain_round, rounds_behind, steps_from}

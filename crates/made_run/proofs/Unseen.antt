@@ -4,12 +4,12 @@ use Rattle.std.specs.BTreeMap.{is_at}
 use Rattle.std.specs.Map.{lookup}
 use Rattle.std.specs.Ordering.{nat_cmp}
 use Rattle.settings_file.specs.StationSettings.{StationSettings}
-use Rattle.station_sim.specs.declared.fate.Fate.{Fate}
-use Rattle.station_sim.specs.declared.schedule.step.Step as code_step
-use Rattle.station_sim.specs.declared.schedule.step.Step.TheVariants as code
-use Rattle.station_sim.specs.Fates.{Fates}
-use Rattle.station_sim.specs.Lists.{entry_of}
-use Rattle.station_sim.specs.ScheduleSteps.{Details, Step as Seen, DueStep, RunStep, IdleStep, OpenStep, RoundStep, no_details, steps_seen}
+use Rattle.schedule_file.specs.declared.fate.Fate.{Fate}
+use Rattle.schedule_file.specs.declared.schedule.step.Step as code_step
+use Rattle.schedule_file.specs.declared.schedule.step.Step.TheVariants as code
+use Rattle.schedule_file.specs.Fates.{Fates}
+use Rattle.schedule_file.specs.Lists.{entry_of}
+use Rattle.schedule_file.specs.Steps.{Details, Step as Seen, DueStep, RunStep, IdleStep, OpenStep, RoundStep, no_details, steps_seen}
 use Rattle.station_replay.specs.Replay.{IsUnseen, Item, Stage}
 use Rattle.station_replay.specs.Schedule.{Step, Stop}
 use Rattle.schedule_replay.specs.Steps.{steps_for}

@@ -6,10 +6,10 @@ use Rattle.station_base.specs.CivilMinute.{CivilMinute, minute_of}
 use Rattle.station_base.specs.Fields.{field_named}
 use Rattle.station_base.specs.declared.row.Row.{Row}
 use Rattle.archive_record.specs.declared.record_read.RecordRead.TheVariants.{Row as ReadRow}
-use Rattle.station_sim.specs.declared.fate.Fate.TheVariants.{Lost, Cut}
-use Rattle.station_sim.specs.declared.schedule.step.Stop.{Stop}
-use Rattle.station_sim.specs.ScheduleForms.{no_values}
-use Rattle.station_sim.specs.ScheduleSteps.{Details, Step, DueStep, RoundStep, no_details}
+use Rattle.schedule_file.specs.declared.fate.Fate.TheVariants.{Lost, Cut}
+use Rattle.schedule_file.specs.declared.schedule.step.Stop.{Stop}
+use Rattle.schedule_file.specs.Forms.{no_values}
+use Rattle.schedule_file.specs.Steps.{Details, Step, DueStep, RoundStep, no_details}
 use Rattle.archive_record.specs.MovedOn.{minute_numbered}
 use Rattle.made_run.specs.Draws.{drawn, next}
 

@@ -2,7 +2,7 @@ ghost use Rattle.std.specs.Prelude.{◌≡◌, ◌<◌, ◌^◌};
 ghost use Rattle.archive_record.specs.Reading.{reading};
 ghost use Rattle.archive_record.specs.declared.record_read.RecordRead.{RecordRead};
 ghost use Rattle.station_base.specs.Fields.{field_named};
-ghost use Rattle.station_sim.specs.ScheduleForms.{no_values};
+ghost use Rattle.schedule_file.specs.Forms.{no_values};
 ghost use Rattle.made_run.specs.Draws.{drawn, next};
 ghost use Rattle.made_run.specs.Made.{due_values, first_due, with_value};
 

@@ -1,11 +1,11 @@
 ghost use Rattle.std.specs.Prelude.{◌≡◌, ◌<◌, ◌^◌, ℕ, IfOk, OnOk};
-ghost use Rattle.station_sim.specs.ScheduleSteps.{details_seen, step_seen};
+ghost use Rattle.schedule_file.specs.Steps.{details_seen, step_seen};
 ghost use Rattle.made_run.specs.Draws.{next};
 ghost use Rattle.made_run.specs.Made.{after_kind, details_of, kind_drawn, plain_round, round_of, stop_of};
 
 use crate::draws::Draws;
 use causes::OutOfMemory;
-use station_sim::{Fate, Fates, Step, Stop};
+use schedule_file::{Fate, Fates, Step, Stop};
 use std::alloc::Global;
 
 // The kinds of a round, of which those from 0 to 3 have nothing that befalls in it.

@@ -1,14 +1,14 @@
 ghost use Rattle.std.specs.Prelude.{◌≡◌, ◌<◌, ◌≤◌, ◌+◌, ◌^◌, IfOk};
 ghost use Rattle.station_base.specs.CivilMinute.{IsCivilMinute, minute_of, last_minute};
-ghost use Rattle.station_sim.specs.ScheduleSteps.{steps_seen};
+ghost use Rattle.schedule_file.specs.Steps.{steps_seen};
 ghost use Rattle.made_run.specs.Made.{is_round, made_steps};
 
 use crate::draws::Draws;
 use crate::record::{drawn_record, first_stamp};
 use crate::round::{drawn_round, plain_round};
 use causes::OutOfMemory;
+use schedule_file::Step;
 use station_base::{Period, Stamp};
-use station_sim::Step;
 use std::alloc::Global;
 
 /// The most records that are made.

@@ -1,3 +1,4 @@
+pub mod BeforeRounds
 pub mod Playable
 pub mod Readied
 pub mod Replays

@@ -12,7 +12,7 @@ use Rattle.settings_file.specs.declared.fault.SettingsFault.{SettingsFault}
 use Rattle.station_io.specs.Files.{Gives}
 use Rattle.station_io.specs.declared.files.TextRead.{TextRead}
 use Rattle.station_io.specs.declared.files.TextRead.TheVariants as reads
-use Rattle.station_sim.specs.ScheduleReading.{steps_of}
+use Rattle.schedule_file.specs.Reading.{steps_of}
 use Rattle.run_output.specs.Judged.{Judged, MayComeOf, MayComeOfText, refused, accepted}
 use Rattle.model_commands.specs.JudgedSchedule.{JudgedSchedule, MayPlay, ScheduleComesOf, ScheduleComesOfText, unplayable, playable}
 use Rattle.run_output.specs.Output.{Output}

@@ -1,4 +1,4 @@
--- The console that is served is the one that a run has at its first round.
+-- The steps of a schedule in memory make of a console what its steps by the rules do.
 use Rattle.std.proofs.Common.{◌≡◌, ℕ, zero, suc, ◌+◌, ◌-◌, ◌*◌, ◌≤◌, Bool, true, if◌then◌else◌, List, [], ◌∷◌, Option, Some, None, refl, ap, ◌∙◌, arith}
 use Rattle.std.proofs.lemmas.Bool.Decides.{nat_tests}
 use Rattle.std.specs.List.{AllByRecursion}
@@ -16,8 +16,8 @@ use Rattle.schedule_replay.specs.Runs as run
 use Rattle.schedule_replay.specs.Steps.{steps_for}
 use Rattle.station_base.specs.CivilMinute.{CivilMinute, minute_of, last_minute}
 use Rattle.station_sim.specs.Line.{due_all}
-use Rattle.station_sim.specs.declared.schedule.step.Step.{Step}
-use Rattle.station_sim.specs.declared.schedule.step.Step.TheVariants.{Due, Run, Idle, Open, Round}
+use Rattle.schedule_file.specs.declared.schedule.step.Step.{Step}
+use Rattle.schedule_file.specs.declared.schedule.step.Step.TheVariants.{Due, Run, Idle, Open, Round}
 use Rattle.model_commands.specs.ConsoleRun.{before_rounds}
 
 -- so the records of a run are the same

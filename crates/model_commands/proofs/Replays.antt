@@ -39,6 +39,7 @@ not_begun settings from steps known = record {
   kept = record {
     gathers = tt;
     never_shrinks = tt;
+    acknowledged = tt;
     complete = tt;
     stopped = tt;
     gave_up = tt;

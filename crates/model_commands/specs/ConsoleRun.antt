@@ -1,5 +1,6 @@
 -- What a run does that serves a modelled console: its two readings, its one connect, the serving, and what is written.
 use Rattle.std.specs.Prelude.{ℕ, ◌≡◌, ◌⊎◌, List, [], ◌∷◌, ◌++◌, codes, decimal}
+use Rattle.causes.specs.Cause.{Rose}
 use Rattle.causes.specs.Told.{WhereTold}
 use Rattle.command_words.specs.Command.{ConsoleNames}
 use Rattle.console_model.specs.Console as model
@@ -8,18 +9,16 @@ use Rattle.console_model.specs.declared.console.Console.{Console}
 use Rattle.console_server.specs.Ready.{ticked}
 use Rattle.console_server.specs.Serving.{ServesTurns}
 use Rattle.console_server.specs.declared.serving.ServeEnd.{ServeEnd}
-use Rattle.console_server.specs.declared.serving.ServeEnd.TheVariants as end
+use Rattle.console_server.specs.declared.serving.ServeEnd.TheVariants as serve_end
 use Rattle.console_server.specs.declared.serving.Served.{Served}
 use Rattle.eeprom_map.specs.Memory.{new_memory}
 use Rattle.loop_packet.specs.Blank.{IsBlank}
 use Rattle.loop_packet.specs.declared.packet.LoopPacket.{LoopPacket}
-use Rattle.serial_link.specs.Link.{Dials}
-use Rattle.serial_link.specs.Talk.{Adds}
+use Rattle.serial_link.specs.Link.{Dials, Talks}
 use Rattle.serial_link.specs.Traffic.{Traffic}
 use Rattle.serial_link.specs.declared.link.Connected.{Connected}
 use Rattle.serial_link.specs.declared.link.Connected.TheVariants as connected
 use Rattle.serial_link.specs.declared.link.Side.TheVariants.{Serve}
-use Rattle.serial_link.specs.declared.talk.TalkItem.{TalkItem}
 use Rattle.settings_file.specs.StationSettings.{StationSettings}
 use Rattle.station_io.specs.Files.{Gives, Shelf}
 use Rattle.station_io.specs.Sink.{Outlet}
@@ -40,6 +39,14 @@ before_rounds (Step.Idle ticks ∷ steps) k = before_rounds steps (ticked ticks 
 before_rounds (Step.Open stop ∷ steps) k = before_rounds steps k
 before_rounds (Step.Round fates left stop ∷ steps) k = k
 
+-- no step is a round
+abbrev pub HaveNoRound : List Step → Type 0
+HaveNoRound [] = Unit {0}
+HaveNoRound (Step.Due records ∷ steps) = HaveNoRound steps
+HaveNoRound (Step.Idle ticks ∷ steps) = HaveNoRound steps
+HaveNoRound (Step.Open stop ∷ steps) = HaveNoRound steps
+HaveNoRound (Step.Round fates left stop ∷ steps) = ⊥
+
 -- a new console of this period, after the steps before the first round
 abbrev pub console_served : ℕ → LoopPacket → List Step → model.Console
 console_served period packet steps = before_rounds steps (model.fresh (new_memory period) packet)
@@ -50,16 +57,17 @@ served_line count = codes "served " ++ decimal count.heard ++ codes " " ++ decim
 
 -- what is written of a serving that ended so
 abbrev pub served_output : ServeEnd → Served → Output
-served_output end.Done count = record { text = served_line count; status = ends.Done }
-served_output end.LinkFault count = link_fault
-served_output end.OutOfMemory count = no_memory
+served_output serve_end.Done count = record { text = served_line count; status = ends.Done }
+served_output serve_end.LinkFault count = link_fault
+served_output serve_end.OutOfMemory count = no_memory
 
 -- nothing was heard or said
 abbrev pub unserved : Served
 unserved = record { heard = 0; said = 0 }
 
 -- A console in memory that stood for the one to be served, with a blank packet, was served over the link for so many
--- turns, and what came of that was written.
+-- turns, and what came of that was written. The serving ended by a fault of the link, or for want of memory, only where
+-- the link's own count of that rose.
 pub record ServesConsole {L S : Type 0} (traffic : Traffic L) (outlet : Outlet S) (period : ℕ) (steps : List Step)
     (turns : ℕ) (link : L) (out : S) (link' : L) (out' : S) (result : ℕ) : Type 0 where
   pub packet : LoopPacket
@@ -69,7 +77,8 @@ pub record ServesConsole {L S : Type 0} (traffic : Traffic L) (outlet : Outlet S
   pub after : Console
   pub end : ServeEnd
   pub count : Served
-  pub talk : (t : List TalkItem) × ServesTurns end turns before after unserved count t × Adds traffic link t link'
+  pub talks : Talks traffic link (ServesTurns end turns before after unserved count)
+      (end ≡ serve_end.LinkFault) (end ≡ serve_end.OutOfMemory) link'
   pub written : EndsWith outlet (served_output end count) out out' result
 
 -- over a link that could not be connected nothing is done, and over one that could be the console is served
@@ -135,3 +144,7 @@ abbrev pub IsServedOrHindered : Status → Type 0
 IsServedOrHindered status =
     (status ≡ ends.Done) ⊎ (status ≡ ends.LinkFault) ⊎ (status ≡ ends.ReadFault) ⊎ (status ≡ ends.WriteFault)
     ⊎ (status ≡ ends.OutOfMemory)
+
+-- the link is as it was, or it was short of memory
+abbrev pub IsUntouchedOrShort : {L : Type 0} → Traffic L → L → L → Type 0
+IsUntouchedOrShort traffic old new = (new ≡ old) ⊎ Rose (traffic.shortages old) (traffic.shortages new)

@@ -3,7 +3,7 @@ use Rattle.std.specs.Prelude.{Result, Ok, Err}
 use Rattle.run_output.specs.JudgedRead.{ending_output}
 use Rattle.run_output.specs.declared.judging.Ending.{Ending}
 use Rattle.schedule_replay.specs.Replayed.{steps_in}
-use Rattle.station_sim.specs.declared.schedule.Schedule.{Schedule}
+use Rattle.schedule_file.specs.declared.schedule.Schedule.{Schedule}
 use Rattle.model_commands.specs.JudgedSchedule.{JudgedSchedule, unplayable, playable}
 
 abbrev pub schedule_judged : Result Schedule Ending → JudgedSchedule

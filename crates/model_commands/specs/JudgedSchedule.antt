@@ -3,9 +3,9 @@ use Rattle.std.specs.Prelude.{ℕ, ◌≡◌, ◌≢◌, ◌⊎◌, List, ◌++�
 use Rattle.station_base.specs.NumberText.{number_text}
 use Rattle.station_io.specs.declared.files.TextRead.{TextRead}
 use Rattle.station_io.specs.declared.files.TextRead.TheVariants as reads
-use Rattle.station_sim.specs.ScheduleAnswer.{ReadsAs}
-use Rattle.station_sim.specs.ScheduleReading.{LineFault, steps_of}
-use Rattle.station_sim.specs.declared.schedule.Schedule.{Schedule}
+use Rattle.schedule_file.specs.Answer.{ReadsAs}
+use Rattle.schedule_file.specs.Reading.{LineFault, steps_of}
+use Rattle.schedule_file.specs.declared.schedule.Schedule.{Schedule}
 use Rattle.station_replay.specs.Schedule.{Step}
 use Rattle.schedule_replay.specs.Replayed.{steps_in}
 use Rattle.run_output.specs.declared.status.Status.TheVariants as ends

@@ -10,7 +10,7 @@ use Rattle.settings_file.specs.StationSettings.{StationSettings}
 use Rattle.station_io.specs.Files.{Gives, Shelf, most_bytes}
 use Rattle.station_io.specs.Sink.{Outlet}
 use Rattle.station_io.specs.declared.files.TextRead.{TextRead}
-use Rattle.station_sim.specs.ScheduleReading.{steps_of}
+use Rattle.schedule_file.specs.Reading.{steps_of}
 use Rattle.station_replay.specs.Replay.{Stage, start}
 use Rattle.station_replay.specs.Schedule.{Step}
 use Rattle.schedule_replay.specs.Replayed.{IsCutOff, IsReplayed}

@@ -5,11 +5,11 @@ ghost use Rattle.model_commands.specs.JudgedRead.{schedule_judged};
 ghost use Rattle.model_commands.specs.JudgedSchedule.{IsNoFailedCall, ScheduleComesOf, ScheduleComesOfText, bad_schedule};
 
 use run_output::{Ending, Status};
+use schedule_file::{Schedule, ScheduleFault};
 use schedule_replay::accepted;
 use settings_file::Line;
 use station_base::{Period, push_bytes, push_number};
 use station_io::TextRead;
-use station_sim::{Schedule, ScheduleFault};
 use std::alloc::Global;
 
 /// The schedule in a text, for a console of this period, by what came of its reading, or how the run ends without it.

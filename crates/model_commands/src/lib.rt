@@ -2,10 +2,12 @@
 #![tactic(auto)]
 
 mod judging;
+mod laws;
 mod making;
 mod replaying;
 mod serving;
 
+pub use laws::a_served_console_is_that_of_a_run;
 pub use making::make_run;
 pub use replaying::replay_files;
 pub use serving::serve_files;

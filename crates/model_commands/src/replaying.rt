@@ -12,10 +12,10 @@ ghost use Rattle.model_commands.specs.ReplayRun.{HasGoodFiles, HasRest, IsGoodSc
 use crate::judging::judge_schedule;
 use loop_packet::LoopPacket;
 use run_output::{Ending, Status, finish, judge};
+use schedule_file::Schedule;
 use schedule_replay::{ReplayEnd, new_disk, new_line, replay};
 use settings_file::Settings;
 use station_io::{Files, Sink};
-use station_sim::Schedule;
 use std::alloc::Global;
 
 /// Replays the schedule that one file holds under the settings that another holds, which are read first.

@@ -6,7 +6,7 @@ ghost use Rattle.loop_packet.specs.declared.packet.LoopPacket.{LoopPacket};
 ghost use Rattle.schedule_replay.specs.Accepted.{IsAccepted};
 ghost use Rattle.schedule_replay.specs.Replayed.{steps_in};
 ghost use Rattle.station_replay.specs.Schedule.{Step};
-ghost use Rattle.model_commands.specs.ConsoleRun.{IsServedOrHindered, MayWait, ServesConsole, ServesFiles, WaitsBy, WaitsForCall, WaitsUnder, WaitsUnderSchedule, console_served, served_line, served_output};
+ghost use Rattle.model_commands.specs.ConsoleRun.{IsServedOrHindered, IsUntouchedOrShort, MayWait, ServesConsole, ServesFiles, WaitsBy, WaitsForCall, WaitsUnder, WaitsUnderSchedule, console_served, served_line, served_output};
 ghost use Rattle.command_words.specs.Command.{console_names};
 ghost use Rattle.run_output.specs.Judged.{IsEnding, IsReadFault};
 ghost use Rattle.run_output.specs.JudgedRead.{judged_of};
@@ -25,11 +25,11 @@ use eeprom_map::Eeprom;
 use itoa::Buffer;
 use loop_packet::LoopPacket;
 use run_output::{Ending, Status, finish, judge};
+use schedule_file::Schedule;
 use serial_link::{Connected, Link, Side};
 use settings_file::Settings;
 use station_base::push_bytes;
 use station_io::{Files, Sink};
-use station_sim::Schedule;
 use std::alloc::Global;
 
 /// Serves a new modelled console at an address for so many turns. One file holds the settings, whose period it has, and
@@ -47,6 +47,7 @@ pub fn serve_files<F: Files, K: Sink, L: Link>(
     ensures still { FilesStill F.shelf result files.old files.new }
     ensures kind { result ≢ Status.DiskFault }
     ensures link_fault { Cause (L.traffic.faults link.old) (L.traffic.faults link.new) (result ≡ Status.LinkFault) }
+    ensures shortage { result ≡ Status.OutOfMemory → IsUntouchedOrShort L.traffic link.old link.new }
     ensures write_fault { Cause (K.outlet.faults out.old) (K.outlet.faults out.new) (result ≡ Status.WriteFault) }
     ensures sink_still { result ≢ Status.WriteFault → K.outlet.faults out.new ≡ K.outlet.faults out.old }
     ensures complete { HasGoodFiles F.shelf words.now.settings.now words.now.schedule.now files.old → IsServedOrHindered result }
@@ -75,6 +76,7 @@ fn serve_under<F: Files, K: Sink, L: Link>(
     ensures still { FilesStill F.shelf result files.old files.new }
     ensures kind { result ≢ Status.DiskFault }
     ensures link_fault { Cause (L.traffic.faults link.old) (L.traffic.faults link.new) (result ≡ Status.LinkFault) }
+    ensures shortage { result ≡ Status.OutOfMemory → IsUntouchedOrShort L.traffic link.old link.new }
     ensures write_fault { Cause (K.outlet.faults out.old) (K.outlet.faults out.new) (result ≡ Status.WriteFault) }
     ensures sink_still { result ≢ Status.WriteFault → K.outlet.faults out.new ≡ K.outlet.faults out.old }
     ensures complete { HasRest (F.shelf.held files.old words.now.schedule.now) (judged_of judged) → IsServedOrHindered result }
@@ -100,6 +102,7 @@ fn serve_file<F: Files, K: Sink, L: Link>(
     ensures still { FilesStill F.shelf result files.old files.new }
     ensures kind { result ≢ Status.DiskFault }
     ensures link_fault { Cause (L.traffic.faults link.old) (L.traffic.faults link.new) (result ≡ Status.LinkFault) }
+    ensures shortage { result ≡ Status.OutOfMemory → IsUntouchedOrShort L.traffic link.old link.new }
     ensures write_fault { Cause (K.outlet.faults out.old) (K.outlet.faults out.new) (result ≡ Status.WriteFault) }
     ensures sink_still { result ≢ Status.WriteFault → K.outlet.faults out.new ≡ K.outlet.faults out.old }
     ensures complete { IsSomeAnd (F.shelf.held files.old words.now.schedule.now) (IsGoodSchedule settings.now.period)
@@ -128,6 +131,7 @@ fn serve_judged<K: Sink, L: Link>(
     ensures reported { IsUnread (schedule_judged judged) → (result ≡ Status.ReadFault) ⊎ (result ≡ Status.WriteFault) }
     ensures kind { result ≢ Status.DiskFault }
     ensures link_fault { Cause (L.traffic.faults link.old) (L.traffic.faults link.new) (result ≡ Status.LinkFault) }
+    ensures shortage { result ≡ Status.OutOfMemory → IsUntouchedOrShort L.traffic link.old link.new }
     ensures write_fault { Cause (K.outlet.faults out.old) (K.outlet.faults out.new) (result ≡ Status.WriteFault) }
     ensures sink_still { result ≢ Status.WriteFault → K.outlet.faults out.new ≡ K.outlet.faults out.old }
     ensures complete { MayPlay (schedule_judged judged) → IsServedOrHindered result }
@@ -153,6 +157,7 @@ fn serve_schedule<K: Sink, L: Link>(
     ensures kind { (result ≡ Status.Done) ⊎ (result ≡ Status.LinkFault) ⊎ (result ≡ Status.WriteFault)
         ⊎ (result ≡ Status.OutOfMemory) }
     ensures link_fault { Cause (L.traffic.faults link.old) (L.traffic.faults link.new) (result ≡ Status.LinkFault) }
+    ensures shortage { result ≡ Status.OutOfMemory → IsUntouchedOrShort L.traffic link.old link.new }
     ensures write_fault { Cause (K.outlet.faults out.old) (K.outlet.faults out.new) (result ≡ Status.WriteFault) }
     ensures sink_still { result ≢ Status.WriteFault → K.outlet.faults out.new ≡ K.outlet.faults out.old }
 {
@@ -195,6 +200,7 @@ fn serve_console<K: Sink, L: Link>(
     ensures kind { (result ≡ Status.Done) ⊎ (result ≡ Status.LinkFault) ⊎ (result ≡ Status.WriteFault)
         ⊎ (result ≡ Status.OutOfMemory) }
     ensures link_fault { Cause (L.traffic.faults link.old) (L.traffic.faults link.new) (result ≡ Status.LinkFault) }
+    ensures shortage { Cause (L.traffic.shortages link.old) (L.traffic.shortages link.new) (result ≡ Status.OutOfMemory) }
     ensures write_fault { Cause (K.outlet.faults out.old) (K.outlet.faults out.new) (result ≡ Status.WriteFault) }
     ensures sink_still { result ≢ Status.WriteFault → K.outlet.faults out.new ≡ K.outlet.faults out.old }
 {
@@ -209,6 +215,7 @@ fn write_serving<K: Sink>(end: ServeEnd, count: &Served, out: &mut K) -> Status
     ensures kind { (result ≡ Status.Done) ⊎ (result ≡ Status.LinkFault) ⊎ (result ≡ Status.WriteFault)
         ⊎ (result ≡ Status.OutOfMemory) }
     ensures link_fault { result ≡ Status.LinkFault → end ≡ ServeEnd.LinkFault }
+    ensures shortage { result ≡ Status.OutOfMemory → end ≡ ServeEnd.OutOfMemory }
     ensures write_fault { Cause (K.outlet.faults out.old) (K.outlet.faults out.new) (result ≡ Status.WriteFault) }
     ensures sink_still { result ≢ Status.WriteFault → K.outlet.faults out.new ≡ K.outlet.faults out.old }
 {

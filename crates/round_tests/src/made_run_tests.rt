@@ -1,7 +1,7 @@
 use crate::five_minutes;
 use made_run::{MOST_MADE, MakeEnd, made_schedule, make};
+use schedule_file::{Fate, Fates, Schedule, Step};
 use schedule_replay::Counts;
-use station_sim::{Fate, Fates, Schedule, Step};
 use std::alloc::Global;
 use std::process::Abort;
 use std::test::Fail;

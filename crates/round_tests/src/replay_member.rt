@@ -3,10 +3,11 @@ ghost use Rattle.schedule_replay.specs.Replaying.{MayTurn};
 
 use disk_model::{MemDisk, Stopping};
 use loop_packet::LoopPacket;
+use schedule_file::Schedule;
 use schedule_replay::{ReplayRun, ReplayTurn, accepted, new_disk, new_line};
 use settings_file::Settings;
 use station_io::MemSink;
-use station_sim::{Schedule, Sim};
+use station_sim::Sim;
 use std::alloc::Global;
 use std::process::Abort;
 use std::test::Fail;

@@ -3,9 +3,9 @@ ghost use Rattle.schedule_replay.specs.Replaying.{MayTurn};
 use crate::replay_member::{MOST_TURNS, Member};
 use console_model::Due;
 use disk_model::{Disk, Length};
+use schedule_file::Step;
 use schedule_replay::ReplayTurn;
 use station_base::Stamp;
-use station_sim::Step;
 use std::test::Fail;
 
 const TWO: &str = "due 2024-07-01 00:05 outTemp=650\ndue 2024-07-01 00:10 outTemp=671\nround\n";

@@ -1,5 +1,5 @@
 use crate::five_minutes;
-use station_sim::{Fate, Schedule, ScheduleFault, Step, Stop};
+use schedule_file::{Fate, Schedule, ScheduleFault, Step, Stop};
 use std::alloc::Global;
 use std::test::Fail;
 

@@ -7,17 +7,17 @@ use Rattle.std.proofs.lemmas.Bool.Decides.{nat_tests}
 use Rattle.station_base.specs.CivilMinute.{CivilMinute, minute_of, last_minute}
 use Rattle.station_base.specs.Period.{IsPeriod}
 use Rattle.archive_record.specs.Reading.{stamp_in}
-use Rattle.station_sim.specs.declared.fates.Mid.{Mid}
-use Rattle.station_sim.specs.declared.schedule.Schedule.{Schedule}
-use Rattle.station_sim.specs.declared.schedule.step.Step as code_step
-use Rattle.station_sim.specs.declared.schedule.step.Step.TheVariants as code
-use Rattle.station_sim.specs.Lists.{left_in}
-use Rattle.station_sim.specs.ScheduleAnswer.{ReadsAs}
-use Rattle.station_sim.specs.ScheduleReading.{steps_of}
-use Rattle.station_sim.specs.ScheduleSteps.{records_in, mid_seen, steps_seen}
+use Rattle.schedule_file.specs.declared.fates.Mid.{Mid}
+use Rattle.schedule_file.specs.declared.schedule.Schedule.{Schedule}
+use Rattle.schedule_file.specs.declared.schedule.step.Step as code_step
+use Rattle.schedule_file.specs.declared.schedule.step.Step.TheVariants as code
+use Rattle.schedule_file.specs.Lists.{left_in}
+use Rattle.schedule_file.specs.Answer.{ReadsAs}
+use Rattle.schedule_file.specs.Reading.{steps_of}
+use Rattle.schedule_file.specs.Steps.{records_in, mid_seen, steps_seen}
 use Rattle.station_sim.specs.Sound.{AreRecords}
 use Rattle.station_sim.proofs.Falls.{fates_sound, left_records}
-use Rattle.station_sim.proofs.Limits.{few_records}
+use Rattle.schedule_file.proofs.Limits.{few_records}
 use Rattle.station_replay.specs.Room.{lines}
 use Rattle.station_replay.specs.Schedule.{AreSteps, IsSchedule, records}
 use Rattle.station_replay.proofs.Falling.{fates_fall}
@@ -25,7 +25,7 @@ use Rattle.schedule_replay.specs.Accepted.{AreAccepted, HasRecord, IsInRange, Is
 use Rattle.schedule_replay.specs.Runs.{run_records}
 use Rattle.schedule_replay.specs.Steps.{steps_for}
 use Rattle.schedule_replay.proofs.Falling.{MidsFall, AllFall, lines_in, IsFalling, all_fall, all_lines, falling_after, falling_first}
-use Rattle.station_sim.proofs.Kept.{steps_kept}
+use Rattle.schedule_file.proofs.Kept.{steps_kept}
 use Rattle.schedule_replay.proofs.ReadForms.{form_counts}
 use Rattle.archive_record.proofs.Stamping.{row_of}
 use Rattle.schedule_replay.proofs.Rising.{Rise, rise_join, records_join, rise_follows, run_is}

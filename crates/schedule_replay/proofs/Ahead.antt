@@ -5,11 +5,11 @@ use Rattle.settings_file.specs.StationSettings.{StationSettings}
 use Rattle.disk_model.specs.declared.mem_disk.MemDisk.{MemDisk}
 use Rattle.disk_model.specs.declared.stopping.Stopping.{Stopping}
 use Rattle.station_session.specs.declared.session.Session.{Session}
-use Rattle.station_sim.specs.declared.fates.Fates as code_fates
-use Rattle.station_sim.specs.declared.schedule.step.Stop as code_stop
+use Rattle.schedule_file.specs.declared.fates.Fates as code_fates
+use Rattle.schedule_file.specs.declared.schedule.step.Stop as code_stop
 use Rattle.station_sim.specs.declared.sim.Sim.{Sim}
 use Rattle.station_sim.specs.declared.unseen.Unseen.{Unseen}
-use Rattle.station_sim.specs.Fates.{Fates}
+use Rattle.schedule_file.specs.Fates.{Fates}
 use Rattle.station_replay.specs.Replay.{IsBroken, Item, Stage, first, opened}
 use Rattle.station_replay.specs.Schedule.{Stop}
 use Rattle.schedule_replay.specs.declared.cut.Cut.{Cut}

@@ -8,17 +8,17 @@ use Rattle.station_base.specs.CivilMinute.{CivilMinute, minute_of, last_minute}
 use Rattle.station_base.specs.declared.row.Row.{Row}
 use Rattle.archive_record.specs.declared.record_read.RecordRead.{RecordRead}
 use Rattle.archive_record.specs.declared.record_read.RecordRead.TheVariants.{Row as ReadRow}
-use Rattle.station_sim.specs.declared.schedule.form.Form.{Form}
-use Rattle.station_sim.specs.declared.schedule.form.Form.TheVariants.{Due, Run, Idle, Open, Round, Host, Reply, Late, Mid, Stop}
-use Rattle.station_sim.specs.declared.schedule.form.Told.{Told}
-use Rattle.station_sim.specs.declared.schedule.step.Stop as code
-use Rattle.station_sim.specs.declared.schedule.turn.Turn.{Turn}
-use Rattle.station_sim.specs.declared.schedule.turn.Turn.TheVariants.{Neither, Opening, InRound}
-use Rattle.station_sim.specs.ScheduleKinds.{Kind, at, kinds, least, told_kinds, count_kinds, is_no_stamp, is_not_later, has_no_record, is_in_round, is_due, is_below_last}
-use Rattle.station_sim.specs.ScheduleReading.{after}
-use Rattle.station_sim.specs.ScheduleSteps.{MidRecord, Details, Step, Said, nothing_said, no_details, turn_steps, steps_said, read_at, record_told, last_minute_of}
-use Rattle.station_sim.specs.ScheduleSteps.Step.{DueStep, RunStep, IdleStep, OpenStep, RoundStep}
-use Rattle.station_sim.proofs.Limits.{first_fails, rest_fails}
+use Rattle.schedule_file.specs.declared.schedule.form.Form.{Form}
+use Rattle.schedule_file.specs.declared.schedule.form.Form.TheVariants.{Due, Run, Idle, Open, Round, Host, Reply, Late, Mid, Stop}
+use Rattle.schedule_file.specs.declared.schedule.form.Told.{Told}
+use Rattle.schedule_file.specs.declared.schedule.step.Stop as code
+use Rattle.schedule_file.specs.declared.schedule.turn.Turn.{Turn}
+use Rattle.schedule_file.specs.declared.schedule.turn.Turn.TheVariants.{Neither, Opening, InRound}
+use Rattle.schedule_file.specs.Kinds.{Kind, at, kinds, least, told_kinds, count_kinds, is_no_stamp, is_not_later, has_no_record, is_in_round, is_due, is_below_last}
+use Rattle.schedule_file.specs.Reading.{after}
+use Rattle.schedule_file.specs.Steps.{MidRecord, Details, Step, Said, nothing_said, no_details, turn_steps, steps_said, read_at, record_told, last_minute_of}
+use Rattle.schedule_file.specs.Steps.Step.{DueStep, RunStep, IdleStep, OpenStep, RoundStep}
+use Rattle.schedule_file.proofs.Limits.{first_fails, rest_fails}
 use Rattle.station_replay.specs.Stopped.{IsStop}
 use Rattle.schedule_replay.specs.Stops.{stop_set}
 use Rattle.schedule_replay.proofs.ReadForms.{CountsFromOne}

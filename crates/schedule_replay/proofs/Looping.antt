@@ -8,10 +8,10 @@ use Rattle.loop_packet.specs.declared.packet.LoopPacket.{LoopPacket}
 use Rattle.disk_model.specs.declared.mem_disk.MemDisk.{MemDisk}
 use Rattle.disk_model.specs.declared.stopping.Stopping.{Stopping}
 use Rattle.weather_book.specs.Stands.{HasRows}
-use Rattle.station_sim.specs.declared.schedule.step.Step as code_step
-use Rattle.station_sim.specs.declared.schedule.step.Step.TheVariants as code
+use Rattle.schedule_file.specs.declared.schedule.step.Step as code_step
+use Rattle.schedule_file.specs.declared.schedule.step.Step.TheVariants as code
 use Rattle.station_sim.specs.declared.sim.Sim.{Sim}
-use Rattle.station_sim.specs.Fates.{Fates}
+use Rattle.schedule_file.specs.Fates.{Fates}
 use Rattle.station_session.specs.Attempts.{all_said}
 use Rattle.station_session.specs.declared.session.Session.{Session}
 use Rattle.station_replay.specs.Replay.{Does, IsBegun, IsBroken, IsReplay, IsRound, IsUnseen, IsWhole, Item, Opens, OpensNext, Runs, Stage, closing, first, is_stop, opened, start, stops_opening}
@@ -141,21 +141,25 @@ pub all_done : {T : Type 0} (telling : Telling T) (settings : StationSettings) (
 all_done telling settings eeprom packet xs given s b c before line next ok runs at said openings rest told =
     let whole : (given ++ first s.is_open s) ++ Item.Ended s.archive.rows ∷ [] ≡ given ++ closing s = append_assoc given (first s.is_open s) (Item.Ended s.archive.rows ∷ []) in
     let k : IsWhole settings (start eeprom packet) xs ((given ++ first s.is_open s) ++ Item.Ended s.archive.rows ∷ []) = (given, s, runs, whole) in
+    let ended : said_in (closing s) ≡ [] = said_first s.is_open s (Item.Ended s.archive.rows ∷ []) in
+    let heard : said_in ((given ++ first s.is_open s) ++ Item.Ended s.archive.rows ∷ []) ≡ said_in given = ap said_in whole ∙ said_join given (closing s) ∙ ap (λ z. said_in given ++ z) ended ∙ append-nil (said_in given) in
     record {
-      ran = given;
-      last = s;
-      runs = runs;
       given = Item.Ended s.archive.rows ∷ [];
-      whole = whole;
       kept = schedules_law settings eeprom packet xs ok ((given ++ first s.is_open s) ++ Item.Ended s.archive.rows ∷ []) (inl k);
       told = told;
-      line = at.stands;
-      talk = said;
-      image = rest.image;
-      reads = rest.seen;
-      rows = subst (λ (r : List Row). HasRows r rest.image) (opened_rows s.is_open s) rest.rows;
-      size = rest.length_is;
-      changes = rest.rests.changes_are;
+      took_part = record {
+        ran = given;
+        last = s;
+        runs = runs;
+        whole = whole;
+        line = at.stands;
+        talk = said ∙ ap (λ z. before.talk.items ++ z) (sym heard);
+        image = rest.image;
+        reads = rest.seen;
+        rows = subst (λ (r : List Row). HasRows r rest.image) (opened_rows s.is_open s) rest.rows;
+        size = rest.length_is;
+        changes = rest.rests.changes_are;
+      };
     }
 
 pub end_cut : {T : Type 0} (telling : Telling T) (settings : StationSettings) (eeprom : List ℕ) (packet : LoopPacket) (xs : List Step) (given : List Item) (s : Stage) (b c : T) → IsSchedule xs → Runs settings xs (start eeprom packet) given s → telling.breaks_off b (Item.Ended s.archive.rows ∷ []) c

@@ -8,7 +8,7 @@ use Rattle.console_model.specs.Console.{fresh}
 use Rattle.console_model.specs.Standing.{StandsFor as IsConsole}
 use Rattle.console_model.specs.declared.console.Console.{Console}
 use Rattle.loop_packet.specs.declared.packet.LoopPacket.{LoopPacket}
-use Rattle.station_sim.specs.Lists.{fates_of, no_fates}
+use Rattle.schedule_file.specs.Lists.{fates_of, no_fates}
 use Rattle.station_sim.specs.Sound.{IsSound}
 use Rattle.station_sim.specs.Standing.{StandsFor}
 use Rattle.station_sim.specs.Talk.{fresh_line}

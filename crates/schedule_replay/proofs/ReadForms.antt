@@ -7,11 +7,11 @@ use Rattle.std.proofs.lemmas.Bool.{and_parts, leb-true}
 use Rattle.numerals.specs.Numeral.{decimal_within}
 use Rattle.numerals.specs.Then.{◌>>=◌}
 use Rattle.numerals.proofs.Passing.{only_if_some}
-use Rattle.station_sim.specs.declared.fate.Fate.{Fate}
-use Rattle.station_sim.specs.declared.schedule.form.Form.{Form}
-use Rattle.station_sim.specs.declared.schedule.form.Form.TheVariants.{Due, Run, Idle, Open, Round, Host, Reply, Late, Mid, Stop}
-use Rattle.station_sim.specs.ScheduleWords.{number_of, number_within, count_of, fate_of}
-use Rattle.station_sim.specs.ScheduleForms.{Entry, entries, form_by, form_of, or_misspelled, told_in, due_in, run_in, idle_in, open_in, round_in, host_in, reply_in, answer_in, late_in, mid_in, stop_in}
+use Rattle.schedule_file.specs.declared.fate.Fate.{Fate}
+use Rattle.schedule_file.specs.declared.schedule.form.Form.{Form}
+use Rattle.schedule_file.specs.declared.schedule.form.Form.TheVariants.{Due, Run, Idle, Open, Round, Host, Reply, Late, Mid, Stop}
+use Rattle.schedule_file.specs.Words.{number_of, number_within, count_of, fate_of}
+use Rattle.schedule_file.specs.Forms.{Entry, entries, form_by, form_of, or_misspelled, told_in, due_in, run_in, idle_in, open_in, round_in, host_in, reply_in, answer_in, late_in, mid_in, stop_in}
 
 -- the message of a record, and the change of a stop, are at least 1
 abbrev pub CountsFromOne : Form → Type 0

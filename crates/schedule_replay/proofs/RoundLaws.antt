@@ -8,12 +8,12 @@ use Rattle.disk_model.specs.declared.stopping.Stopping.{Stopping}
 use Rattle.station_session.specs.declared.limits.TheConstants.{MOST_CHANGES}
 use Rattle.station_session.specs.declared.session.Session.{Session}
 use Rattle.station_session.specs.Round.{round_host}
-use Rattle.station_sim.specs.declared.fates.Fates as code
-use Rattle.station_sim.specs.declared.schedule.step.Stop as code_stop
+use Rattle.schedule_file.specs.declared.fates.Fates as code
+use Rattle.schedule_file.specs.declared.schedule.step.Stop as code_stop
 use Rattle.station_sim.specs.declared.sim.Sim.{Sim}
 use Rattle.station_sim.specs.declared.unseen.Unseen.{Unseen}
-use Rattle.station_sim.specs.Fates.{Fates}
-use Rattle.station_sim.specs.Lists.{fates_of, left_in}
+use Rattle.schedule_file.specs.Fates.{Fates}
+use Rattle.schedule_file.specs.Lists.{fates_of, left_in}
 use Rattle.station_sim.specs.Standing.{StandsFor}
 use Rattle.station_replay.specs.Keeping.{Archive}
 use Rattle.station_replay.specs.Replay.{IsBroken, Item, Stage, after_round, first, is_stop, opened}

@@ -31,10 +31,10 @@ use Rattle.station_session.specs.Round.{AnswersRound, LeavesRound, Serves, answe
 use Rattle.station_session.proofs.Stamps.{same_count}
 use Rattle.station_sim.specs.declared.sim.Sim.{Sim}
 use Rattle.station_sim.specs.declared.unseen.Unseen.{Unseen}
-use Rattle.station_sim.specs.declared.fates.Fates as code
-use Rattle.station_sim.specs.Fates.{Fates}
+use Rattle.schedule_file.specs.declared.fates.Fates as code
+use Rattle.schedule_file.specs.Fates.{Fates}
 use Rattle.station_sim.specs.Line.{Line, waited}
-use Rattle.station_sim.specs.Lists.{fates_of, entry_of, late_in, left_in, mids_in}
+use Rattle.schedule_file.specs.Lists.{fates_of, entry_of, late_in, left_in, mids_in}
 use Rattle.station_sim.specs.Standing.{StandsFor}
 use Rattle.station_sim.specs.Talk.{ConsoleTalk, started}
 use Rattle.station_sim.specs.Telling.{told}

@@ -8,7 +8,7 @@ use Rattle.station_session.specs.declared.session.Session.{Session}
 use Rattle.station_session.specs.Report.{acked}
 use Rattle.station_replay.specs.Keeping.{Archive}
 use Rattle.station_replay.specs.Round.{Ending}
-use Rattle.station_sim.specs.declared.schedule.step.Stop as code_stop
+use Rattle.schedule_file.specs.declared.schedule.step.Stop as code_stop
 use Rattle.station_replay.specs.Schedule.{Stop}
 use Rattle.station_replay.specs.Replay.{Does, Item, Opens, Stage, cut_archive, cut_short, first, made_ready, opened, opening, recovered, stops_opening, is_stop, Rounded}
 use Rattle.schedule_replay.specs.declared.cut.Cut.{Cut}

@@ -1,5 +1,5 @@
 -- What is told to a sink is written.
-use Rattle.std.proofs.Common.{◌≡◌, ℕ, Bool, List, [], ◌∷◌, Ok, Err, sym, ◌∙◌, ap, subst, append-nil}
+use Rattle.std.proofs.Common.{◌≡◌, ℕ, Bool, false, List, [], ◌∷◌, Ok, Err, sym, ◌∙◌, ap, subst, append-nil}
 use Rattle.std.specs.declared.result.Result.{Result}
 use Rattle.std.specs.Io.KnownBytes.{Appends}
 use Rattle.causes.specs.Written.{WritesPart}
@@ -7,8 +7,8 @@ use Rattle.station_io.specs.Sink.{Outlet}
 use Rattle.settings_file.specs.StationSettings.{StationSettings}
 use Rattle.disk_model.specs.declared.mem_disk.MemDisk.{MemDisk}
 use Rattle.disk_model.specs.declared.stopping.Stopping.{Stopping}
-use Rattle.station_sim.specs.declared.schedule.Schedule.{Schedule}
-use Rattle.station_sim.specs.declared.schedule.step.Step as code_step
+use Rattle.schedule_file.specs.declared.schedule.Schedule.{Schedule}
+use Rattle.schedule_file.specs.declared.schedule.step.Step as code_step
 use Rattle.station_sim.specs.declared.sim.Sim.{Sim}
 use Rattle.station_replay.specs.Replay.{Item, Stage}
 use Rattle.station_replay.specs.Schedule.{Step}
@@ -19,7 +19,7 @@ use Rattle.schedule_replay.specs.Replayed.{IsCutOff, IsReplayed, TookPart, steps
 use Rattle.schedule_replay.specs.Steps.{steps_for}
 use Rattle.schedule_replay.specs.Telling.{TellsAll}
 use Rattle.schedule_replay.specs.TextTelling.{text_telling}
-use Rattle.schedule_replay.specs.Told.{TakesPart, TellsFront, TellsRun}
+use Rattle.schedule_replay.specs.Told.{TellsFront, TellsRun}
 use Rattle.schedule_replay.specs.Writing.{Writes}
 
 -- an item is told where its text is written
@@ -36,21 +36,10 @@ pub front_written : {K : Type 0} (outlet : Outlet K) (settings : StationSettings
     → IsCutOff settings from steps (outlet.taken old) (outlet.taken new)
 front_written outlet settings from steps old new h = record { items = h.items; is_begun = h.is_begun; kept = h.kept; written = h.told }
 
-pub part_written : {K : Type 0} (outlet : Outlet K) (settings : StationSettings) (from : Stage) (steps : List Step) (old new : K) (before after : Sim) (disk : Stopping MemDisk) → TakesPart (text_telling outlet) settings from steps old new before after disk
-    → TookPart settings from steps (outlet.taken old) (outlet.taken new) before after disk
-part_written outlet settings from steps old new before after disk h = record {
-  items = h.items;
-  last = h.last;
-  runs = h.runs;
-  text_is = h.told;
-  line = h.line;
-  talk = h.talk;
-  image = h.image;
-  reads = h.reads;
-  rows = h.rows;
-  size = h.size;
-  changes = h.changes;
-}
+pub part_written : {K : Type 0} (outlet : Outlet K) (settings : StationSettings) (from : Stage) (steps : List Step) (old new : K) (before after : Sim) (disk : Stopping MemDisk)
+    → (run : TellsRun (text_telling outlet) false settings from steps old new) × TookPart settings from steps run.items before after disk
+    → (run : IsReplayed false settings from steps (outlet.taken old) (outlet.taken new)) × TookPart settings from steps run.items before after disk
+part_written outlet settings from steps old new before after disk (run, part) = (record { items = run.items; is_replay = run.is_replay; kept = run.kept; written = run.told }, part)
 
 -- the steps of a schedule, read from it
 pub steps_are : (settings : StationSettings) (schedule : Schedule) (xs : List code_step.Step) → schedule.period ≡ settings.period → xs ≡ schedule.steps.items → steps_for settings.period xs ≡ steps_in schedule

@@ -4,11 +4,11 @@ use Rattle.archive_record.specs.declared.record.Rec52.{Rec52}
 use Rattle.settings_file.specs.StationSettings.{StationSettings}
 use Rattle.disk_model.specs.declared.mem_disk.MemDisk.{MemDisk}
 use Rattle.disk_model.specs.declared.stopping.Stopping.{Stopping}
-use Rattle.station_sim.specs.declared.schedule.step.Step as code_step
-use Rattle.station_sim.specs.declared.schedule.step.Step.TheVariants as code
-use Rattle.station_sim.specs.declared.schedule.step.Stop as code_stop
+use Rattle.schedule_file.specs.declared.schedule.step.Step as code_step
+use Rattle.schedule_file.specs.declared.schedule.step.Step.TheVariants as code
+use Rattle.schedule_file.specs.declared.schedule.step.Stop as code_stop
 use Rattle.station_sim.specs.declared.sim.Sim.{Sim}
-use Rattle.station_sim.specs.Lists.{fates_of}
+use Rattle.schedule_file.specs.Lists.{fates_of}
 use Rattle.station_sim.specs.Standing.{StandsFor}
 use Rattle.station_replay.specs.Replay.{Does, Item, Opens, Stage, on_line, stops_opening}
 use Rattle.station_replay.specs.Schedule.{Step, Stop}

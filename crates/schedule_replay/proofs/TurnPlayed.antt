@@ -16,7 +16,7 @@ use Rattle.station_session.specs.Session.{settings_of}
 use Rattle.station_session.specs.Turning.{AnswersTurn, Desk, IsOneAtMost, IsOneCallOrBatch, LeavesTurn, TakesTurn, desk}
 use Rattle.station_session.specs.UnderWay.{GoesOnFrom}
 use Rattle.station_session.proofs.LastTurn.{makes_round}
-use Rattle.station_sim.specs.declared.fates.Fates as code_fates
+use Rattle.schedule_file.specs.declared.fates.Fates as code_fates
 use Rattle.station_sim.specs.declared.sim.Sim.{Sim}
 use Rattle.station_sim.specs.Telling.{told}
 use Rattle.station_replay.specs.Schedule.{Stop}

@@ -9,10 +9,10 @@ use Rattle.disk_model.specs.declared.stopping.Stopping.{Stopping}
 use Rattle.station_session.specs.declared.session.Session.{Session}
 use Rattle.station_session.specs.Round.{round_host}
 use Rattle.station_session.specs.RoundAt.{left}
-use Rattle.station_sim.specs.declared.fates.Fates as code_fates
-use Rattle.station_sim.specs.declared.schedule.step.Step as code_step
-use Rattle.station_sim.specs.declared.schedule.step.Step.TheVariants as code
-use Rattle.station_sim.specs.declared.schedule.step.Stop as code_stop
+use Rattle.schedule_file.specs.declared.fates.Fates as code_fates
+use Rattle.schedule_file.specs.declared.schedule.step.Step as code_step
+use Rattle.schedule_file.specs.declared.schedule.step.Step.TheVariants as code
+use Rattle.schedule_file.specs.declared.schedule.step.Stop as code_stop
 use Rattle.station_sim.specs.declared.sim.Sim.{Sim}
 use Rattle.station_replay.specs.Replay.{Item, OpensNext, Runs, Stage, first, opened, start}
 use Rattle.station_replay.specs.Room.{line_of, lines}
@@ -25,6 +25,7 @@ use Rattle.schedule_replay.specs.declared.turns.ReplayTurn.TheVariants as turn
 use Rattle.schedule_replay.specs.Left.{left_by, left_in, left_to_open}
 use Rattle.schedule_replay.specs.Opening.{limits_of}
 use Rattle.schedule_replay.specs.Playing.{IsUnderWay, MayGoOn}
+use Rattle.schedule_replay.specs.Replayed.{TookPart}
 use Rattle.schedule_replay.specs.Replaying.{Course, IsNext, OpenedAhead, StandsAt, StandsBy}
 use Rattle.schedule_replay.specs.Resting.{GoesOn}
 use Rattle.schedule_replay.specs.Running.{After, IsCut}
@@ -32,7 +33,7 @@ use Rattle.schedule_replay.specs.SoFar.{SoFar}
 use Rattle.schedule_replay.specs.Standing.{HasSaid, HoldsAt, IsNextRound, IsNoRound, LineAt, MayOpen, MayRun, Readies, StandsThere, round_step}
 use Rattle.schedule_replay.specs.Steps.{step_of, steps_for}
 use Rattle.schedule_replay.specs.Telling.{Telling}
-use Rattle.schedule_replay.specs.Told.{TakesPart, TellsFront, TellsRun}
+use Rattle.schedule_replay.specs.Told.{TellsFront, TellsRun}
 use Rattle.schedule_replay.specs.Stops.{stop_set}
 use Rattle.schedule_replay.specs.Turns.{BreaksRun, CutsRun, EndsRun, Moves, TurnsTo}
 use Rattle.schedule_replay.proofs.Ahead.{is_opened}
@@ -308,25 +309,22 @@ module _ {T : Type 0} (telling : Telling T) (settings : StationSettings) (from :
   pub run_told : (before line : Sim) (disk : Stopping MemDisk) → EndsRun telling settings from xs items before line disk b c → TellsRun telling false settings from xs a c
   run_told before line disk e = record {
     items = items ++ e.given;
-    is_replay = (e.ran, e.last, e.runs, e.whole);
+    is_replay = (e.took_part.ran, e.took_part.last, e.took_part.runs, e.took_part.whole);
     kept = e.kept;
     told = telling.tells_joins a b c items e.given first_told e.told;
   }
 
-  pub part_taken : (before line : Sim) (disk : Stopping MemDisk) → EndsRun telling settings from xs items before line disk b c → TakesPart telling settings from xs a c before line disk
-  part_taken before line disk e = record {
-    items = e.ran;
-    last = e.last;
-    runs = e.runs;
-    told = subst (λ (z : List Item). telling.tells a z c) e.whole (telling.tells_joins a b c items e.given first_told e.told);
-    line = e.line;
-    talk = e.talk;
-    image = e.image;
-    reads = e.reads;
-    rows = e.rows;
-    size = e.size;
-    changes = e.changes;
-  }
+  -- and in this run the line and the disk took part
+  pub part_taken : (before line : Sim) (disk : Stopping MemDisk) → EndsRun telling settings from xs items before line disk b c → (run : TellsRun telling false settings from xs a c) × TookPart settings from xs run.items before line disk
+  part_taken before line disk e = (
+    record {
+      items = items ++ e.given;
+      is_replay = (e.took_part.ran, e.took_part.last, e.took_part.runs, e.took_part.whole);
+      kept = e.kept;
+      told = telling.tells_joins a b c items e.given first_told e.told;
+    },
+    e.took_part,
+  )
 
   pub broken_told : BreaksRun telling settings from xs items b c → TellsRun telling true settings from xs a c
   broken_told e = record { items = items ++ e.given; is_replay = e.is_unseen; kept = e.kept; told = telling.tells_joins a b c items e.given first_told e.told }

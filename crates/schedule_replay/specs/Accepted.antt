@@ -2,9 +2,9 @@
 use Rattle.std.specs.Prelude.{ℕ, ◌≡◌, ◌≤◌, List, length}
 use Rattle.std.specs.List.{AllByRecursion}
 use Rattle.archive_record.specs.Record.{IsRecord}
-use Rattle.station_sim.specs.declared.schedule.Schedule.{Schedule}
-use Rattle.station_sim.specs.declared.schedule.step.Step as code_step
-use Rattle.station_sim.specs.declared.schedule.step.Step.TheVariants as code
+use Rattle.schedule_file.specs.declared.schedule.Schedule.{Schedule}
+use Rattle.schedule_file.specs.declared.schedule.step.Step as code_step
+use Rattle.schedule_file.specs.declared.schedule.step.Step.TheVariants as code
 use Rattle.station_replay.specs.Schedule.{IsSchedule, records}
 use Rattle.station_replay.specs.Room.{lines}
 use Rattle.station_replay.specs.Stopped.{IsStop}

@@ -3,7 +3,7 @@ use Rattle.std.specs.Prelude.{ℕ, ◌+◌, ◌*◌, ◌^◌, List, length, drop
 use Rattle.std.specs.declared.option.Option.{Option}
 use Rattle.station_session.specs.RoundAt.{left}
 use Rattle.station_session.specs.declared.session.Session.{Session}
-use Rattle.station_sim.specs.declared.schedule.step.Step as code_step
+use Rattle.schedule_file.specs.declared.schedule.step.Step as code_step
 use Rattle.station_replay.specs.Room.{lines}
 use Rattle.schedule_replay.specs.declared.playing.Playing.{Playing}
 use Rattle.schedule_replay.specs.Steps.{steps_for}

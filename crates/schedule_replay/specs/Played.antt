@@ -14,7 +14,7 @@ use Rattle.station_session.specs.Report.{acked}
 use Rattle.station_session.specs.Round.{RoundHost}
 use Rattle.station_sim.specs.declared.sim.Sim.{Sim}
 use Rattle.station_sim.specs.declared.unseen.Unseen.{Unseen}
-use Rattle.station_sim.specs.Fates.{Fates}
+use Rattle.schedule_file.specs.Fates.{Fates}
 use Rattle.station_sim.specs.Line.{Line}
 use Rattle.station_sim.specs.Standing.{StandsFor}
 use Rattle.station_sim.specs.Talk.{ConsoleTalk, started}

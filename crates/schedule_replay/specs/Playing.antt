@@ -16,10 +16,10 @@ use Rattle.station_session.specs.Round.{round_host}
 use Rattle.station_session.specs.Session.{book_of, held, settings_of}
 use Rattle.station_session.specs.Turning.{desk}
 use Rattle.station_session.specs.UnderWay.{MakesRound, UnderWay}
-use Rattle.station_sim.specs.declared.fates.Fates as code_fates
+use Rattle.schedule_file.specs.declared.fates.Fates as code_fates
 use Rattle.station_sim.specs.declared.sim.Sim.{Sim}
 use Rattle.station_sim.specs.Line.{Line}
-use Rattle.station_sim.specs.Lists.{fates_of}
+use Rattle.schedule_file.specs.Lists.{fates_of}
 use Rattle.station_sim.specs.Standing.{StandsFor}
 use Rattle.station_sim.specs.Talk.{started}
 use Rattle.station_sim.specs.Telling.{told}

@@ -9,7 +9,7 @@ use Rattle.disk_model.specs.Stopping.{stopping_medium}
 use Rattle.disk_model.specs.declared.mem_disk.MemDisk.{MemDisk}
 use Rattle.disk_model.specs.declared.stopping.Stopping.{Stopping}
 use Rattle.weather_book.specs.Stands.{HasRows}
-use Rattle.station_sim.specs.declared.schedule.Schedule.{Schedule}
+use Rattle.schedule_file.specs.declared.schedule.Schedule.{Schedule}
 use Rattle.station_sim.specs.declared.sim.Sim.{Sim}
 use Rattle.station_sim.specs.Standing.{StandsFor}
 use Rattle.station_replay.specs.Kept.{Kept}
@@ -47,14 +47,14 @@ pub record IsCutOff (settings : StationSettings) (from : Stage) (steps : List St
   pub kept : Kept settings (records steps) items
   pub written : WritesPart old new (text items)
 
--- The line and the disk took part in the run of all steps that was written: the line stands where the run left it, and
--- its talk gained those of the rounds; the disk reads the rows, has the file's length, and began so many changes.
-pub record TookPart (settings : StationSettings) (from : Stage) (steps : List Step) (written old : Option (List ℕ))
+-- The line and the disk took part in the run of all steps that gave these items: the line stands where the run left it,
+-- and its talk gained those of the rounds; the disk reads the rows, has the file's length, and began so many changes.
+pub record TookPart (settings : StationSettings) (from : Stage) (steps : List Step) (items : List Item)
     (before after : Sim) (disk : Stopping MemDisk) : Type 0 where
-  pub items : List Item
+  pub ran : List Item
   pub last : Stage
-  pub runs : Runs settings steps from items last
-  pub text_is : Appends written old (text (items ++ closing last))
+  pub runs : Runs settings steps from ran last
+  pub whole : items ≡ ran ++ closing last
   pub line : StandsFor after last.line
   pub talk : after.talk.items ≡ before.talk.items ++ said_in items
   pub image : List ℕ

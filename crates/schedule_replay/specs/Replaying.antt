@@ -5,8 +5,8 @@ use Rattle.loop_packet.specs.declared.packet.LoopPacket.{LoopPacket}
 use Rattle.settings_file.specs.StationSettings.{StationSettings}
 use Rattle.disk_model.specs.declared.mem_disk.MemDisk.{MemDisk}
 use Rattle.disk_model.specs.declared.stopping.Stopping.{Stopping}
-use Rattle.station_sim.specs.declared.fates.Fates as code_fates
-use Rattle.station_sim.specs.declared.schedule.step.Step as code_step
+use Rattle.schedule_file.specs.declared.fates.Fates as code_fates
+use Rattle.schedule_file.specs.declared.schedule.step.Step as code_step
 use Rattle.station_sim.specs.declared.sim.Sim.{Sim}
 use Rattle.station_replay.specs.Room.{lines}
 use Rattle.station_replay.specs.Schedule.{Step, records}

@@ -2,7 +2,7 @@
 use Rattle.std.specs.Prelude.{◌≡◌, ℕ, ◌⊎◌, Bool, true, false, List, [], ◌∷◌, ◌++◌}
 use Rattle.std.specs.declared.option.Option.{Option}
 use Rattle.settings_file.specs.StationSettings.{StationSettings}
-use Rattle.station_sim.specs.Fates.{Fates}
+use Rattle.schedule_file.specs.Fates.{Fates}
 use Rattle.station_replay.specs.Schedule.{Step, Stop}
 use Rattle.station_replay.specs.Replay.{Does, IsBroken, Item, Stage, first, opened}
 use Rattle.schedule_replay.specs.Telling.{Telling}

@@ -10,11 +10,11 @@ use Rattle.disk_model.specs.declared.stopping.Stopping.{Stopping}
 use Rattle.station_session.specs.declared.session.Session.{Session}
 use Rattle.station_session.specs.Attempts.{all_said}
 use Rattle.station_sim.specs.declared.sim.Sim.{Sim}
-use Rattle.station_sim.specs.Lists.{fates_of, left_in}
-use Rattle.station_sim.specs.declared.fates.Fates as code_fates
-use Rattle.station_sim.specs.declared.schedule.step.Step as code_step
-use Rattle.station_sim.specs.declared.schedule.step.Step.TheVariants as code
-use Rattle.station_sim.specs.declared.schedule.step.Stop as code_stop
+use Rattle.schedule_file.specs.Lists.{fates_of, left_in}
+use Rattle.schedule_file.specs.declared.fates.Fates as code_fates
+use Rattle.schedule_file.specs.declared.schedule.step.Step as code_step
+use Rattle.schedule_file.specs.declared.schedule.step.Step.TheVariants as code
+use Rattle.schedule_file.specs.declared.schedule.step.Stop as code_stop
 use Rattle.station_sim.specs.Standing.{StandsFor}
 use Rattle.station_replay.specs.Schedule.{Step, no_fates}
 use Rattle.station_replay.specs.Replay.{Does, Item, Rounded, Stage, is_stop, opened}

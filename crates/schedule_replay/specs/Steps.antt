@@ -1,9 +1,9 @@
 -- The steps of a schedule, as those of a run.
 use Rattle.std.specs.Prelude.{ℕ, List, [], ◌∷◌, map}
-use Rattle.station_sim.specs.declared.schedule.step.Step as code_step
-use Rattle.station_sim.specs.declared.schedule.step.Step.TheVariants as code
+use Rattle.schedule_file.specs.declared.schedule.step.Step as code_step
+use Rattle.schedule_file.specs.declared.schedule.step.Step.TheVariants as code
 use Rattle.station_sim.specs.Line.{Line, waited}
-use Rattle.station_sim.specs.Lists.{fates_of, left_in}
+use Rattle.schedule_file.specs.Lists.{fates_of, left_in}
 use Rattle.station_sim.specs.Talk.{idles}
 use Rattle.station_replay.specs.Schedule.{Step, no_fates}
 use Rattle.schedule_replay.specs.Runs.{run_records}

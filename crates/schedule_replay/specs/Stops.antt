@@ -1,7 +1,7 @@
 -- The stops of a schedule, as those of a run.
 use Rattle.std.specs.Prelude.{Some, None}
 use Rattle.std.specs.declared.option.Option.{Option}
-use Rattle.station_sim.specs.declared.schedule.step.Stop as code
+use Rattle.schedule_file.specs.declared.schedule.step.Stop as code
 use Rattle.station_replay.specs.Schedule.{Stop}
 
 abbrev pub stop_of : code.Stop → Stop

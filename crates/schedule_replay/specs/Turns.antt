@@ -1,43 +1,30 @@
 -- What a turn of a run comes to, behind the items that were given before it.
-use Rattle.std.specs.Prelude.{◌≡◌, ℕ, ◌+◌, ◌⊎◌, Bool, true, false, List, ◌++◌, length, is_some, Some, None}
+use Rattle.std.specs.Prelude.{◌≡◌, ℕ, ◌+◌, ◌⊎◌, Bool, true, false, List, ◌++◌, is_some, Some, None}
 use Rattle.std.specs.declared.option.Option.{Option}
 use Rattle.settings_file.specs.StationSettings.{StationSettings}
-use Rattle.disk_model.specs.Stopping.{stopping_medium}
 use Rattle.disk_model.specs.declared.mem_disk.MemDisk.{MemDisk}
 use Rattle.disk_model.specs.declared.stopping.Stopping.{Stopping}
-use Rattle.weather_book.specs.Stands.{HasRows}
 use Rattle.station_sim.specs.declared.sim.Sim.{Sim}
-use Rattle.station_sim.specs.Standing.{StandsFor}
 use Rattle.station_replay.specs.Kept.{Kept}
 use Rattle.station_replay.specs.Schedule.{Step, records}
-use Rattle.station_replay.specs.Replay.{IsBegun, IsReplay, IsUnseen, Item, Runs, Stage, closing, opened, start}
+use Rattle.station_replay.specs.Replay.{IsBegun, IsReplay, IsUnseen, Item, Stage, start}
 use Rattle.schedule_replay.specs.declared.playing.Playing.{Playing}
 use Rattle.schedule_replay.specs.declared.turns.ReplayRun.{ReplayRun}
 use Rattle.schedule_replay.specs.declared.turns.ReplayTurn.{ReplayTurn}
 use Rattle.schedule_replay.specs.declared.turns.ReplayTurn.TheVariants as turn
+use Rattle.schedule_replay.specs.Replayed.{TookPart}
 use Rattle.schedule_replay.specs.Replaying.{Course, StandsWith}
-use Rattle.schedule_replay.specs.Standing.{said_in}
 use Rattle.schedule_replay.specs.Steps.{steps_for}
 use Rattle.schedule_replay.specs.Telling.{Telling}
 
 -- The run came to its end: behind the items before, those given are the closing of the run. They are told, all is kept,
--- and the line and the disk took part, as `TakesPart` says.
+-- and in this run the line and the disk took part.
 pub record EndsRun {T : Type 0} (telling : Telling T) (settings : StationSettings) (from : Stage) (steps : List Step)
     (items : List Item) (before after : Sim) (disk : Stopping MemDisk) (old new : T) : Type 0 where
-  pub ran : List Item
-  pub last : Stage
-  pub runs : Runs settings steps from ran last
   pub given : List Item
-  pub whole : items ++ given ≡ ran ++ closing last
   pub kept : Kept settings (records steps) (items ++ given)
   pub told : telling.tells old given new
-  pub line : StandsFor after last.line
-  pub talk : after.talk.items ≡ before.talk.items ++ said_in ran
-  pub image : List ℕ
-  pub reads : stopping_medium.seen disk ≡ Some image
-  pub rows : HasRows last.archive.rows image
-  pub size : length image ≡ (opened last.is_open last).archive.size
-  pub changes : stopping_medium.moment disk ≡ (opened last.is_open last).archive.changes
+  pub took_part : TookPart settings from steps (items ++ given) before after disk
 
 -- A delivery was unseen: the items up to it are told, and all is kept.
 pub record BreaksRun {T : Type 0} (telling : Telling T) (settings : StationSettings) (from : Stage)

@@ -7,9 +7,9 @@ ghost use Rattle.schedule_replay.specs.Stops.{stop_of};
 
 use causes::OutOfMemory;
 use disk_model::{MemDisk, Stopping};
+use schedule_file::Stop;
 use settings_file::Settings;
 use station_session::Session;
-use station_sim::Stop;
 use std::alloc::Global;
 use weather_book::{Book, BookStart, Purpose};
 

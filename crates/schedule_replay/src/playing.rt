@@ -8,8 +8,8 @@ ghost use Rattle.station_session.specs.Session.{is_stale};
 ghost use Rattle.station_session.specs.declared.limits.TheConstants.{MOST_CHANGES};
 ghost use Rattle.station_session.specs.declared.round_end.RoundEnd.{RoundEnd};
 ghost use Rattle.station_session.specs.declared.session.Session.{Session};
-ghost use Rattle.station_sim.specs.declared.fates.Fates as code_fates;
-ghost use Rattle.station_sim.specs.Lists.{fates_of, left_in, no_fates};
+ghost use Rattle.schedule_file.specs.declared.fates.Fates as code_fates;
+ghost use Rattle.schedule_file.specs.Lists.{fates_of, left_in, no_fates};
 ghost use Rattle.station_replay.specs.Replay.{Stage};
 ghost use Rattle.station_replay.specs.Schedule.{Stop as RunStop};
 ghost use Rattle.station_replay.specs.Stopped.{IsStop};
@@ -20,8 +20,9 @@ ghost use Rattle.schedule_replay.specs.Stops.{stop_set};
 use crate::resting::{arm, rest};
 use causes::OutOfMemory;
 use disk_model::{MemDisk, Stopping};
+use schedule_file::{Fates, Stop};
 use station_session::{Begun, Report, Round, RoundEnd, Session, Turn};
-use station_sim::{Fates, Sim, Stop, Unseen};
+use station_sim::{Sim, Unseen};
 use std::alloc::Global;
 
 // A round under way: its session, how far it has come, what it reports, and the stop that was set.

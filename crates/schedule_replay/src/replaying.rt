@@ -7,14 +7,15 @@ ghost use Rattle.schedule_replay.specs.Accepted.{AreAccepted, IsAccepted};
 ghost use Rattle.schedule_replay.specs.Replayed.{IsCutOff, IsNewDisk, IsReplayed, TookPart, steps_in};
 ghost use Rattle.schedule_replay.specs.Standing.{LineAt};
 ghost use Rattle.schedule_replay.specs.Steps.{steps_for};
-ghost use Rattle.schedule_replay.specs.Told.{TakesPart, TellsFront, TellsRun};
+ghost use Rattle.schedule_replay.specs.Told.{TellsFront, TellsRun};
 
 use crate::teller::Teller;
 use crate::turns::{ReplayRun, ReplayTurn};
 use disk_model::{MemDisk, Stopping};
+use schedule_file::{Schedule, Step};
 use settings_file::Settings;
 use station_io::Sink;
-use station_sim::{Schedule, Sim, Step};
+use station_sim::Sim;
 use std::alloc::Global;
 
 /// How the replay of a schedule ended.
@@ -54,10 +55,11 @@ pub fn replay<K: Sink>(
         → LineAt (start eeprom packet) line.old
         → IsCutOff settings.now (start eeprom packet) (steps_in schedule.now) (K.outlet.taken out.old) (K.outlet.taken out.new) }
 
-    // The line and the disk that were handed in took part in it.
+    // Of one and the same run all this is so: it was written, all of it is kept, and the line and the disk that were
+    // handed in took part in it.
     ensures took_part { result ≡ ReplayEnd.Done → (eeprom : List ℕ) (packet : LoopPacket) → LineAt (start eeprom packet) line.old
-        → TookPart settings.now (start eeprom packet) (steps_in schedule.now) (K.outlet.taken out.old) (K.outlet.taken out.new)
-        line.old line.new disk.new }
+        → (run : IsReplayed false settings.now (start eeprom packet) (steps_in schedule.now) (K.outlet.taken out.old) (K.outlet.taken out.new))
+        × TookPart settings.now (start eeprom packet) (steps_in schedule.now) run.items line.old line.new disk.new }
 
     ensures write_fault { Cause (K.outlet.faults out.old) (K.outlet.faults out.new) (result ≡ ReplayEnd.WriteFault) }
     ensures sink_still { result ≢ ReplayEnd.WriteFault → K.outlet.faults out.new ≡ K.outlet.faults out.old }
@@ -86,8 +88,8 @@ pub fn replay_steps<T: Teller>(
         → LineAt (start eeprom packet) line.old
         → TellsFront T.telling settings.now (start eeprom packet) (steps_for settings.now.period steps.now) teller.old teller.new }
     ensures took_part { result ≡ ReplayEnd.Done → (eeprom : List ℕ) (packet : LoopPacket) → LineAt (start eeprom packet) line.old
-        → TakesPart T.telling settings.now (start eeprom packet) (steps_for settings.now.period steps.now) teller.old teller.new
-        line.old line.new disk.new }
+        → (run : TellsRun T.telling false settings.now (start eeprom packet) (steps_for settings.now.period steps.now) teller.old teller.new)
+        × TookPart settings.now (start eeprom packet) (steps_for settings.now.period steps.now) run.items line.old line.new disk.new }
     ensures write_fault { Cause (T.telling.faults teller.old) (T.telling.faults teller.new) (result ≡ ReplayEnd.WriteFault) }
     ensures still { result ≢ ReplayEnd.WriteFault → T.telling.faults teller.new ≡ T.telling.faults teller.old }
 {

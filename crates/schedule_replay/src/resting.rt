@@ -6,7 +6,7 @@ ghost use Rattle.schedule_replay.specs.Restarting.{IsBegunAgain, IsDisarmed, arm
 ghost use Rattle.schedule_replay.specs.Stops.{stop_set};
 
 use disk_model::{MemDisk, Stopping};
-use station_sim::Stop;
+use schedule_file::Stop;
 
 // Arms the stop, if one is set.
 pub fn arm(stop: Option<Stop>, disk: &mut Stopping<MemDisk>)

@@ -19,7 +19,7 @@ ghost use Rattle.station_replay.specs.Keeping.{Archive};
 ghost use Rattle.station_replay.specs.Room.{line_of};
 ghost use Rattle.station_replay.specs.Round.{Ending};
 ghost use Rattle.schedule_replay.specs.Standing.{HasSaid, HoldsAt, IsTold, LeadsTo, IsNoRound, LineAt, MayOpen, MayRun, Readies, StandsThere, WasBegun, open_step, round_step};
-ghost use Rattle.station_sim.specs.declared.fates.Fates as code_fates;
+ghost use Rattle.schedule_file.specs.declared.fates.Fates as code_fates;
 ghost use Rattle.schedule_replay.specs.Accepted.{IsInRange};
 ghost use Rattle.schedule_replay.specs.Steps.{step_of};
 ghost use Rattle.schedule_replay.specs.Stops.{stop_set};
@@ -34,9 +34,10 @@ use crate::steps::wait;
 use crate::teller::Teller;
 use causes::OutOfMemory;
 use disk_model::{MemDisk, Stopping};
+use schedule_file::{Step, Stop};
 use settings_file::Settings;
 use station_session::{RoundEnd, Session};
-use station_sim::{Sim, Step, Stop};
+use station_sim::Sim;
 use std::alloc::Global;
 
 /// A run of a schedule: its session, where the archive is open and no round is under way, the rounds so far, and how many

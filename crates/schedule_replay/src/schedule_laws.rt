@@ -7,11 +7,11 @@ ghost use Rattle.schedule_replay.specs.Accepted.{HasRecord, IsAccepted};
 ghost use Rattle.schedule_replay.specs.Runs.{IsRun, ReadsLater, run_records};
 ghost use Rattle.station_base.specs.declared.row.Row.{Row};
 ghost use Rattle.station_base.specs.Period.{IsPeriod};
-ghost use Rattle.station_sim.specs.ScheduleAnswer.{ReadsAs};
-ghost use Rattle.station_sim.specs.ScheduleReading.{steps_of};
-ghost use Rattle.station_sim.specs.declared.schedule.Schedule.{Schedule};
+ghost use Rattle.schedule_file.specs.Answer.{ReadsAs};
+ghost use Rattle.schedule_file.specs.Reading.{steps_of};
+ghost use Rattle.schedule_file.specs.declared.schedule.Schedule.{Schedule};
 
-use station_sim::{Schedule, Step};
+use schedule_file::{Schedule, Step};
 
 /// A schedule that some text says, for a period that a console has, keeps the rules of a run.
 pub fn accepted_schedules()

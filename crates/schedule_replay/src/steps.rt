@@ -4,14 +4,15 @@ ghost use Rattle.schedule_replay.specs.Runs.{IsRun, run_records};
 ghost use Rattle.schedule_replay.specs.Steps.{passed, step_of};
 ghost use Rattle.station_replay.specs.Schedule.{no_fates};
 ghost use Rattle.station_sim.specs.Line.{Line, waited};
-ghost use Rattle.station_sim.specs.Lists.{fates_of};
+ghost use Rattle.schedule_file.specs.Lists.{fates_of};
 ghost use Rattle.station_sim.specs.Standing.{StandsFor};
 
 use archive_record::Rec52;
 use causes::OutOfMemory;
+use schedule_file::Step;
 use serial_link::Sent;
 use station_base::Period;
-use station_sim::{Sim, Step};
+use station_sim::Sim;
 
 /// Lets a record or those of a run fall due, or ticks pass; a step that opens a session or makes a round does nothing here.
 /// `OutOfMemory` comes where there was no room for what a tick's reply brings.

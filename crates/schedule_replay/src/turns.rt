@@ -6,7 +6,7 @@ ghost use Rattle.disk_model.specs.declared.stopping.Stopping.{Stopping};
 ghost use Rattle.station_replay.specs.Replay.{Item, OpensNext, start};
 ghost use Rattle.station_replay.specs.Schedule.{records};
 ghost use Rattle.station_session.specs.RoundAt.{left};
-ghost use Rattle.station_sim.specs.declared.schedule.step.Step as code_step;
+ghost use Rattle.schedule_file.specs.declared.schedule.step.Step as code_step;
 ghost use Rattle.station_sim.specs.declared.sim.Sim.{Sim};
 ghost use Rattle.schedule_replay.specs.Accepted.{AreAccepted};
 ghost use Rattle.schedule_replay.specs.Left.{left_in};
@@ -21,9 +21,10 @@ use crate::playing::{Playing, begin_play};
 use crate::run::Run;
 use crate::teller::Teller;
 use disk_model::{MemDisk, Stopping};
+use schedule_file::{Fates, Step, Stop};
 use settings_file::Settings;
 use station_session::Turn;
-use station_sim::{Fates, Sim, Step, Stop};
+use station_sim::Sim;
 use std::alloc::Global;
 
 /// What a turn of a run came to.

@@ -25,7 +25,7 @@ use Rattle.dmpaft_driver.specs.Pump.{at, pump_from}
 use Rattle.dmpaft_driver.proofs.Exactly.{some_quiets, some_bytes, told_is, kept_done}
 use Rattle.dmpaft_driver.proofs.Rest.{Listens}
 use Rattle.dmpaft_driver.proofs.Walking.{said_in, heard_in}
-use Rattle.station_sim.specs.Fates.{Fates}
+use Rattle.schedule_file.specs.Fates.{Fates}
 use Rattle.station_sim.specs.Joining.{talks_join}
 use Rattle.station_sim.specs.Line.{Line, says}
 use Rattle.station_sim.specs.Talk.{ConsoleTalk}

@@ -8,7 +8,7 @@ use Rattle.serial_link.specs.declared.talk.TalkItem.TheVariants.{Heard, Quiet}
 use Rattle.dmpaft_driver.proofs.Hears.{HearsFrom}
 use Rattle.station_sim.specs.declared.part.Part.{Part}
 use Rattle.station_sim.specs.declared.part.Part.TheVariants.{Byte, Wait}
-use Rattle.station_sim.specs.Fates.{Fates}
+use Rattle.schedule_file.specs.Fates.{Fates}
 use Rattle.station_sim.specs.Line.{Line, flies, happens, says}
 use Rattle.station_sim.specs.Talk.{step, hearing, waiting, and_then, console_talk, ConsoleTalk}
 

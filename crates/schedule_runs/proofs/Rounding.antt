@@ -21,7 +21,7 @@ use Rattle.station_session.specs.Attempts.{all_batches, all_said}
 use Rattle.station_session.specs.Batches.{kept_records, kept_count, Fit}
 use Rattle.station_session.proofs.Ends.{went_on}
 use Rattle.station_session.proofs.Parts.{count_parts}
-use Rattle.station_sim.specs.Fates.{Fates}
+use Rattle.schedule_file.specs.Fates.{Fates}
 use Rattle.station_sim.specs.Joining.{talks_join}
 use Rattle.station_sim.specs.Line.{Line}
 use Rattle.station_sim.specs.Talk.{console_talk, ConsoleTalk}

@@ -9,7 +9,7 @@ use Rattle.station_session.specs.declared.round_end.RoundEnd.TheVariants as roun
 use Rattle.station_session.specs.Attempts.{all_batches}
 use Rattle.station_session.specs.Batches.{kept_count}
 use Rattle.station_sim.specs.declared.unseen.Unseen.{Unseen}
-use Rattle.station_sim.specs.Fates.{Fates}
+use Rattle.schedule_file.specs.Fates.{Fates}
 use Rattle.station_sim.specs.Line.{waited}
 use Rattle.station_sim.specs.Talk.{idles, started}
 use Rattle.station_replay.specs.Schedule.{Stop, Step, IsSchedule, no_fates}

@@ -25,12 +25,12 @@ use Rattle.weather_book.specs.Rising.{last_stamp}
 use Rattle.station_base.specs.declared.row.Row.{Row}
 use Rattle.disk_model.specs.Medium.{Medium}
 use Rattle.station_sim.specs.declared.sim.Sim.{Sim}
-use Rattle.station_sim.specs.Lists.{fates_of}
+use Rattle.schedule_file.specs.Lists.{fates_of}
 use Rattle.station_sim.specs.Standing.{StandsFor}
 use Rattle.station_sim.specs.Telling.{told}
 use Rattle.station_sim.proofs.Falls.{fates_sound}
 use Rattle.station_sim.specs.Calm.{IsCalm}
-use Rattle.station_sim.specs.Fates.{Fates}
+use Rattle.schedule_file.specs.Fates.{Fates}
 use Rattle.station_sim.specs.Joining.{talks_part}
 use Rattle.station_sim.specs.Line.{Line}
 use Rattle.station_sim.specs.Sound.{IsSound, AreSound}

@@ -23,7 +23,7 @@ use Rattle.station_session.specs.Batches.{Fit, all_records, kept_count, kept_rec
 use Rattle.station_session.specs.Records.{stored_rows, AllRead}
 use Rattle.station_session.proofs.Parts.{fit_parts, count_parts}
 use Rattle.station_session.proofs.Ends.{kept_append, went_on}
-use Rattle.station_sim.specs.Fates.{Fates}
+use Rattle.schedule_file.specs.Fates.{Fates}
 use Rattle.station_sim.specs.Falling.{FallDue}
 use Rattle.station_sim.specs.Joining.{talks_part}
 use Rattle.station_sim.specs.Line.{Line}

@@ -27,9 +27,10 @@ use Rattle.dmpaft_driver.specs.Header.{IsHeader}
 use Rattle.dmpaft_driver.specs.Page.{is_page_for, has_sequence}
 use Rattle.dmpaft_driver.proofs.Bounding.{frame_long}
 use Rattle.crc_ccitt.specs.Check.{is_good}
-use Rattle.station_sim.specs.Fates.{Fates, delivered, all_bytes, late}
+use Rattle.schedule_file.specs.Fates.{Fates}
+use Rattle.station_sim.specs.Delivery.{delivered, all_bytes, late}
 use Rattle.station_sim.specs.Line.{Line, flies, happens, replied, unanswered, hears, counted, sends, says, is_harmed, earlier}
-use Rattle.station_sim.specs.Lists.{no_fates}
+use Rattle.schedule_file.specs.Lists.{no_fates}
 use Rattle.station_sim.specs.Sound.{AreRecords}
 use Rattle.station_sim.specs.Talk.{console_talk, ConsoleTalk, hearing, and_then, fresh_line}
 use Rattle.station_sim.specs.declared.unseen.Unseen.{Unseen}

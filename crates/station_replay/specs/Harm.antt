@@ -10,7 +10,7 @@ use Rattle.station_session.specs.Attempts.{Tried}
 use Rattle.station_session.specs.Round.{RoundHost}
 use Rattle.station_sim.specs.declared.sim.Sim.{Sim}
 use Rattle.station_sim.specs.Calm.{IsCalm}
-use Rattle.station_sim.specs.Fates.{Fates}
+use Rattle.schedule_file.specs.Fates.{Fates}
 use Rattle.station_sim.specs.Line.{Line}
 use Rattle.station_sim.specs.Talk.{ConsoleTalk}
 use Rattle.station_sim.specs.Telling.{told}

@@ -6,7 +6,7 @@ use Rattle.serial_link.specs.declared.talk.TalkItem.{TalkItem}
 use Rattle.vantage_frames.specs.StampFrame.{stamp_frame_of}
 use Rattle.dmpaft_driver.specs.Attempt.{Attempt, End}
 use Rattle.station_sim.specs.Line.{Line}
-use Rattle.station_sim.specs.Lists.{no_fates}
+use Rattle.schedule_file.specs.Lists.{no_fates}
 use Rattle.station_sim.specs.Talk.{ConsoleTalk}
 
 -- What is said and heard in it, the place in the header, the pages taken, and the line after it.

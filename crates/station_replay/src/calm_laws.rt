@@ -1,7 +1,7 @@
 ghost use Rattle.std.specs.Prelude.{ℕ, List};
 ghost use Rattle.console_model.specs.Tick.{tick};
 ghost use Rattle.station_sim.specs.Calm.{AreMild, IsCalm};
-ghost use Rattle.station_sim.specs.Fates.{Fates};
+ghost use Rattle.schedule_file.specs.Fates.{Fates};
 ghost use Rattle.station_sim.specs.Line.{Line, happens, waited};
 
 /// Between attempts a calm line stays calm: at a tick, and at records that fall due, as those that a round leaves.

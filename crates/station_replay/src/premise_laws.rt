@@ -8,7 +8,7 @@ ghost use Rattle.console_model.specs.Console.State.{Command};
 ghost use Rattle.console_model.specs.Spelling.{plan_after};
 ghost use Rattle.dmpaft_driver.specs.Batch.{batches, records_in};
 ghost use Rattle.station_sim.specs.Calm.{IsCalm};
-ghost use Rattle.station_sim.specs.Lists.{no_fates};
+ghost use Rattle.schedule_file.specs.Lists.{no_fates};
 ghost use Rattle.station_sim.specs.Sound.{AreRecords, IsSound, AreSound};
 ghost use Rattle.station_sim.specs.Talk.{fresh_line};
 ghost use Rattle.station_replay.specs.Gathers.{newer_held};

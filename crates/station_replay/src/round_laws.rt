@@ -6,7 +6,7 @@ ghost use Rattle.station_session.specs.Round.{RoundHost, Serves, AnswersRound};
 ghost use Rattle.station_sim.specs.declared.sim.Sim.{Sim};
 ghost use Rattle.station_sim.specs.Calm.{IsCalm};
 ghost use Rattle.station_sim.specs.Line.{Line};
-ghost use Rattle.station_sim.specs.Lists.{fates_of};
+ghost use Rattle.schedule_file.specs.Lists.{fates_of};
 ghost use Rattle.station_sim.specs.Standing.{StandsFor};
 ghost use Rattle.station_sim.specs.Telling.{told};
 ghost use Rattle.station_replay.specs.Harm.{DiskFailed, LinkShort, HarmTells};

@@ -8,7 +8,8 @@ use Rattle.console_model.specs.Hear.{hear}
 use Rattle.station_sim.specs.declared.part.Part.{Part}
 use Rattle.station_sim.specs.declared.part.Part.TheVariants.{Byte}
 use Rattle.station_sim.specs.Calm.{IsCalm, IsBrief, FewWaits, Closed, pending}
-use Rattle.station_sim.specs.Fates.{Fates, late, waits, all_bytes}
+use Rattle.schedule_file.specs.Fates.{Fates}
+use Rattle.station_sim.specs.Delivery.{late, waits, all_bytes}
 use Rattle.station_sim.specs.Line.{Line, happens, hears, joins}
 use Rattle.station_sim.specs.Talk.{fresh_line}
 

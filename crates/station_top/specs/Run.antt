@@ -105,6 +105,11 @@ abbrev pub IsTask : CommandLine → Type 0
 IsTask (task address asked) = Unit {0}
 IsTask other = ⊥
 
+-- the command serves a console
+abbrev pub IsServing : CommandLine → Type 0
+IsServing (console names) = Unit {0}
+IsServing other = ⊥
+
 -- the command makes a schedule
 abbrev pub IsMake : CommandLine → Type 0
 IsMake (make seed records) = Unit {0}

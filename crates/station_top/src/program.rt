@@ -3,7 +3,8 @@ ghost use Rattle.causes.specs.Cause.{Cause};
 ghost use Rattle.archive_commands.specs.CopyRun.{RoseOnOne};
 ghost use Rattle.archive_commands.specs.ReportRun.{WentWell};
 ghost use Rattle.command_words.specs.Command.{command_of, texts};
-ghost use Rattle.station_top.specs.Run.{HasArchive, HasConsole, HasGoodInput, HasSchedule, IsMake, IsShownCaughtUp, IsShownDone, IsTask, IsUsage, Performs};
+ghost use Rattle.model_commands.specs.ConsoleRun.{IsUntouchedOrShort};
+ghost use Rattle.station_top.specs.Run.{HasArchive, HasConsole, HasGoodInput, HasSchedule, IsMake, IsServing, IsShownCaughtUp, IsShownDone, IsTask, IsUsage, Performs};
 
 use archive_commands::{copy_files, report};
 use command_words::Command;
@@ -53,6 +54,10 @@ pub fn run<F: Files, K: Sink, L: Link, D: Disk>(
     // A task takes no memory: it ends for want of it only where the link had none.
     ensures shortage { IfSome (command_of (texts words.now)) (λ command. IsTask command
         → Cause (L.traffic.shortages link.old) (L.traffic.shortages link.new) (result ≡ 12)) }
+
+    // A console that was called takes none either. Before a call is waited for there may be none for the files or for the console.
+    ensures serving_shortage { IfSome (command_of (texts words.now)) (λ command. IsServing command
+        → result ≡ 12 → IsUntouchedOrShort L.traffic link.old link.new) }
 
     // Where none is answered, no fault was counted. A read fault whose line could not be written ends with 9.
     ensures files_still { result ≢ 8 → result ≢ 9 → F.shelf.faults files.new ≡ F.shelf.faults files.old }

@@ -3,7 +3,7 @@ use Rattle.std.proofs.Math.Seq.{drop-cons}
 use Rattle.console_model.specs.Due.{due}
 use Rattle.console_model.specs.Standing.{StandsFor}
 use Rattle.station_sim.specs.Line.{due_all}
-use Rattle.station_sim.specs.declared.schedule.step.Step.{Step}
+use Rattle.schedule_file.specs.declared.schedule.step.Step.{Step}
 use Rattle.console_server.specs.Ready.{made_ready, ticked}
 use Rattle.console_server.specs.Runs.{run_from}
 use Rattle.console_server.proofs.readying.make_ready.Goals as goal

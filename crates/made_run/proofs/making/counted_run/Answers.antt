@@ -1,7 +1,7 @@
 use Rattle.std.proofs.Common.{ℕ, inl, inr, sym, ap, subst, ◌∙◌}
 use Rattle.std.specs.List.{AllByRecursion}
 use Rattle.eeprom_map.specs.Memory.{new_memory}
-use Rattle.station_sim.specs.ScheduleSteps.{steps_seen}
+use Rattle.schedule_file.specs.Steps.{steps_seen}
 use Rattle.station_replay.specs.Replay.{start}
 use Rattle.schedule_replay.specs.Accepted.{HasRecord}
 use Rattle.schedule_replay.specs.Replayed.{IsNewDisk}

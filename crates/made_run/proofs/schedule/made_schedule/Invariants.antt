@@ -1,6 +1,6 @@
 use Rattle.std.proofs.Common.{◌≡◌, ◌<◌, ◌+◌, ◌^◌, ◌-◌, ◌*◌, ◌++◌}
 use Rattle.station_base.specs.CivilMinute.{IsCivilMinute, minute_of}
-use Rattle.station_sim.specs.ScheduleSteps.{steps_seen}
+use Rattle.schedule_file.specs.Steps.{steps_seen}
 use Rattle.made_run.specs.Made.{first_due, made_steps, steps_from}
 use Rattle.made_run.proofs.schedule.made_schedule.Given as goal
 

@@ -3,7 +3,7 @@ use Rattle.console_model.specs.Console.{fresh}
 use Rattle.console_model.specs.Standing.{StandsFor}
 use Rattle.console_server.specs.Ready.{made_ready}
 use Rattle.eeprom_map.specs.Memory.{new_memory}
-use Rattle.station_sim.specs.declared.schedule.step.Step.{Step}
+use Rattle.schedule_file.specs.declared.schedule.step.Step.{Step}
 use Rattle.model_commands.proofs.Readied.{same_ready}
 use Rattle.model_commands.proofs.serving.ready_console.Goals as goal
 

@@ -10,6 +10,6 @@ returns-clause-console g c period packet steps blank stands = record {
   after = c.serve-end.new.console;
   end = c.serve-end.result;
   count = c.serve-end.new.count;
-  talk = c.serve-end.ensures.talk.talk;
+  talks = c.serve-end.ensures.talk;
   written = record { status = c.write_serving.result; coded = refl; ends = c.write_serving.ensures.ends };
 }

@@ -26,5 +26,5 @@ returns-clause-cut_off g c is eeprom packet at =
 pub returns-clause-took_part : goal.returns-clause-took_part
 returns-clause-took_part g c is eeprom packet at =
     let steps = steps_are c.args.settings.now c.args.schedule.now c.steps.result.now c.requires.period c.steps.ensures in
-    subst (λ (xs : List Step). TookPart c.args.settings.now (start eeprom packet) xs (g.K.Sink.outlet.taken c.args.out.now) (g.K.Sink.outlet.taken c.replay_steps.new.teller) c.args.line.now c.replay_steps.new.line c.replay_steps.new.disk) steps
+    subst (λ (xs : List Step). (run : IsReplayed false c.args.settings.now (start eeprom packet) xs (g.K.Sink.outlet.taken c.args.out.now) (g.K.Sink.outlet.taken c.replay_steps.new.teller)) × TookPart c.args.settings.now (start eeprom packet) xs run.items c.args.line.now c.replay_steps.new.line c.replay_steps.new.disk) steps
     (part_written g.K.Sink.outlet c.args.settings.now (start eeprom packet) _ c.args.out.now c.replay_steps.new.teller c.args.line.now c.replay_steps.new.line c.replay_steps.new.disk (c.replay_steps.ensures.took_part is eeprom packet at))

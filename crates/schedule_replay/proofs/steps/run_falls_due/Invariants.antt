@@ -1,6 +1,6 @@
 use Rattle.std.proofs.Common.{◌≡◌, ◌-◌}
 use Rattle.station_sim.specs.Line.{Line, waited}
-use Rattle.station_sim.specs.Lists.{fates_of}
+use Rattle.schedule_file.specs.Lists.{fates_of}
 use Rattle.station_sim.specs.Standing.{StandsFor}
 use Rattle.schedule_replay.specs.Runs.{run_records}
 use Rattle.schedule_replay.proofs.RunRecords.{left_of, IsLeft}

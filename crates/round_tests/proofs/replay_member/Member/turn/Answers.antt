@@ -1,5 +1,5 @@
 use Rattle.std.proofs.Common.{◌++◌, List, sym, subst}
-use Rattle.station_sim.specs.declared.schedule.step.Step as code_step
+use Rattle.schedule_file.specs.declared.schedule.step.Step as code_step
 use Rattle.schedule_replay.specs.Replaying.{MayTurn}
 use Rattle.round_tests.proofs.replay_member.Member.turn.Goals as goal
 

@@ -1,5 +1,5 @@
 use Rattle.std.proofs.Common.{◌≡◌, ◌+◌, ℕ, false, sym, subst, arith, rules}
-use Rattle.station_sim.specs.declared.schedule.step.Step as code_step
+use Rattle.schedule_file.specs.declared.schedule.step.Step as code_step
 use Rattle.station_sim.specs.Standing.{StandsFor}
 use Rattle.station_replay.specs.Room.{line_of}
 use Rattle.schedule_replay.specs.Running.{After, IsCut}

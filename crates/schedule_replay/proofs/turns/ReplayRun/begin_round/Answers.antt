@@ -2,7 +2,7 @@ use Rattle.std.proofs.Common.{◌≡◌, List, None, Some, inl, refl, length, sy
 use Rattle.std.specs.Prelude.{is_some}
 use Rattle.station_replay.specs.Replay.{Item, start}
 use Rattle.station_replay.specs.Schedule.{records}
-use Rattle.station_sim.specs.declared.schedule.step.Step.TheVariants as code
+use Rattle.schedule_file.specs.declared.schedule.step.Step.TheVariants as code
 use Rattle.schedule_replay.specs.Standing.{round_step}
 use Rattle.schedule_replay.specs.Steps.{steps_for}
 use Rattle.schedule_replay.specs.Turns.{CutsRun}

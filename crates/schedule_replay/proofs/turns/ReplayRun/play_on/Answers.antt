@@ -2,7 +2,7 @@ use Rattle.std.proofs.Common.{◌≡◌, ◌+◌, ◌++◌, [], true, false, Boo
 use Rattle.std.specs.Prelude.{is_some}
 use Rattle.station_replay.specs.Replay.{Item, Stage, first, opened, start}
 use Rattle.station_replay.specs.Schedule.{records}
-use Rattle.station_sim.specs.declared.schedule.step.Stop as code_stop
+use Rattle.schedule_file.specs.declared.schedule.step.Stop as code_stop
 use Rattle.schedule_replay.specs.declared.playing.Playing.{Playing}
 use Rattle.schedule_replay.specs.Opening.{limits_of}
 use Rattle.schedule_replay.specs.Playing.{IsOver, IsUnderWay}

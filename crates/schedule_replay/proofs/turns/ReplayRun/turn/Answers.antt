@@ -2,7 +2,7 @@ use Rattle.std.proofs.Common.{◌≡◌, ℕ, List, None, inl, inr, get_or, sym,
 use Rattle.loop_packet.specs.declared.packet.LoopPacket.{LoopPacket}
 use Rattle.disk_model.specs.declared.mem_disk.MemDisk.{MemDisk}
 use Rattle.disk_model.specs.declared.stopping.Stopping.{Stopping}
-use Rattle.station_sim.specs.declared.schedule.step.Step as code_step
+use Rattle.schedule_file.specs.declared.schedule.step.Step as code_step
 use Rattle.station_sim.specs.declared.sim.Sim.{Sim}
 use Rattle.schedule_replay.specs.declared.turns.ReplayTurn.{ReplayTurn}
 use Rattle.schedule_replay.specs.Replaying.{Course}

@@ -1,0 +1,11 @@
+pub mod Reading
+pub mod Cutting
+pub mod Spelling
+pub mod Naming
+pub mod Telling
+pub mod Lines
+pub mod Kept
+pub mod Limits
+pub mod Entries
+pub mod InOrder
+pub mod Copied

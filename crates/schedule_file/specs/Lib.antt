@@ -1,0 +1,13 @@
+pub mod Fates
+pub mod Rows
+pub mod InOrder
+pub mod Lists
+pub mod Pieces
+pub mod Words
+pub mod Forms
+pub mod Steps
+pub mod Kinds
+pub mod Reading
+pub mod Naming
+pub mod Reader
+pub mod Answer

@@ -1,0 +1,61 @@
+-- The pages that were acknowledged in the attempts of a round, and what was kept.
+use Rattle.std.specs.Prelude.{◌≡◌, ◌≢◌, ℕ, ◌≤◌, List, [], ◌∷◌, ◌++◌, length}
+use Rattle.std.specs.declared.option.Option.{Option}
+use Rattle.causes.specs.Lists.{IsFrontOf}
+use Rattle.station_base.specs.CivilMinute.{CivilMinute}
+use Rattle.station_base.specs.declared.row.Row.{Row}
+use Rattle.vantage_frames.specs.StampFrame.{stamp_frame_of}
+use Rattle.serial_link.specs.declared.talk.TalkItem.{TalkItem}
+use Rattle.settings_file.specs.StationSettings.{StationSettings}
+use Rattle.weather_book.specs.Rising.{last_stamp}
+use Rattle.dmpaft_driver.specs.Batch.{batches, records_in}
+use Rattle.dmpaft_driver.specs.OneAttempt.{Acknowledges}
+use Rattle.station_session.specs.Attempts.{Tried, kept_batches}
+use Rattle.station_session.specs.Records.{stored_rows}
+use Rattle.station_replay.specs.Round.{Attempted}
+use Rattle.station_replay.specs.Replay.{Rounded}
+
+-- the rows behind some attempts of which each kept all its batches
+abbrev pub rows_behind : StationSettings → List Row → List Attempted → List Row
+rows_behind settings rows [] = rows
+rows_behind settings rows (t ∷ ts) = rows_behind settings (rows ++ stored_rows settings (records_in t.batches)) ts
+
+-- these rows, and behind them those of the batches of these pages, the first of which is read from this place on
+abbrev pub rows_with : StationSettings → List Row → ℕ → List (List ℕ) → List Row
+rows_with settings rows place pages =
+    rows ++ stored_rows settings (records_in (batches (last_stamp rows) place pages))
+
+-- wherever 0x06 was said right after pages were taken in an attempt, the round kept the rows of their batches, behind
+-- those that it had before that attempt
+abbrev pub KeepsAcknowledged : StationSettings → Rounded → Type 0
+KeepsAcknowledged settings x =
+    (earlier : List Attempted) (t : Attempted) (later : List Attempted) (place : ℕ) (pages : List (List ℕ))
+    → x.tried ≡ earlier ++ t ∷ later → let rows = rows_behind settings x.before earlier in
+    Acknowledges (stamp_frame_of (last_stamp rows)) t.made.said place pages
+    → IsFrontOf (rows_with settings rows place pages) x.kept
+
+-- These are the pages that were acknowledged in a talk: 0x06 was said right after the last of them, if there is one,
+-- and pages after which it was said are the first of them.
+pub record AreAcknowledged (frame : List ℕ) (talk : List TalkItem) (place : ℕ) (pages : List (List ℕ)) : Type 0 where
+  pub said : pages ≢ [] → Acknowledges frame talk place pages
+  pub all : (at : ℕ) (first : List (List ℕ)) → Acknowledges frame talk at first
+      → IsFrontOf first pages × (at ≡ place)
+
+-- these batches are just those of the pages that were acknowledged in an attempt after this stamp
+abbrev pub AreJustAcknowledged : Option CivilMinute → Tried → List (List (List ℕ)) → Type 0
+AreJustAcknowledged after t kept =
+    (pages : List (List ℕ)) × AreAcknowledged (stamp_frame_of after) t.said t.place pages
+    × (kept ≡ batches after t.place pages)
+
+-- in each attempt of a round just the batches of the acknowledged pages were kept, by the end that it answered
+abbrev pub KeepsJustAcknowledged : StationSettings → Rounded → Type 0
+KeepsJustAcknowledged settings x =
+    (earlier : List Attempted) (t : Attempted) (later : List Attempted) → x.tried ≡ earlier ++ t ∷ later
+    → AreJustAcknowledged (last_stamp (rows_behind settings x.before earlier)) t.made
+    (kept_batches t.made.end t.batches)
+
+-- the pages taken in an attempt after this stamp are those that were acknowledged, and at most one more
+abbrev pub TakesOneMore : Option CivilMinute → Tried → Type 0
+TakesOneMore after t =
+    (pages : List (List ℕ)) × (more : List (List ℕ)) × AreAcknowledged (stamp_frame_of after) t.said t.place pages
+    × (t.taken ≡ pages ++ more) × (length more ≤ 1)
