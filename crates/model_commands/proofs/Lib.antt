@@ -1,4 +1,8 @@
 pub mod BeforeRounds
-pub mod Playable
+pub mod ConsoleLaws
+pub mod GoodSchedule
+pub mod MakeLaws
+pub mod Quiet
 pub mod Readied
+pub mod ReplayLaws
 pub mod Replays

@@ -1,9 +1,6 @@
 -- The steps of a schedule in memory make of a console what its steps by the rules do.
-use Rattle.std.proofs.Common.{◌≡◌, ℕ, zero, suc, ◌+◌, ◌-◌, ◌*◌, ◌≤◌, Bool, true, if◌then◌else◌, List, [], ◌∷◌, Option, Some, None, refl, ap, ◌∙◌, arith}
-use Rattle.std.proofs.lemmas.Bool.Decides.{nat_tests}
+use Rattle.std.proofs.Common.{◌≡◌, ℕ, zero, suc, List, [], ◌∷◌, Option, Some, refl, ap, ◌∙◌}
 use Rattle.std.specs.List.{AllByRecursion}
-use Rattle.std.specs.Option.{IsSomeAnd}
-use Rattle.std.specs.Prelude.{nat_le}
 use Rattle.archive_record.specs.MovedOn.{moved_on}
 use Rattle.console_model.specs.Console.{Console}
 use Rattle.console_model.specs.Due.{due}
@@ -14,7 +11,6 @@ use Rattle.schedule_replay.proofs.RunRecords.{run_next, run_of_two, run_on}
 use Rattle.schedule_replay.specs.Accepted.{IsInRange}
 use Rattle.schedule_replay.specs.Runs as run
 use Rattle.schedule_replay.specs.Steps.{steps_for}
-use Rattle.station_base.specs.CivilMinute.{CivilMinute, minute_of, last_minute}
 use Rattle.station_sim.specs.Line.{due_all}
 use Rattle.schedule_file.specs.declared.schedule.step.Step.{Step}
 use Rattle.schedule_file.specs.declared.schedule.step.Step.TheVariants.{Due, Run, Idle, Open, Round}

@@ -1,34 +1,32 @@
--- What a replay wrote, and the line that it was begun with.
-use Rattle.std.proofs.Common.{◌≡◌, ℕ, List, [], refl, subst, inl}
+-- What a replay wrote.
+use Rattle.std.proofs.Common.{◌≡◌, ◌⊎◌, ℕ, List, [], true, false, refl, inl, inr, arith}
 use Rattle.std.specs.declared.option.Option.{Option}
+use Rattle.std.specs.declared.result.Result.{Result}
 use Rattle.causes.proofs.Writing.{writes_nothing}
 use Rattle.eeprom_map.specs.Memory.{new_memory}
 use Rattle.loop_packet.specs.Blank.{IsBlank}
 use Rattle.loop_packet.specs.declared.packet.LoopPacket.{LoopPacket}
+use Rattle.run_output.specs.Ended.{Lines, output_of}
+use Rattle.run_output.specs.Output.{Output, no_memory}
+use Rattle.schedule_replay.specs.Replayed.{IsCutOff, IsReplayed}
+use Rattle.schedule_replay.specs.declared.replaying.ReplayEnd.{ReplayEnd}
+use Rattle.schedule_replay.specs.declared.replaying.ReplayEnd.TheVariants as replay_end
 use Rattle.settings_file.specs.StationSettings.{StationSettings}
 use Rattle.station_io.specs.Sink.{Outlet}
-use Rattle.station_sim.specs.declared.sim.Sim.{Sim}
 use Rattle.station_replay.specs.Replay.{Stage, start}
 use Rattle.station_replay.specs.Schedule.{Step}
-use Rattle.schedule_replay.specs.Replayed.{IsCutOff}
-use Rattle.schedule_replay.specs.Standing.{LineAt}
-use Rattle.run_output.specs.Output.{code}
-use Rattle.model_commands.specs.ReplayRun.{Replays, WritesRun}
-use Rattle.run_output.specs.declared.status.Status.{Status}
-use Rattle.run_output.specs.declared.status.Status.TheVariants as ends
+use Rattle.model_commands.specs.ReplayRun.{WritesRun, replays}
 
--- a run over this packet, which is blank, ended so
-pub replays_so : {S : Type 0} (outlet : Outlet S) (settings : StationSettings) (steps : List Step) (packet : LoopPacket)
-    (out out' : S) (status : Status) → IsBlank packet
-    → WritesRun status settings (start (new_memory settings.period) packet) steps (outlet.taken out) (outlet.taken out')
-    → Replays outlet settings steps out out' (code status)
-replays_so outlet settings steps packet out out' status blank writes = record {
-  packet = packet;
-  blank = blank;
-  status = status;
-  coded = refl;
-  written = writes;
-}
+-- by each end of a replay what it promises there was written
+pub writes_run : (end : ReplayEnd) (settings : StationSettings) (from : Stage) (steps : List Step) (old new : Option (List ℕ))
+    → (end ≡ replay_end.Done → IsReplayed false settings from steps old new)
+    → (end ≡ replay_end.Unseen → IsReplayed true settings from steps old new)
+    → ((end ≡ replay_end.WriteFault) ⊎ (end ≡ replay_end.OutOfMemory) → IsCutOff settings from steps old new)
+    → WritesRun end settings from steps old new
+writes_run replay_end.Done settings from steps old new done unseen cut_off = done refl
+writes_run replay_end.Unseen settings from steps old new done unseen cut_off = unseen refl
+writes_run replay_end.WriteFault settings from steps old new done unseen cut_off = cut_off (inl refl)
+writes_run replay_end.OutOfMemory settings from steps old new done unseen cut_off = cut_off (inr refl)
 
 -- of a run that did not begin nothing was written
 not_begun : (settings : StationSettings) (from : Stage) (steps : List Step) (known : Option (List ℕ))
@@ -51,14 +49,15 @@ not_begun settings from steps known = record {
   written = writes_nothing known [];
 }
 
--- for want of memory it did not
+-- for want of memory it did not begin
 pub replays_nothing : {S : Type 0} (outlet : Outlet S) (settings : StationSettings) (steps : List Step) (packet : LoopPacket) (out : S)
-    → IsBlank packet → Replays outlet settings steps out out (code ends.OutOfMemory)
-replays_nothing outlet settings steps packet out blank =
-    replays_so outlet settings steps packet out out ends.OutOfMemory blank
-    (not_begun settings (start (new_memory settings.period) packet) steps (outlet.taken out))
-
--- a line to a new console of one period, where that is the other
-pub line_for : (p q : ℕ) (packet : LoopPacket) (line : Sim) → p ≡ q → LineAt (start (new_memory p) packet) line
-    → LineAt (start (new_memory q) packet) line
-line_for p q packet line same at = subst (λ (n : ℕ). LineAt (start (new_memory n) packet) line) same at
+    (result : Result Lines Output) → IsBlank packet → output_of result ≡ no_memory → replays outlet settings steps out result out
+replays_nothing outlet settings steps packet out result blank given = record {
+  packet = packet;
+  blank = blank;
+  end = replay_end.OutOfMemory;
+  written = not_begun settings (start (new_memory settings.period) packet) steps (outlet.taken out);
+  cause = record { never_falls = omega arith; rose = λ no. absurd cc };
+  still = λ no. refl;
+  given = given;
+}

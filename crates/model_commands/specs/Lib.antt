@@ -1,5 +1,4 @@
 pub mod ConsoleRun
-pub mod JudgedRead
-pub mod JudgedSchedule
 pub mod MakeRun
 pub mod ReplayRun
+pub mod ScheduleReading

@@ -1,10 +1,11 @@
 -- What a run does that makes a schedule from a number: the counts of its run, and the four lines that tell them.
-use Rattle.std.specs.Prelude.{ℕ, ◌⊎◌, List, ◌++◌, codes, decimal}
+use Rattle.std.specs.Prelude.{ℕ, ◌≡◌, List, ◌++◌, Ok, Err, codes, decimal}
+use Rattle.std.specs.declared.result.Result.{Result}
 use Rattle.made_run.specs.CountsRun.{CountsRun}
+use Rattle.run_output.specs.Ended.{Lines}
+use Rattle.run_output.specs.Output.{Output, no_memory}
+use Rattle.run_output.specs.Steps.{Step}
 use Rattle.schedule_replay.specs.declared.counts.Counts.{Counts}
-use Rattle.station_io.specs.Sink.{Outlet}
-use Rattle.run_output.specs.declared.status.Status.TheVariants as ends
-use Rattle.run_output.specs.Output.{Output, EndsWith, no_memory}
 
 -- `made`, how many records, and how many rounds
 abbrev pub made_line : ℕ → Counts → List ℕ
@@ -29,18 +30,12 @@ rows_line counts = codes "rows " ++ decimal counts.rows ++ codes " days " ++ dec
 abbrev pub counts_lines : ℕ → Counts → List ℕ
 counts_lines records counts = made_line records counts ++ endings_line counts ++ harmed_line counts ++ rows_line counts
 
--- what is written of a run that came to its end
-abbrev pub counts_output : ℕ → Counts → Output
-counts_output records counts = record { text = counts_lines records counts; status = ends.Done }
+-- what is given of the schedule that is made from the seed: the counts of a whole run of it, by the rules, of which all is
+-- kept and no delivery was unseen; or there was no memory for it
+abbrev pub MakesRun : ℕ → ℕ → Result Lines Output → Type 0
+MakesRun seed records (Ok text) = (counts : Counts) × CountsRun seed records counts × (text.items ≡ counts_lines records counts)
+MakesRun seed records (Err output) = output ≡ no_memory
 
--- Counts were written, and they are those of a whole run, by the rules, of the schedule that is made from the seed. All
--- is kept of that run, and no delivery was unseen.
-pub record TellsCounts {S : Type 0} (outlet : Outlet S) (seed records : ℕ) (out out' : S) (result : ℕ) : Type 0 where
-  pub counts : Counts
-  pub of_run : CountsRun seed records counts
-  pub written : EndsWith outlet (counts_output records counts) out out' result
-
--- the schedule was made and its run counted, or there was no memory for it
-abbrev pub MakesRun : {S : Type 0} → Outlet S → ℕ → ℕ → S → S → ℕ → Type 0
-MakesRun outlet seed records out out' result =
-    TellsCounts outlet seed records out out' result ⊎ EndsWith outlet no_memory out out' result
+-- the schedule is made and run, and nothing outside is touched
+abbrev pub makes_run : {W : Type 0} → ℕ → ℕ → Step W Lines
+makes_run seed records old result new = MakesRun seed records result × (new ≡ old)

@@ -1,41 +1,32 @@
 ghost use Rattle.std.specs.Prelude.{◌≡◌, IfOk};
-ghost use Rattle.run_output.specs.JudgedRead.{ending_output};
+ghost use Rattle.model_commands.specs.ScheduleReading.{SaysSchedule, bad_schedule, reads_schedule};
 ghost use Rattle.schedule_replay.specs.Accepted.{IsAccepted};
-ghost use Rattle.model_commands.specs.JudgedRead.{schedule_judged};
-ghost use Rattle.model_commands.specs.JudgedSchedule.{IsNoFailedCall, ScheduleComesOf, ScheduleComesOfText, bad_schedule};
 
-use run_output::{Ending, Status};
+use run_output::{Ending, Status, Text, read};
 use schedule_file::{Schedule, ScheduleFault};
 use schedule_replay::accepted;
-use settings_file::Line;
 use station_base::{Period, push_bytes, push_number};
-use station_io::TextRead;
+use station_io::Files;
 use std::alloc::Global;
 
-/// The schedule in a text, for a console of this period, by what came of its reading, or how the run ends without it.
-pub fn judge_schedule(
+/// Reads a file of a schedule, for a console of this period.
+pub fn read_schedule<F: Files>(
     alloc: Global,
-    read: TextRead,
-    text: &[u8],
+    files: &mut F,
+    name: &str,
     period: Period,
 ) -> Result<Schedule, Ending>
-    ensures exact { ScheduleComesOf read text.now period (schedule_judged result) }
-    ensures ending { IsNoFailedCall (schedule_judged result) }
+    ensures reads { reads_schedule F.shelf name.now period files.old result files.new }
     ensures accepted { IfOk result (λ schedule. IsAccepted schedule) }
     ensures period { IfOk result (λ schedule. schedule.period ≡ period) }
 {
-    match read {
-        TextRead::Done => judge_schedule_text(alloc, text, period),
-        TextRead::Failed => Err(Ending::new(b"read fault\n", Status::ReadFault)),
-        TextRead::TooLong => Err(Ending::new(b"file too long\n", Status::TooLong)),
-        TextRead::OutOfMemory => Err(Ending::new(b"", Status::OutOfMemory)),
-    }
+    let text = read(alloc, files, name)?;
+    schedule_in(alloc, &text, period)
 }
 
-// The schedule in a text, or how the run ends without it.
-fn judge_schedule_text(alloc: Global, text: &[u8], period: Period) -> Result<Schedule, Ending>
-    ensures exact { ScheduleComesOfText text.now period (schedule_judged result) }
-    ensures ending { IsNoFailedCall (schedule_judged result) }
+// The schedule that a text says.
+fn schedule_in(alloc: Global, text: &[u8], period: Period) -> Result<Schedule, Ending>
+    ensures exact { SaysSchedule text.now period result }
     ensures accepted { IfOk result (λ schedule. IsAccepted schedule) }
     ensures period { IfOk result (λ schedule. schedule.period ≡ period) }
 {
@@ -44,7 +35,7 @@ fn judge_schedule_text(alloc: Global, text: &[u8], period: Period) -> Result<Sch
             accepted(&schedule);
             Ok(schedule)
         }
-        Err(ScheduleFault::OutOfMemory) => Err(Ending::new(b"", Status::OutOfMemory)),
+        Err(ScheduleFault::OutOfMemory) => Err(Ending::silent(Status::OutOfMemory)),
         Err(ScheduleFault::Line { line, kind }) => Err(bad_line(line, kind)),
     }
 }
@@ -52,16 +43,13 @@ fn judge_schedule_text(alloc: Global, text: &[u8], period: Period) -> Result<Sch
 // The ending of a schedule of which this line has a fault of this kind.
 #[tactic(auto, using(station_base::proofs::NumberWidths::number_text_width))]
 fn bad_line(line: u32, kind: u8) -> Ending
-    ensures { ending_output result ≡ bad_schedule (record { line = line; kind = kind }) }
+    ensures { result ≡ bad_schedule (record { line = line; kind = kind }) }
 {
-    let mut text = Line::new();
+    let mut text = Text::new();
     push_bytes(&mut text, b"schedule line ");
     push_number(&mut text, line);
     push_bytes(&mut text, b" fault ");
     push_number(&mut text, u32::from(kind));
     push_bytes(&mut text, b"\n");
-    Ending {
-        line: text,
-        status: Status::BadSchedule,
-    }
+    Ending::new(text, Status::BadSchedule)
 }

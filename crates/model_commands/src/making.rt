@@ -1,43 +1,28 @@
-ghost use Rattle.std.specs.Prelude.{◌≡◌, ◌≢◌, ◌⊎◌, ◌+◌, ◌*◌, ◌<◌, ◌≤◌, ◌^◌, ◌++◌};
+ghost use Rattle.std.specs.Prelude.{◌≡◌, ◌+◌, ◌*◌, ◌<◌, ◌≤◌, ◌^◌, ◌++◌};
 ghost use Rattle.arrayvec.specs.ArrayVec.{array_vec_len};
-ghost use Rattle.causes.specs.Cause.{Cause};
-ghost use Rattle.model_commands.specs.MakeRun.{MakesRun, counts_lines, counts_output, endings_line, harmed_line, made_line, rows_line};
-ghost use Rattle.run_output.specs.Output.{Finishes, code};
+ghost use Rattle.model_commands.specs.MakeRun.{MakesRun, counts_lines, endings_line, harmed_line, made_line, rows_line};
 
 use made_run::{MOST_MADE, MakeEnd, make};
-use run_output::{ROOM, Status, Text, finish, push_count};
+use run_output::{Ending, ROOM, Status, Text, push_count};
 use schedule_replay::Counts;
 use station_base::push_bytes;
-use station_io::Sink;
 use std::alloc::Global;
 
-/// Makes a schedule of so many records from a seed, and writes the counts of its run. No file, link or disk is touched.
-pub fn make_run<K: Sink>(alloc: Global, seed: u32, records: u32, out: &mut K) -> Status
+/// Makes a schedule of so many records from a seed, and gives the counts of its run. No file, link or disk is touched.
+pub fn make_run(alloc: Global, seed: u32, records: u32) -> Result<Text, Ending>
     requires seed { seed < 2 ^ 31 }
     requires from { 1 ≤ records }
     requires to { records ≤ MOST_MADE }
-    ensures make { MakesRun K.outlet seed records out.old out.new (code result) }
-    ensures kind { (result ≡ Status.Done) ⊎ (result ≡ Status.WriteFault) ⊎ (result ≡ Status.OutOfMemory) }
-    ensures write_fault { Cause (K.outlet.faults out.old) (K.outlet.faults out.new) (result ≡ Status.WriteFault) }
-    ensures sink_still { result ≢ Status.WriteFault → K.outlet.faults out.new ≡ K.outlet.faults out.old }
+    ensures { MakesRun seed records result }
 {
     match make(alloc, seed, records) {
-        MakeEnd::Done(counts) => write_counts(records, &counts, out),
-        MakeEnd::OutOfMemory => Status::OutOfMemory,
+        MakeEnd::Done(counts) => {
+            let mut text = Text::new();
+            push_counts(&mut text, records, &counts);
+            Ok(text)
+        }
+        MakeEnd::OutOfMemory => Err(Ending::silent(Status::OutOfMemory)),
     }
-}
-
-// Writes the counts of the run of so many records.
-fn write_counts<K: Sink>(records: u32, counts: &Counts, out: &mut K) -> Status
-    ensures ends { Finishes (K.outlet.taken out.old) (K.outlet.taken out.new) (counts_output records counts.now)
-        result }
-    ensures kind { (result ≡ Status.Done) ⊎ (result ≡ Status.WriteFault) }
-    ensures write_fault { Cause (K.outlet.faults out.old) (K.outlet.faults out.new) (result ≡ Status.WriteFault) }
-    ensures sink_still { result ≢ Status.WriteFault → K.outlet.faults out.new ≡ K.outlet.faults out.old }
-{
-    let mut text = Text::new();
-    push_counts(&mut text, records, counts);
-    finish(&text, Status::Done, out)
 }
 
 // The most bytes of one of the four lines.

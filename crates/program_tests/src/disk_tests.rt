@@ -45,14 +45,14 @@ fn cut_at(rt: &impl Abort, alloc: Global, trial: &Trial, call: u64) -> Result<Op
         files: &files,
         ..plain(trial.words)
     };
-    let mut link = line(alloc, trial.script)?;
-    let (status, text) = done(rt, alloc, &given, &mut link, &mut disk, &mut second)?;
-    if status == 0 {
-        assert_eq!(rt; text.as_slice(), trial.lines.as_bytes());
+    let link = line(alloc, trial.script)?;
+    let ended = done(rt, alloc, &given, link, disk, second)?;
+    if ended.status == 0 {
+        assert_eq!(rt; ended.text.as_slice(), trial.lines.as_bytes());
         return Ok(None);
     }
-    assert_eq!(rt; status, 7, "{:?}, call {call}", trial.words);
-    let front = text.strip_suffix(b"disk fault\n").ok_or("no line")?;
+    assert_eq!(rt; ended.status, 7, "{:?}, call {call}", trial.words);
+    let front = ended.text.strip_suffix(b"disk fault\n").ok_or("no line")?;
     assert!(rt;
         front.is_empty() || front.ends_with(b"\n"),
         "{:?}, call {call}",
@@ -120,31 +120,32 @@ fn each_call_that_fails_leaves_whole_lines_and_a_disk_fault(rt: HostRuntime) -> 
     Ok(())
 }
 
-// A copy over these disks ends so and writes this.
-fn expect_copy<D: Disk>(
+// A copy over these disks ends so and writes this. They are given back.
+fn copied<D: Disk + Drop>(
     rt: &impl Abort,
     alloc: Global,
-    disk: &mut D,
-    second: &mut D,
+    (disk, second): (D, D),
     status: u8,
     text: &str,
-) -> Result<(), Fail> {
-    let mut link = line(alloc, "")?;
-    let (ended, written) = done(rt, alloc, &plain(&COPY), &mut link, disk, second)?;
-    assert_eq!(rt; (ended, written.as_slice()), (status, text.as_bytes()));
-    Ok(())
+) -> Result<(D, D), Fail> {
+    let ended = done(rt, alloc, &plain(&COPY), line(alloc, "")?, disk, second)?;
+    assert_eq!(rt;
+        (ended.status, ended.text.as_slice()),
+        (status, text.as_bytes())
+    );
+    Ok((ended.disk, ended.second))
 }
 
 #[test]
 fn a_copy_makes_just_the_changes_of_its_batches(rt: HostRuntime) -> Result<(), Fail> {
     let alloc = rt.alloc();
-    let mut old = holding(&rt, alloc, &long_archive())?;
-    let mut new = holding(&rt, alloc, &[])?;
-    expect_copy(&rt, alloc, &mut old, &mut new, 0, "copied 40\n")?;
+    let old = holding(&rt, alloc, &long_archive())?;
+    let new = holding(&rt, alloc, &[])?;
+    let (old, new) = copied(&rt, alloc, (old, new), 0, "copied 40\n")?;
     // Three changes make the file, and four add each batch of five rows; a second copy makes one.
     let first = 3 + 4 * u64::from(MANY) / 5;
     assert_eq!(rt; new.moment(), first);
-    expect_copy(&rt, alloc, &mut old, &mut new, 0, "copied 40\n")?;
+    let (_, new) = copied(&rt, alloc, (old, new), 0, "copied 40\n")?;
     assert_eq!(rt; new.moment(), first + 1);
     Ok(())
 }
@@ -152,16 +153,17 @@ fn a_copy_makes_just_the_changes_of_its_batches(rt: HostRuntime) -> Result<(), F
 #[test]
 fn a_copy_that_was_stopped_goes_on(rt: HostRuntime) -> Result<(), Fail> {
     let alloc = rt.alloc();
-    let mut old = Stopping::new(holding(&rt, alloc, &long_archive())?);
+    let old = Stopping::new(holding(&rt, alloc, &long_archive())?);
     let mut new = Stopping::new(holding(&rt, alloc, &[])?);
     assert!(rt; !new.stopped());
     // Change 12 is the first of the third batch.
     new.arm(12, 1);
-    expect_copy(&rt, alloc, &mut old, &mut new, 7, "disk fault\n")?;
+    let (old, mut new) = copied(&rt, alloc, (old, new), 7, "disk fault\n")?;
     assert!(rt; new.stopped());
     new.restart();
-    let mut link = line(alloc, "")?;
-    let (_, rows) = done(&rt, alloc, &plain(&REPORT), &mut link, &mut new, &mut old)?;
-    assert_eq!(rt; rows.len(), 10 * LINE);
-    expect_copy(&rt, alloc, &mut old, &mut new, 0, "copied 40\n")
+    let reported = done(&rt, alloc, &plain(&REPORT), line(alloc, "")?, new, old)?;
+    assert_eq!(rt; reported.text.len(), 10 * LINE);
+    let disks = (reported.second, reported.disk);
+    copied(&rt, alloc, disks, 0, "copied 40\n")?;
+    Ok(())
 }

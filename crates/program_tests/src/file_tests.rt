@@ -26,15 +26,14 @@ fn a_file_that_cannot_be_read_ends_the_command(rt: HostRuntime) -> Result<(), Fa
             failing: &[call],
             ..plain(words)
         };
-        let mut link = line(alloc, "s")?;
-        let (status, text) = over(&rt, alloc, &given, &mut link)?;
+        let mut ended = over(&rt, alloc, &given, line(alloc, "s")?)?;
         assert_eq!(rt;
-            (status, text.as_slice()),
+            (ended.status, ended.text.as_slice()),
             (8, b"read fault\n".as_slice()),
             "{words:?}, {call}"
         );
         // Nobody was waited for.
-        assert_eq!(rt; link.connect(Side::Call, "here"), Connected::Failed);
+        assert_eq!(rt; ended.link.connect(Side::Call, "here"), Connected::Failed);
     }
     Ok(())
 }

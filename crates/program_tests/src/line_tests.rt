@@ -1,5 +1,6 @@
-use crate::running::{Given, over, plain};
+use crate::running::{Ended, Given, over, plain};
 use crate::scripts::{items_of, line, said};
+use disk_model::MemDisk;
 use serial_link::{ScriptItem, ScriptLink};
 use std::alloc::Global;
 use std::process::Abort;
@@ -28,8 +29,8 @@ fn plainly(
     rt: &impl Abort,
     alloc: Global,
     words: &[&str],
-    link: &mut ScriptLink,
-) -> Result<(u8, Vec<u8>), Fail> {
+    link: ScriptLink,
+) -> Result<Ended<ScriptLink, MemDisk>, Fail> {
     let given = Given {
         files: &EMPTY,
         ..plain(words)
@@ -54,18 +55,26 @@ fn interrupted(
 fn each_receive_that_fails_ends_the_round(rt: HostRuntime) -> Result<(), Fail> {
     let alloc = rt.alloc();
     for at in 0..GOOD {
-        let mut link = interrupted(&rt, alloc, ScriptItem::Fail, at)?;
-        let (status, text) = plainly(&rt, alloc, &STATION, &mut link)?;
-        assert_eq!(rt; (status, text.as_slice()), (6, LINK.as_bytes()), "at {at}");
+        let link = interrupted(&rt, alloc, ScriptItem::Fail, at)?;
+        let ended = plainly(&rt, alloc, &STATION, link)?;
+        assert_eq!(rt;
+            (ended.status, ended.text.as_slice()),
+            (6, LINK.as_bytes()),
+            "at {at}"
+        );
     }
     Ok(())
 }
 
 // A round ends so where the message before the item of that number is not sent.
 fn ends_unsent(rt: &impl Abort, alloc: Global, at: usize, want: &str) -> Result<(), Fail> {
-    let mut link = interrupted(rt, alloc, ScriptItem::SendFails, at)?;
-    let (status, text) = plainly(rt, alloc, &STATION, &mut link)?;
-    assert_eq!(rt; (status, text.as_slice()), (6, want.as_bytes()), "at {at}");
+    let link = interrupted(rt, alloc, ScriptItem::SendFails, at)?;
+    let ended = plainly(rt, alloc, &STATION, link)?;
+    assert_eq!(rt;
+        (ended.status, ended.text.as_slice()),
+        (6, want.as_bytes()),
+        "at {at}"
+    );
     Ok(())
 }
 
@@ -93,14 +102,17 @@ fn a_line_that_is_not_made_or_answered_is_a_link_fault(rt: HostRuntime) -> Resul
         (&serving, "l s", b""),
     ];
     for (words, script, want) in rows {
-        let mut link = line(alloc, script)?;
-        let (status, text) = plainly(&rt, alloc, words, &mut link)?;
+        let ended = plainly(&rt, alloc, words, line(alloc, script)?)?;
         assert_eq!(rt;
-            (status, text.as_slice()),
+            (ended.status, ended.text.as_slice()),
             (6, b"link fault\n".as_slice()),
             "{words:?}, {script}"
         );
-        assert_eq!(rt; said(alloc, link.talk())?.as_slice(), want, "{words:?}");
+        assert_eq!(rt;
+            said(alloc, ended.link.talk())?.as_slice(),
+            want,
+            "{words:?}"
+        );
     }
     Ok(())
 }
@@ -132,9 +144,9 @@ const LONG: [(&str, u8, &str); 3] = [
 fn a_console_may_fail_each_attempt_or_the_first(rt: HostRuntime) -> Result<(), Fail> {
     let alloc = rt.alloc();
     for (script, status, text) in LONG {
-        let (ended, written) = plainly(&rt, alloc, &STATION, &mut line(alloc, script)?)?;
+        let ended = plainly(&rt, alloc, &STATION, line(alloc, script)?)?;
         assert_eq!(rt;
-            (ended, written.as_slice()),
+            (ended.status, ended.text.as_slice()),
             (status, text.as_bytes()),
             "{script}"
         );

@@ -56,37 +56,41 @@ fn fates(alloc: Global, lines: &str) -> Option<Fates> {
     }
 }
 
-// The words end so where this befalls the line to a console, and this is written.
+// A line to a console, and the disk of an archive.
+type Places = (Sim, MemDisk);
+
+// The words end so where this befalls the line to a console, and this is written. The line and the disk are given back.
 fn expect(
     rt: &impl Abort,
     alloc: Global,
-    sim: &mut Sim,
-    disk: &mut MemDisk,
+    (mut sim, disk): Places,
     words: &[&str],
     lines: &str,
     (status, text): (u8, &str),
-) -> Result<(), Fail> {
+) -> Result<Places, Fail> {
     sim.start(fates(alloc, lines).ok_or("no fates")?);
     let files = [("settings", b"".as_slice())];
     let given = Given {
         files: &files,
         ..plain(words)
     };
-    let (ended, written) = done(rt, alloc, &given, sim, disk, &mut holding(rt, alloc, &[])?)?;
+    let mut ended = done(rt, alloc, &given, sim, disk, holding(rt, alloc, &[])?)?;
     assert_eq!(rt;
-        (ended, written.as_slice()),
+        (ended.status, ended.text.as_slice()),
         (status, text.as_bytes()),
         "{words:?}, {lines}"
     );
-    sim.finish();
-    Ok(())
+    ended.link.finish();
+    Ok((ended.link, ended.disk))
 }
 
 #[test]
 fn a_modelled_console_does_each_task(rt: HostRuntime) -> Result<(), Fail> {
     let alloc = rt.alloc();
-    let mut sim = console(alloc, 0).ok_or("no console")?;
-    let mut disk = holding(&rt, alloc, &[])?;
+    let mut places = (
+        console(alloc, 0).ok_or("no console")?,
+        holding(&rt, alloc, &[])?,
+    );
     let set = ["task", "a", "time", "set", "2024-07-01", "12:34:56"];
     let write_five = ["task", "a", "eeprom", "write", "2D", "05"];
     let write_ten = ["task", "a", "eeprom", "write", "2D", "0A"];
@@ -105,15 +109,7 @@ fn a_modelled_console_does_each_task(rt: HostRuntime) -> Result<(), Fail> {
         (&write_ten, "host 3 flip 0 0FF1EF", 4, differs),
     ];
     for (words, lines, status, text) in rows {
-        expect(
-            &rt,
-            alloc,
-            &mut sim,
-            &mut disk,
-            words,
-            lines,
-            (status, text),
-        )?;
+        places = expect(&rt, alloc, places, words, lines, (status, text))?;
     }
     Ok(())
 }
@@ -169,17 +165,9 @@ const ROUNDS: [(u16, &str, u8, &str); 11] = [
 fn a_round_heals_a_modelled_line_or_gives_up(rt: HostRuntime) -> Result<(), Fail> {
     let alloc = rt.alloc();
     for (records, lines, status, text) in ROUNDS {
-        let mut sim = console(alloc, records).ok_or("no console")?;
-        let mut disk = MemDisk::new(alloc, LONGEST, CHANGES, LONGEST)?;
-        expect(
-            &rt,
-            alloc,
-            &mut sim,
-            &mut disk,
-            &STATION,
-            lines,
-            (status, text),
-        )?;
+        let sim = console(alloc, records).ok_or("no console")?;
+        let disk = MemDisk::new(alloc, LONGEST, CHANGES, LONGEST)?;
+        expect(&rt, alloc, (sim, disk), &STATION, lines, (status, text))?;
     }
     Ok(())
 }
@@ -187,11 +175,13 @@ fn a_round_heals_a_modelled_line_or_gives_up(rt: HostRuntime) -> Result<(), Fail
 #[test]
 fn a_record_of_a_dump_comes_with_the_next(rt: HostRuntime) -> Result<(), Fail> {
     let alloc = rt.alloc();
-    let mut sim = console(alloc, 5).ok_or("no console")?;
-    let mut disk = holding(&rt, alloc, &[])?;
+    let mut places = (
+        console(alloc, 5).ok_or("no console")?,
+        holding(&rt, alloc, &[])?,
+    );
     let six = "round ok attempts 1 pages 1 skipped 0 acked 6 rows 6\n";
     for (lines, text) in [("host 5 lost\nmid 4 2024-07-01 00:30", FIVE), ("", six)] {
-        expect(&rt, alloc, &mut sim, &mut disk, &STATION, lines, (0, text))?;
+        places = expect(&rt, alloc, places, &STATION, lines, (0, text))?;
     }
     Ok(())
 }

@@ -1,4 +1,5 @@
 use disk_model::{Disk, Disked, MemDisk};
+use run_output::Outside;
 use serial_link::Link;
 use station_io::{MemFile, MemFiles, MemSink};
 use station_top::run;
@@ -36,15 +37,25 @@ pub fn plain<'w, 'f, 'c>(words: &'w [&'w str]) -> Given<'w, 'f, 'c> {
     }
 }
 
-// How the words end over a link and two disks, and what they write.
-pub fn done<L: Link, D: Disk>(
+// How a run ended and what it wrote, and what it went over.
+#[derive(Drop)]
+pub struct Ended<L, D> {
+    pub status: u8,
+    pub text: Vec<u8>,
+    pub link: L,
+    pub disk: D,
+    pub second: D,
+}
+
+// Has the words done over a link and two disks.
+pub fn done<L: Link + Drop, D: Disk + Drop>(
     rt: &impl Abort,
     alloc: Global,
     given: &Given,
-    link: &mut L,
-    disk: &mut D,
-    second: &mut D,
-) -> Result<(u8, Vec<u8>), Fail> {
+    link: L,
+    disk: D,
+    second: D,
+) -> Result<Ended<L, D>, Fail> {
     let mut listed = Vec::new(alloc);
     for (name, bytes) in given.files {
         listed.push(MemFile {
@@ -52,20 +63,23 @@ pub fn done<L: Link, D: Disk>(
             bytes: Vec::from_slice(alloc, bytes)?,
         })?;
     }
-    let mut files = MemFiles::new(listed, Vec::from_slice(alloc, given.failing)?);
-    let mut sink = MemSink::new(alloc, given.capacity)?;
-    assert!(rt; disk.moment() < MOST_CHANGES);
-    assert!(rt; second.moment() < MOST_CHANGES);
-    let status = run(
-        alloc,
-        given.words,
-        &mut files,
-        &mut sink,
+    let mut outside = Outside {
+        files: MemFiles::new(listed, Vec::from_slice(alloc, given.failing)?),
+        out: MemSink::new(alloc, given.capacity)?,
         link,
         disk,
         second,
-    );
-    Ok((status, Vec::from_slice(alloc, sink.bytes())?))
+    };
+    assert!(rt; outside.disk.moment() < MOST_CHANGES);
+    assert!(rt; outside.second.moment() < MOST_CHANGES);
+    let status = run(alloc, given.words, &mut outside);
+    Ok(Ended {
+        status,
+        text: Vec::from_slice(alloc, outside.out.bytes())?,
+        link: outside.link,
+        disk: outside.disk,
+        second: outside.second,
+    })
 }
 
 // A disk that reads as these bytes, and has room for more.
@@ -78,14 +92,14 @@ pub fn holding(rt: &impl Abort, alloc: Global, bytes: &[u8]) -> Result<MemDisk, 
     Ok(disk)
 }
 
-// How the words end over a link and empty disks, and what they write.
-pub fn over<L: Link>(
+// Has the words done over a link and empty disks.
+pub fn over<L: Link + Drop>(
     rt: &impl Abort,
     alloc: Global,
     given: &Given,
-    link: &mut L,
-) -> Result<(u8, Vec<u8>), Fail> {
-    let mut disk = holding(rt, alloc, &[])?;
-    let mut second = holding(rt, alloc, &[])?;
-    done(rt, alloc, given, link, &mut disk, &mut second)
+    link: L,
+) -> Result<Ended<L, MemDisk>, Fail> {
+    let disk = holding(rt, alloc, &[])?;
+    let second = holding(rt, alloc, &[])?;
+    done(rt, alloc, given, link, disk, second)
 }

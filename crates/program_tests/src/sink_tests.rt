@@ -41,13 +41,12 @@ fn fill(
             continue;
         }
         let given = Given { capacity, ..*given };
-        let mut link = line(alloc, script)?;
-        let mut disk = holding(rt, alloc, bytes)?;
-        let mut second = holding(rt, alloc, &[])?;
-        let (status, text) = done(rt, alloc, &given, &mut link, &mut disk, &mut second)?;
-        assert_eq!(rt; status, 9, "{:?}, at {capacity}", given.words);
+        let disk = holding(rt, alloc, bytes)?;
+        let second = holding(rt, alloc, &[])?;
+        let ended = done(rt, alloc, &given, line(alloc, script)?, disk, second)?;
+        assert_eq!(rt; ended.status, 9, "{:?}, at {capacity}", given.words);
         assert!(rt;
-            lines.as_bytes().starts_with(&text),
+            lines.as_bytes().starts_with(&ended.text),
             "{:?}, at {capacity}",
             given.words
         );
@@ -94,23 +93,16 @@ fn a_sink_that_ends_within_a_line_takes_a_front(rt: HostRuntime) -> Result<(), F
 fn a_sink_may_end_within_the_line_of_a_disk_fault(rt: HostRuntime) -> Result<(), Fail> {
     let alloc = rt.alloc();
     let mut disk = holding(&rt, alloc, &archive())?;
-    let mut second = holding(&rt, alloc, &[])?;
+    let second = holding(&rt, alloc, &[])?;
     disk.fail_at(1);
     let words = ["report", "a", "days", "2024-07-01", "2024-07-01"];
     let given = Given {
         capacity: 10,
         ..plain(&words)
     };
-    let (status, text) = done(
-        &rt,
-        alloc,
-        &given,
-        &mut line(alloc, "")?,
-        &mut disk,
-        &mut second,
-    )?;
-    assert_eq!(rt; status, 9);
-    assert!(rt; "disk fault\n".as_bytes().starts_with(&text));
+    let ended = done(&rt, alloc, &given, line(alloc, "")?, disk, second)?;
+    assert_eq!(rt; ended.status, 9);
+    assert!(rt; "disk fault\n".as_bytes().starts_with(&ended.text));
     Ok(())
 }
 
@@ -124,9 +116,11 @@ fn what_was_served_was_said_though_its_line_cannot_be_written(rt: HostRuntime) -
         capacity: 10,
         ..plain(&words)
     };
-    let mut link = line(alloc, "l q1")?;
-    let (status, text) = over(&rt, alloc, &given, &mut link)?;
-    assert_eq!(rt; (status, text.as_slice()), (9, b"".as_slice()));
-    assert_eq!(rt; said(alloc, link.talk())?.as_slice(), b"\n\r".as_slice());
+    let ended = over(&rt, alloc, &given, line(alloc, "l q1")?)?;
+    assert_eq!(rt; (ended.status, ended.text.as_slice()), (9, b"".as_slice()));
+    assert_eq!(rt;
+        said(alloc, ended.link.talk())?.as_slice(),
+        b"\n\r".as_slice()
+    );
     Ok(())
 }

@@ -1,2 +1,7 @@
+pub mod Behind
+pub mod CallCauses
+pub mod Causes
+pub mod GoodFiles
 pub mod Printing
-pub mod Settling
+pub mod RunCauses
+pub mod Statuses

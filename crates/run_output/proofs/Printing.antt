@@ -1,48 +1,17 @@
--- A listing that is written page by page.
-use Rattle.std.proofs.Common.{◌≡◌, ℕ, List, [], ◌++◌, refl, sym, ◌∙◌, inl, inr, subst, append_assoc, ap}
+-- A text that is written piece by piece.
+use Rattle.std.proofs.Common.{◌≡◌, ◌≢◌, ◌≤◌, ℕ, List, [], ◌++◌, Err, refl, sym, ◌∙◌, inl, inr, subst, append_assoc, ap, arith}
 use Rattle.std.proofs.lemmas.List.{append-nil}
 use Rattle.std.specs.declared.option.Option.{Option}
-use Rattle.std.specs.Io.KnownBytes.{Appends}
+use Rattle.std.specs.declared.result.Result.{Result}
+use Rattle.causes.specs.Cause.{Rose}
 use Rattle.causes.specs.Written.{Leaves, WritesPart}
-use Rattle.causes.proofs.Writing.{leaves_all, leaves_less, leaves_none, part_of_all, part_of_front}
-use Rattle.run_output.specs.declared.status.Status.{Status}
+use Rattle.causes.proofs.Writing.{leaves_less, part_of_all, part_of_front}
+use Rattle.station_io.specs.Sink.{Outlet}
+use Rattle.run_output.specs.Ended.{Lines, output_of}
+use Rattle.run_output.specs.Output.{Output, led_by, write_fault}
+use Rattle.run_output.specs.Streams.{IsLeft, streams}
 use Rattle.run_output.specs.declared.status.Status.TheVariants.{WriteFault}
-use Rattle.run_output.specs.Output.{Output, Finishes, led_by}
-
--- Of an output this is left, with the same end.
-pub record IsLeft (old now : Option (List ℕ)) (all left : Output) : Type 0 where
-  pub text : Leaves old now all.text left.text
-  pub status : left.status ≡ all.status
-
-pub all_is_left : (known : Option (List ℕ)) (all : Output) → IsLeft known known all all
-all_is_left known all = record { text = leaves_all known all.text; status = refl }
-
--- one text of it was written
-pub less_is_left : (old now new : Option (List ℕ)) (all left : Output) (text : List ℕ) →
-    IsLeft old now all (led_by text left) → Appends now new text → IsLeft old new all left
-less_is_left old now new all left text before more = record {
-  text = leaves_less old now new all.text text left.text before.text more;
-  status = before.status;
-}
-
--- what was left was written, or a part of it
-pub ends_all : (old now new : Option (List ℕ)) (all left : Output) (status : Status) →
-    IsLeft old now all left → Finishes now new left status → Finishes old new all status
-ends_all old now new all left status before (inl whole) =
-    inl (
-      whole.0 ∙ before.status,
-      leaves_none old new all.text
-          (leaves_less old now new all.text left.text []
-          (let P : List ℕ → Type 0 = λ text. Leaves old now all.text text in subst P (sym (append-nil left.text)) before.text) whole.1),
-    )
-ends_all old now new all left status before (inr part) =
-    inr (part.0, part_of_all old now new all.text left.text before.text part.1)
-
--- a write of the first text failed
-pub ends_early : (old now new : Option (List ℕ)) (all left : Output) (text : List ℕ) →
-    IsLeft old now all (led_by text left) → WritesPart now new text → Finishes old new all WriteFault
-ends_early old now new all left text before part =
-    inr (refl, part_of_all old now new all.text (text ++ left.text) before.text (part_of_front now new text left.text part))
+use Rattle.run_output.proofs.Statuses.{has_status}
 
 -- the text that waits goes on by one more
 pub pending_grows : (old now : Option (List ℕ)) (all left : Output) (pending text : List ℕ) →
@@ -70,4 +39,32 @@ pending_is_left old now all left pending before none = record {
   text = let P : List ℕ → Type 0 = λ text. Leaves old now all.text text in
       subst P (ap (λ (text : List ℕ). pending ++ text) none ∙ append-nil pending) before.text;
   status = before.status;
+}
+
+-- what is left is given, and no write failed
+pub left_streams : {S : Type 0} (outlet : Outlet S) (all left : Output) (old new : S) (result : Result Lines Output) →
+    IsLeft (outlet.taken old) (outlet.taken new) all left → output_of result ≡ left → WriteFault ≢ left.status →
+    outlet.faults new ≡ outlet.faults old → streams outlet all old result new
+left_streams outlet all left old new result before given well still = record {
+  written = inl (rw given before);
+  cause = record {
+    never_falls = omega arith;
+    rose = λ is. absurd (well (sym (has_status WriteFault result (output_of result) refl is) ∙ ap (λ (output : Output). output.status) given));
+  };
+  still = λ no. still;
+}
+
+-- a write of the text that waits failed
+pub part_streams : {S : Type 0} (outlet : Outlet S) (all left : Output) (pending : List ℕ) (old now new : S) (result : Result Lines Output) →
+    IsLeft (outlet.taken old) (outlet.taken now) all (led_by pending left) → WritesPart (outlet.taken now) (outlet.taken new) pending →
+    result ≡ Err write_fault → outlet.faults now ≡ outlet.faults old → outlet.faults now ≤ outlet.faults new →
+    Rose (outlet.faults now) (outlet.faults new) → streams outlet all old result new
+part_streams outlet all left pending old now new result before part given still rises rose = record {
+  written = inr (
+    given,
+    part_of_all (outlet.taken old) (outlet.taken now) (outlet.taken new) all.text (pending ++ left.text) before.text
+        (part_of_front (outlet.taken now) (outlet.taken new) pending left.text part),
+  );
+  cause = record { never_falls = omega arith; rose = λ is. omega arith };
+  still = λ no. absurd (no (rw given refl));
 }

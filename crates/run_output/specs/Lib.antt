@@ -1,4 +1,9 @@
-pub mod Judged
-pub mod JudgedRead
+pub mod Calls
+pub mod Causes
+pub mod Ended
 pub mod MemoryText
 pub mod Output
+pub mod Outside
+pub mod Reading
+pub mod Steps
+pub mod Streams

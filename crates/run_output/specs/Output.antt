@@ -1,9 +1,8 @@
 -- What a run writes, and how it ends.
-use Rattle.std.specs.Prelude.{ℕ, ◌≡◌, ◌≢◌, ◌⊎◌, List, [], ◌++◌, codes}
+use Rattle.std.specs.Prelude.{ℕ, ◌≡◌, ◌⊎◌, List, [], ◌++◌, codes}
 use Rattle.std.specs.declared.option.Option.{Option}
 use Rattle.std.specs.Io.KnownBytes.{Appends}
 use Rattle.causes.specs.Written.{WritesPart}
-use Rattle.station_io.specs.Files.{Shelf}
 use Rattle.station_io.specs.Sink.{Outlet}
 use Rattle.run_output.specs.declared.status.Status.{Status}
 use Rattle.run_output.specs.declared.status.Status.TheVariants as ends
@@ -27,6 +26,17 @@ link_fault = record { text = codes "link fault\n"; status = ends.LinkFault }
 -- the line of a disk that failed
 abbrev pub disk_fault : Output
 disk_fault = record { text = codes "disk fault\n"; status = ends.DiskFault }
+
+-- the line of a file that could not be read, and of one that is too long
+abbrev pub read_fault : Output
+read_fault = record { text = codes "read fault\n"; status = ends.ReadFault }
+
+abbrev pub too_long : Output
+too_long = record { text = codes "file too long\n"; status = ends.TooLong }
+
+-- nothing more is written after a write that failed
+abbrev pub write_fault : Output
+write_fault = record { text = []; status = ends.WriteFault }
 
 -- A run wrote it all and ends so, or a write failed after a front of it.
 abbrev pub Finishes : Option (List ℕ) → Option (List ℕ) → Output → Status → Type 0
@@ -60,12 +70,3 @@ pub record EndsWith {S : Type 0} (outlet : Outlet S) (output : Output) (old new 
   pub status : Status
   pub coded : code status ≡ result
   pub ends : Finishes (outlet.taken old) (outlet.taken new) output status
-
--- it is no status of a link or a disk that failed
-abbrev pub IsNoCall : Status → Type 0
-IsNoCall status = (status ≢ ends.LinkFault) × (status ≢ ends.DiskFault)
-
--- Only a run that ends with a read fault or a write fault had a fault of the files.
-abbrev pub FilesStill : {F : Type 0} → Shelf F → Status → F → F → Type 0
-FilesStill shelf status old new =
-    status ≢ ends.ReadFault → status ≢ ends.WriteFault → shelf.faults new ≡ shelf.faults old

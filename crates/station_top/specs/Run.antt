@@ -1,70 +1,65 @@
 -- What a run of a command does: which calls it makes, what it writes, and how it ends.
-use Rattle.std.specs.Prelude.{ℕ, ◌≡◌, codes, IsSomeAnd}
+use Rattle.std.specs.Prelude.{ℕ, ◌≡◌, Some, None, Err, codes, IsSomeAnd}
+use Rattle.std.specs.declared.option.Option.{Option}
+use Rattle.std.specs.declared.result.Result.{Result}
 use Rattle.disk_model.specs.Medium.{Medium}
 use Rattle.serial_link.specs.Traffic.{Traffic}
 use Rattle.station_io.specs.Files.{Shelf}
 use Rattle.station_io.specs.Sink.{Outlet}
-use Rattle.run_output.specs.declared.status.Status.TheVariants as ends
 use Rattle.command_words.specs.Command.{CommandLine, pages, corrected_pages, task, report, replay, copy, station}
 use Rattle.command_words.specs.Command.{console, make}
-use Rattle.model_commands.specs.ConsoleRun.{ServesFiles}
-use Rattle.archive_commands.specs.CopyRun.{CopiesOn, TellArchives}
-use Rattle.page_commands.specs.GoodFile.{IsGoodFile}
-use Rattle.run_output.specs.Judged.{IsAccepted}
-use Rattle.run_output.specs.Output.{EndsWith}
-use Rattle.model_commands.specs.MakeRun.{MakesRun}
-use Rattle.model_commands.specs.ReplayRun.{HasGoodFiles, ReplaysFiles}
-use Rattle.archive_commands.specs.ReportRun.{ReportsOn, TellsArchive}
-use Rattle.station_command.specs.StationRun.{CatchesUp, ShowsCaughtUp}
-use Rattle.page_commands.specs.PageRun.{PrintsCorrected, PrintsFile}
-use Rattle.page_commands.specs.Style.{short}
-use Rattle.task_command.specs.TaskRun.{CallsFor, ShowsDone}
+use Rattle.commands.specs.CopyRun.{TellArchives, copies_on}
+use Rattle.commands.specs.GoodFile.{IsGoodFile}
+use Rattle.commands.specs.PageRun.{prints_corrected, prints_file}
+use Rattle.commands.specs.ReportRun.{TellsArchive, reports_on}
+use Rattle.commands.specs.StationRun.{ShowsCaughtUp, catches_up}
+use Rattle.commands.specs.Style.{short}
+use Rattle.commands.specs.TaskRun.{ShowsDone, calls_for}
+use Rattle.model_commands.specs.ConsoleRun.{serves_files}
+use Rattle.model_commands.specs.MakeRun.{makes_run}
+use Rattle.model_commands.specs.ReplayRun.{HasGoodFiles, replays_files}
+use Rattle.run_output.specs.Ended.{Lines, output_of}
+use Rattle.run_output.specs.Output.{EndsWith, Output}
+use Rattle.run_output.specs.Outside.{Meanings}
+use Rattle.run_output.specs.Reading.{IsAccepted}
+use Rattle.run_output.specs.Steps.{Step}
+use Rattle.run_output.specs.declared.outside.Outside.{Outside}
+use Rattle.run_output.specs.declared.status.Status.TheVariants as ends
 
--- neither disk was touched
-abbrev pub AtRest : {D : Type 0} → D → D → D → D → Type 0
-AtRest disk second disk' second' = (disk' ≡ disk) × (second' ≡ second)
+-- what is written of words outside the table
+abbrev pub usage : Output
+usage = record { text = codes "usage\n"; status = ends.Usage }
 
--- No file was touched, no link, and no disk.
-pub record IsUsage {F S L D : Type 0} (outlet : Outlet S) (old : F) (out : S) (link : L) (disk second : D)
-    (new : F) (out' : S) (link' : L) (disk' second' : D) (result : ℕ) : Type 0 where
-  pub untouched : new ≡ old
-  pub silent : link' ≡ link
-  pub at_rest : AtRest disk second disk' second'
-  pub written : EndsWith outlet (record { text = codes "usage\n"; status = ends.Usage }) out out' result
+-- Nothing was touched, and this line was written.
+pub record IsUsage {F K L D : Type 0} (outlet : Outlet K) (old new : Outside F K L D) (result : ℕ) : Type 0 where
+  pub alone : new ≡ record old { out = new.out }
+  pub written : EndsWith outlet usage old.out new.out result
 
--- what each command does: one that prints pages or replays a schedule touches no link and no disk, a task no file and
--- no disk, a report no file, no link and no second disk, a copy no file and no link, a round no second disk, one that
--- serves a console no disk, and a run that is made nothing but the sink
-abbrev pub Performs : {F S L D : Type 0} → Shelf F → Outlet S → Traffic L → Medium D → CommandLine
-    → F → S → L → D → D → F → S → L → D → D → ℕ → Type 0
-Performs shelf outlet traffic medium (pages file) old out link disk second new out' link' disk' second' result =
-    (link' ≡ link) × AtRest disk second disk' second' × PrintsFile shelf outlet short file old out new out' result
-Performs shelf outlet traffic medium (corrected_pages settings file)
-    old out link disk second new out' link' disk' second' result =
-    (link' ≡ link) × AtRest disk second disk' second'
-    × PrintsCorrected shelf outlet settings file old out new out' result
-Performs shelf outlet traffic medium (task address asked) old out link disk second new out' link' disk' second' result =
-    (new ≡ old) × AtRest disk second disk' second' × CallsFor traffic outlet address asked link out link' out' result
-Performs shelf outlet traffic medium (report archive wanted)
-    old out link disk second new out' link' disk' second' result =
-    (new ≡ old) × (link' ≡ link) × (second' ≡ second)
-    × ReportsOn medium outlet archive wanted disk out disk' out' result
-Performs shelf outlet traffic medium (replay settings schedule)
-    old out link disk second new out' link' disk' second' result =
-    (link' ≡ link) × AtRest disk second disk' second'
-    × ReplaysFiles shelf outlet settings schedule old out new out' result
-Performs shelf outlet traffic medium (copy from to) old out link disk second new out' link' disk' second' result =
-    (new ≡ old) × (link' ≡ link) × CopiesOn medium outlet from to disk second out disk' second' out' result
-Performs shelf outlet traffic medium (station names)
-    old out link disk second new out' link' disk' second' result =
-    (second' ≡ second)
-    × CatchesUp shelf traffic medium outlet names old link disk out new link' disk' out' result
-Performs shelf outlet traffic medium (console names)
-    old out link disk second new out' link' disk' second' result =
-    AtRest disk second disk' second'
-    × ServesFiles shelf traffic outlet names old link out new link' out' result
-Performs shelf outlet traffic medium (make seed records) old out link disk second new out' link' disk' second' result =
-    (new ≡ old) × (link' ≡ link) × AtRest disk second disk' second' × MakesRun outlet seed records out out' result
+-- what each command does, up to its last lines
+abbrev pub performs : {F K L D : Type 0} → Meanings F K L D → CommandLine → Step (Outside F K L D) Lines
+performs m (pages file) = prints_file m short file
+performs m (corrected_pages settings file) = prints_corrected m settings file
+performs m (task address asked) = calls_for m address asked
+performs m (report archive wanted) = reports_on m archive wanted
+performs m (replay settings schedule) = replays_files m settings schedule
+performs m (copy from to) = copies_on m from to
+performs m (station names) = catches_up m names
+performs m (console names) = serves_files m names
+performs m (make seed records) = makes_run seed records
+
+-- what the words do: those of a command what it does, and other words nothing
+abbrev pub performs_words : {F K L D : Type 0} → Meanings F K L D → Option CommandLine → Step (Outside F K L D) Lines
+performs_words m (Some command) = performs m command
+performs_words m None = λ old result new. (result ≡ Err usage) × (new ≡ old)
+
+-- The command was done, or a step ended it, and then its last lines were written.
+pub record Performs {F K L D : Type 0} (m : Meanings F K L D) (command : CommandLine) (old new : Outside F K L D)
+    (result : ℕ) : Type 0 where
+  pub ended : Result Lines Output
+  pub mid : Outside F K L D
+  pub did : performs m command old ended mid
+  pub alone : new ≡ record mid { out = new.out }
+  pub written : EndsWith m.outlet (output_of ended) mid.out new.out result
 
 -- what the command reads is told and good
 abbrev pub HasGoodInput : {F : Type 0} → Shelf F → CommandLine → F → Type 0
@@ -95,10 +90,11 @@ IsShownDone traffic (task address asked) old new = ShowsDone traffic asked old n
 IsShownDone traffic other old new = ⊥
 
 -- the command is a round, its settings are told and accepted, and archive and talk show that the round is done
-abbrev pub IsShownCaughtUp : {F L D : Type 0} → Shelf F → Traffic L → Medium D → CommandLine → F → D → L → L → Type 0
-IsShownCaughtUp shelf traffic medium (station names) files disk old new =
-    IsSomeAnd (shelf.held files names.settings) IsAccepted × ShowsCaughtUp traffic medium disk old new
-IsShownCaughtUp shelf traffic medium other files disk old new = ⊥
+abbrev pub IsShownCaughtUp : {F K L D : Type 0} → Meanings F K L D → CommandLine → Outside F K L D → Outside F K L D → Type 0
+IsShownCaughtUp m (station names) old new =
+    IsSomeAnd (m.shelf.held old.files names.settings) IsAccepted
+    × ShowsCaughtUp m.traffic m.medium old.disk old.link new.link
+IsShownCaughtUp m other old new = ⊥
 
 -- the command is a task
 abbrev pub IsTask : CommandLine → Type 0

@@ -1,45 +1,33 @@
-use Rattle.std.proofs.Common.{ℕ, ◌∙◌, refl, sym, subst, inl, inr}
+use Rattle.std.proofs.Common.{sym}
 use Rattle.eeprom_map.specs.Memory.{new_memory}
-use Rattle.schedule_replay.specs.Replayed.{IsNewDisk}
-use Rattle.run_output.specs.declared.status.Status.TheVariants as ends
-use Rattle.model_commands.proofs.Replays.{line_for, replays_nothing, replays_so}
+use Rattle.model_commands.proofs.Replays.{replays_nothing, writes_run}
 use Rattle.model_commands.proofs.replaying.replay_anew.Goals as goal
 
-pub returns-in_default-clause-replay : goal.returns-in_default-clause-replay
-returns-in_default-clause-replay g c = replays_nothing g.K.Sink.outlet c.args.settings.now _ c.blank-packet.result c.args.out.now c.blank-packet.ensures
+pub returns-in_default : goal.returns-in_default
+returns-in_default g c = replays_nothing g.K.Sink.outlet c.args.settings.now _ _ c.args.out.now _ c.blank-packet.ensures c.ended.ensures
 
-pub returns-in_default-new_disk-clause-replay : goal.returns-in_default-new_disk-clause-replay
-returns-in_default-new_disk-clause-replay g c = replays_nothing g.K.Sink.outlet c.args.settings.now _ c.blank-packet.result c.args.out.now c.blank-packet.ensures
+pub returns-in_default-new_disk : goal.returns-in_default-new_disk
+returns-in_default-new_disk g c =
+    replays_nothing g.K.Sink.outlet c.args.settings.now _ _ c.args.out.now _ c.blank-packet.ensures c.ended-in_default-new_disk.ensures
 
 pub replay-requires-clause-line : goal.replay-requires-clause-line
 replay-requires-clause-line g c = (
   new_memory c.args.settings.now.period,
   c.blank-packet.result,
-  line_for _ _ c.blank-packet.result c.in-Ok.line c.period.ensures c.in-Ok.ensures,
-  subst (λ (n : ℕ). IsNewDisk n (new_memory c.args.settings.now.period) c.blank-packet.result c.in-Ok-new_disk.disk)
-      (c.records.ensures ∙ sym c.args.schedule.now.counted) (c.in-Ok-new_disk.ensures (new_memory c.args.settings.now.period) c.blank-packet.result),
+  rw c.period.ensures at c.in-Ok.ensures,
+  rw (c.records.ensures, sym c.args.schedule.now.counted) at (c.in-Ok-new_disk.ensures (new_memory c.args.settings.now.period) c.blank-packet.result),
 )
 
-pub returns-in-Done-clause-replay : goal.returns-in-Done-clause-replay
-returns-in-Done-clause-replay g c =
-    replays_so g.K.Sink.outlet c.args.settings.now _ c.blank-packet.result c.args.out.now c.replay.new.out ends.Done c.blank-packet.ensures
-    (c.in-Done.ensures.done refl (new_memory c.args.settings.now.period) c.blank-packet.result
-    (line_for _ _ c.blank-packet.result c.in-Ok.line c.period.ensures c.in-Ok.ensures))
-
-pub returns-in-Unseen-clause-replay : goal.returns-in-Unseen-clause-replay
-returns-in-Unseen-clause-replay g c =
-    replays_so g.K.Sink.outlet c.args.settings.now _ c.blank-packet.result c.args.out.now c.replay.new.out ends.Unseen c.blank-packet.ensures
-    (c.in-Unseen.ensures.unseen refl (new_memory c.args.settings.now.period) c.blank-packet.result
-    (line_for _ _ c.blank-packet.result c.in-Ok.line c.period.ensures c.in-Ok.ensures))
-
-pub returns-in-WriteFault-clause-replay : goal.returns-in-WriteFault-clause-replay
-returns-in-WriteFault-clause-replay g c =
-    replays_so g.K.Sink.outlet c.args.settings.now _ c.blank-packet.result c.args.out.now c.replay.new.out ends.WriteFault c.blank-packet.ensures
-    (c.in-WriteFault.ensures.cut_off (inl refl) (new_memory c.args.settings.now.period) c.blank-packet.result
-    (line_for _ _ c.blank-packet.result c.in-Ok.line c.period.ensures c.in-Ok.ensures))
-
-pub returns-clause-replay : goal.returns-clause-replay
-returns-clause-replay g c =
-    replays_so g.K.Sink.outlet c.args.settings.now _ c.blank-packet.result c.args.out.now c.replay.new.out ends.OutOfMemory c.blank-packet.ensures
-    (c.in-OutOfMemory.ensures.cut_off (inr refl) (new_memory c.args.settings.now.period) c.blank-packet.result
-    (line_for _ _ c.blank-packet.result c.in-Ok.line c.period.ensures c.in-Ok.ensures))
+pub returns : goal.returns
+returns g c =
+    let line = rw c.period.ensures at c.in-Ok.ensures in
+    let r = c.replay.ensures in
+    record {
+      packet = c.blank-packet.result;
+      blank = c.blank-packet.ensures;
+      end = c.replay.result;
+      written = writes_run c.replay.result _ _ _ _ _ (λ is. r.done is _ _ line) (λ is. r.unseen is _ _ line) (λ is. r.cut_off is _ _ line);
+      cause = r.write_fault;
+      still = r.sink_still;
+      given = c.ended-2.ensures;
+    }

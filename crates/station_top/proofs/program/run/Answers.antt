@@ -1,32 +1,51 @@
-use Rattle.std.proofs.Common.{◌≡◌, Some, refl, rules}
-use Rattle.command_words.specs.Command.{command_of, console, console_names, corrected_pages, station, station_names, texts}
-use Rattle.model_commands.specs.ConsoleRun.{IsServedOrHindered}
-use Rattle.page_commands.specs.PageRun.{IsDoneOrHindered}
-use Rattle.station_command.proofs.CaughtUp.{IsSettled, caught_up}
-use Rattle.archive_commands.proofs.Reports.{none_well}
+use Rattle.std.proofs.Common.{refl, subst}
+use Rattle.std.specs.declared.option.Option.{Option}
+use Rattle.command_words.specs.Command.{CommandLine, command_of, texts}
+use Rattle.run_output.specs.Outside.{means}
+use Rattle.station_top.specs.Run.{performs_words}
+use Rattle.station_top.proofs.Runs as runs
 use Rattle.station_top.proofs.program.run.Goals as goal
 
-pub returns-in-Some-CorrectedPages-clause-complete : goal.returns-in-Some-CorrectedPages-clause-complete
-returns-in-Some-CorrectedPages-clause-complete g c =
-    let is : command_of (texts c.args.words.now) ≡ Some (corrected_pages c.in-Some-CorrectedPages.settings.now c.in-Some-CorrectedPages.file.now) = search rules in
-    rw is (λ good. let done : IsDoneOrHindered c.corrected_pages-status.result = c.corrected_pages-status.ensures.complete good.0 good.1 in search rules)
-
-pub returns-in-Some-Station-clause-disk_well : goal.returns-in-Some-Station-clause-disk_well
-returns-in-Some-Station-clause-disk_well g c disk write = c.catch_up-status.ensures.disk_well (λ e. disk (rw e refl)) (λ e. write (rw e refl))
-
-pub returns-in-Some-Station-clause-second_well : goal.returns-in-Some-Station-clause-second_well
-returns-in-Some-Station-clause-second_well g c disk write = none_well g.D.Disk.medium c.args.second.now c.args.second.now refl
-
-pub returns-in-Some-Station-clause-caught_up : goal.returns-in-Some-Station-clause-caught_up
-returns-in-Some-Station-clause-caught_up g c =
-    let names = c.in-Some-Station.names in
-    let is : command_of (texts c.args.words.now) ≡ Some (station (station_names names)) = search rules in
-    rw is (λ shown.
-    let settled : IsSettled c.catch_up-status.result = caught_up g.F.Files.shelf g.L.Link.traffic g.D.Disk.medium g.K.Sink.outlet
-    (station_names names) _ _ _ _ _ _ _ _ _ c.catch_up-status.ensures.station shown.0 shown.1 in search rules)
-
-pub returns-in-Some-Console-clause-served : goal.returns-in-Some-Console-clause-served
-returns-in-Some-Console-clause-served g c =
-    let names = c.in-Some-Console.names in
-    let is : command_of (texts c.args.words.now) ≡ Some (console (console_names names)) = search rules in
-    rw is (λ good. let done : IsServedOrHindered c.serve_files-status.result = c.serve_files-status.ensures.complete good in search rules)
+pub returns : goal.returns
+returns g c =
+    let m = means g.F.Files.shelf g.K.Sink.outlet g.L.Link.traffic g.D.Disk.medium in
+    let words = command_of (texts c.args.words.now) in
+    let old = c.args.outside.now in
+    let e = c.perform-ended in
+    let new = record e.new.outside { out = c.finish.new.out } in
+    let result = c.number.result in
+    let ran : runs.Ran m words old new result = record {
+      mid = e.new.outside;
+      ended = e.result;
+      status = c.finish.result;
+      is = c.number.ensures;
+      did = subst (λ (w : Option CommandLine). performs_words m w old e.result e.new.outside) c.read.ensures.command e.ensures;
+      alone = refl;
+      finishes = c.finish.ensures.ends;
+      cause = c.finish.ensures.cause;
+      sink = c.finish.ensures.still;
+    } in
+    let causes = runs.causes m words old new result ran in
+    record {
+      usage = runs.if_outside words _ (runs.outside_words m words old new result ran);
+      command = runs.if_spelled words _ (runs.done m words old new result ran);
+      read_fault = causes.read_fault;
+      write_fault = causes.write_fault;
+      link_fault = causes.link_fault;
+      disk_fault = causes.disk_fault;
+      disk_never_falls = causes.disk_never_falls;
+      second_never_falls = causes.second_never_falls;
+      shortage = runs.if_spelled words _ (runs.shortage m words old new result ran);
+      serving_shortage = runs.if_spelled words _ (runs.serving_shortage m words old new result ran);
+      files_still = causes.files_still;
+      sink_still = causes.sink_still;
+      disk_well = causes.disk_well;
+      second_well = causes.second_well;
+      complete = runs.if_spelled words _ (runs.complete m words old new result ran);
+      reported = runs.if_spelled words _ (runs.reported m words old new result ran);
+      replayed = runs.if_spelled words _ (runs.replayed m words old new result ran);
+      served = runs.if_spelled words _ (runs.served m words old new result ran);
+      done = runs.if_spelled words _ (runs.shown_done m words old new result ran);
+      caught_up = runs.if_spelled words _ (runs.caught_up m words old new result ran);
+      made = runs.if_spelled words _ (runs.made m words old new result ran);
+    }

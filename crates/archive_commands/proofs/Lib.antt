@@ -1,2 +1,0 @@
-pub mod CopyEnds
-pub mod Reports

@@ -1,2 +1,0 @@
-pub mod CopyRun
-pub mod ReportRun

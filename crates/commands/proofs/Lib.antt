@@ -1,0 +1,13 @@
+pub mod Answering
+pub mod CaughtUp
+pub mod CopyLaws
+pub mod Listings
+pub mod OneRound
+pub mod PacketLines
+pub mod PageLaws
+pub mod RecoveryLaws
+pub mod ReportLaws
+pub mod Rounds
+pub mod StationLaws
+pub mod TaskEnds
+pub mod TaskLaws

@@ -1,0 +1,115 @@
+-- A report: each fault has a cause, and over an archive only a fault or want of memory keeps it from being written.
+use Rattle.std.proofs.Common.{◌≡◌, ◌≢◌, ℕ, List, Some, None, false, Err, refl, sym, ap, subst, ◌∙◌, arith, inl, inr}
+use Rattle.std.specs.declared.option.Option.{Option}
+use Rattle.std.specs.declared.result.Result.{Result}
+use Rattle.std.specs.Option.{IsSomeAnd}
+use Rattle.causes.specs.Told.{WhereTold}
+use Rattle.command_words.specs.declared.wanted.Wanted.{Wanted}
+use Rattle.disk_model.specs.Medium.{Medium}
+use Rattle.gated_log.specs.declared.start.Purpose.TheVariants.{Read}
+use Rattle.station_base.specs.declared.row.Row.{Row}
+use Rattle.weather_book.specs.Rows.{damaged, holds, not_archive}
+use Rattle.weather_book.specs.Start.{Finds}
+use Rattle.weather_book.specs.declared.book.Book.{Book}
+use Rattle.weather_book.specs.declared.start.BookStart.{BookStart}
+use Rattle.weather_book.specs.declared.start.BookStart.TheVariants as found
+use Rattle.weather_reports.specs.Reported.{ReadsOver}
+use Rattle.weather_reports.specs.declared.end.ReportEnd.{ReportEnd}
+use Rattle.weather_reports.specs.declared.end.ReportEnd.TheVariants as report_end
+use Rattle.run_output.specs.Causes.{HasCauses, WentWell}
+use Rattle.run_output.specs.Ended.{Lines, output_of}
+use Rattle.run_output.specs.Output.{Output}
+use Rattle.run_output.specs.Outside.{Meanings}
+use Rattle.run_output.specs.declared.outside.Outside.{Outside}
+use Rattle.run_output.specs.declared.status.Status.TheVariants as ends
+use Rattle.run_output.proofs.Behind.{then_has}
+use Rattle.run_output.proofs.CallCauses.{attaches_causes}
+use Rattle.run_output.proofs.Causes.{Causes, none_well, then_causes}
+use Rattle.run_output.proofs.Statuses.{attach_ends, ends_so, has_status}
+use Rattle.commands.specs.Recovery.{book_found}
+use Rattle.commands.specs.ReportRun.{HoldsRows, IsReported, TellsArchive, report_given, reports, reports_on}
+use Rattle.commands.proofs.RecoveryLaws.{recovers_causes}
+
+-- the status tells how the report ended
+of_disk : (end : ReportEnd) → (report_given end).status ≡ ends.DiskFault → end ≡ report_end.DiskFault
+of_disk report_end.Done is = cc
+of_disk report_end.DiskFault is = refl
+of_disk report_end.WriteFault is = cc
+
+of_sink : (end : ReportEnd) → (report_given end).status ≡ ends.WriteFault → end ≡ report_end.WriteFault
+of_sink report_end.Done is = cc
+of_sink report_end.DiskFault is = cc
+of_sink report_end.WriteFault is = refl
+
+no_other : (end : ReportEnd) → ((report_given end).status ≢ ends.ReadFault) × ((report_given end).status ≢ ends.LinkFault)
+no_other report_end.Done = (λ is. cc, λ is. cc)
+no_other report_end.DiskFault = (λ is. cc, λ is. cc)
+no_other report_end.WriteFault = (λ is. cc, λ is. cc)
+
+-- with no fault all reads were done
+all_read : {D : Type 0} (medium : Medium D) (rows : List Row) (end : ReportEnd) (old new : D) → (report_given end).status ≢ ends.DiskFault
+    → (report_given end).status ≢ ends.WriteFault → ReadsOver medium rows end old new → WentWell medium old new
+all_read medium rows report_end.Done old new disk write reads = record {
+  calls = reads.looked.calls;
+  by = reads.looked.by;
+  well = reads.looked.fails ∙ reads.by_end;
+}
+all_read medium rows report_end.DiskFault old new disk write reads = absurd (disk refl)
+all_read medium rows report_end.WriteFault old new disk write reads = absurd (write refl)
+
+pub reports_causes : {F K L D : Type 0} (m : Meanings F K L D) (wanted : Wanted) (book : Book) → Causes m (reports m wanted book)
+reports_causes {F} {K} {L} {D} m wanted book old new result did =
+    subst (λ (w : Outside F K L D). HasCauses m old result w) (sym did.alone) (record {
+      read_fault = record { never_falls = omega arith; rose = λ by. absurd ((no_other did.end).0 (has_status _ result _ did.given by)) };
+      files_still = λ no. refl;
+      write_fault = record {
+        never_falls = did.sink_cause.never_falls;
+        rose = λ by. did.sink_cause.rose (of_sink did.end (has_status _ result _ did.given by));
+      };
+      sink_still = λ no. did.sink_still (λ is. no (ends_so _ result _ did.given (λ e. cc) (ap (λ (end : ReportEnd). (report_given end).status) is)));
+      link_fault = record { never_falls = omega arith; rose = λ by. absurd ((no_other did.end).1 (has_status _ result _ did.given by)) };
+      disk_fault = λ by. inl (did.disk_cause.rose (of_disk did.end (has_status _ result _ did.given by)));
+      disk_never_falls = did.disk_cause.never_falls;
+      second_never_falls = omega arith;
+      disk_well = λ disk write. all_read m.medium did.rows did.end old.disk new.disk (λ is. disk (ends_so _ result _ did.given (λ e. cc) is))
+          (λ is. write (ends_so _ result _ did.given (λ e. cc) is)) did.reads;
+      second_well = λ disk write. none_well m.medium old.second;
+    })
+
+-- a report has causes
+pub reports_on_causes : {F K L D : Type 0} (m : Meanings F K L D) (archive : List ℕ) (wanted : Wanted) → Causes m (reports_on m archive wanted)
+reports_on_causes m archive wanted =
+    then_causes m _ _ (attaches_causes m archive false) (λ _. then_causes m _ _ (recovers_causes m 1048576 Read) (λ book. reports_causes m wanted book))
+
+-- a recovery of an archive ends a command by a disk fault or for want of memory
+found_ends : (file : List ℕ) (start : BookStart) (output : Output) → HoldsRows file → Finds Read start file
+    → (let r : Result Book Output = Err output in r) ≡ book_found start → IsReported output.status
+found_ends file (found.Book book) output rows finds is = absurd cc
+found_ends file (found.NotArchive bytes) output rows finds is = absurd (let e : holds rows.0 ≡ not_archive = sym rows.1 ∙ finds.0 in cc)
+found_ends file found.OldVersion output rows finds is = absurd cc
+found_ends file (found.Damaged place) output rows finds is = absurd (let e : holds rows.0 ≡ damaged place = sym rows.1 ∙ finds.0 in cc)
+found_ends file found.DiskFault output rows finds is = inr (inl cc)
+found_ends file found.OutOfMemory output rows finds is = inr (inr (inr cc))
+
+told_ends : (told : Option (List ℕ)) (start : BookStart) (output : Output) → IsSomeAnd told HoldsRows → WhereTold told (Finds Read start)
+    → (let r : Result Book Output = Err output in r) ≡ book_found start → IsReported output.status
+told_ends None start output rows finds is = absurd rows
+told_ends (Some file) start output rows finds is = found_ends file start output rows (finds file refl) is
+
+report_ends : (end : ReportEnd) → IsReported (report_given end).status
+report_ends report_end.Done = inl refl
+report_ends report_end.DiskFault = inr (inl refl)
+report_ends report_end.WriteFault = inr (inr (inl refl))
+
+-- over an archive the report is written, unless a disk fault, a write fault or want of memory keeps it from that
+pub reports_on_complete : {F K L D : Type 0} (m : Meanings F K L D) (archive : List ℕ) (wanted : Wanted) (old new : Outside F K L D)
+    (ended : Result Lines Output) → TellsArchive m.medium old.disk → reports_on m archive wanted old ended new → IsReported (output_of ended).status
+reports_on_complete m archive wanted old new ended tells did =
+    let Q : Result Lines Output → Type 0 = λ result. IsReported (output_of result).status in
+    then_has Q _ _ old new ended
+    (λ output mid one. inr (inl (attach_ends _ _ _ _ _ output one.0)))
+    (λ a mid one. then_has Q _ _ mid new ended
+    (λ output at two. told_ends (m.medium.seen mid.disk) two.0.start output
+    (subst (λ (told : Option (List ℕ)). IsSomeAnd told HoldsRows) (sym one.0.did.stays.reads) tells) two.0.finds two.0.given)
+    (λ book at two three. subst (λ (output : Output). IsReported output.status) (sym three.given) (report_ends three.end)))
+    did

@@ -1,0 +1,13 @@
+pub mod CopyRun
+pub mod GoodFile
+pub mod Listing
+pub mod PageRun
+pub mod PageText
+pub mod Recovery
+pub mod ReportRun
+pub mod SlotText
+pub mod StationRun
+pub mod Style
+pub mod StyleRead
+pub mod TaskRun
+pub mod TaskText

@@ -1,0 +1,20 @@
+//! The commands over files of pages, archives and consoles: what each does, in steps of which each may end the run.
+#![tactic(auto)]
+
+mod asking;
+mod calling;
+mod catching_up;
+mod copying;
+mod pages;
+mod printing;
+mod recovering;
+mod reporting;
+mod slot_text;
+mod style;
+mod task_text;
+
+pub use calling::call_for;
+pub use catching_up::catch_up;
+pub use copying::copy_files;
+pub use printing::{corrected_pages, print_file};
+pub use reporting::report;

@@ -1,0 +1,35 @@
+-- The step that reads a schedule from a file.
+use Rattle.std.specs.Prelude.{ℕ, ◌≡◌, ◌⊎◌, List, ◌++◌, Ok, Err, codes}
+use Rattle.std.specs.declared.result.Result.{Result}
+use Rattle.run_output.specs.Output.{Output, no_memory}
+use Rattle.run_output.specs.Reading.{reads}
+use Rattle.run_output.specs.Steps.{Step, then}
+use Rattle.run_output.specs.declared.status.Status.TheVariants as ends
+use Rattle.schedule_file.specs.Answer.{ReadsAs}
+use Rattle.schedule_file.specs.Reading.{LineFault, steps_of}
+use Rattle.schedule_file.specs.declared.schedule.Schedule.{Schedule}
+use Rattle.station_base.specs.NumberText.{number_text}
+use Rattle.station_io.specs.Files.{Shelf}
+
+-- `schedule line`, the number of the faulty line, `fault` and the kind of its fault
+abbrev pub schedule_fault_line : LineFault → List ℕ
+schedule_fault_line fault =
+    codes "schedule line " ++ number_text fault.line ++ codes " fault " ++ number_text fault.kind ++ codes "\n"
+
+-- the line of a fault
+abbrev pub bad_schedule : LineFault → Output
+bad_schedule fault = record { text = schedule_fault_line fault; status = ends.BadSchedule }
+
+-- what a text says to a console of this period: a schedule or its first fault, or there was no memory
+abbrev pub SaysSchedule : List ℕ → ℕ → Result Schedule Output → Type 0
+SaysSchedule text period (Ok schedule) = ReadsAs (steps_of text period) (Ok schedule) × (schedule.period ≡ period)
+SaysSchedule text period (Err output) =
+    (output ≡ no_memory) ⊎ ((fault : LineFault) × (steps_of text period ≡ Err fault) × (output ≡ bad_schedule fault))
+
+-- the schedule of a text, without a call
+abbrev pub says_schedule : {F : Type 0} → List ℕ → ℕ → Step F Schedule
+says_schedule text period old result new = SaysSchedule text period result × (new ≡ old)
+
+-- a file of a schedule is read, and its steps, for a console of this period, are what is given
+abbrev pub reads_schedule : {F : Type 0} → Shelf F → List ℕ → ℕ → Step F Schedule
+reads_schedule shelf name period = then (reads shelf name) (λ text. says_schedule text.items period)

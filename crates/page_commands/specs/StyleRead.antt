@@ -1,8 +1,0 @@
--- The style that the code has.
-use Rattle.page_commands.specs.declared.style.Style.{Style}
-use Rattle.page_commands.specs.declared.style.Style.TheVariants as style
-use Rattle.page_commands.specs.Style.{RowStyle, short, corrected}
-
-abbrev pub style_of : Style → RowStyle
-style_of style.Short = short
-style_of (style.Corrected settings) = corrected settings.now

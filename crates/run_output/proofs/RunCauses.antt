@@ -1,0 +1,148 @@
+-- The causes of a run: those of its command, and of the write of its last lines.
+use Rattle.std.proofs.Common.{◌≡◌, ◌≢◌, ◌⊎◌, ℕ, ◌≤◌, inl, inr, refl, sym, ap, subst, ◌∙◌, arith}
+use Rattle.std.specs.Prelude.{◌==◌, if◌then◌else◌}
+use Rattle.std.specs.declared.result.Result.{Result}
+use Rattle.causes.specs.Cause.{Cause, Rose}
+use Rattle.run_output.specs.Causes.{HasCauses, RoseOnOne, WentWell}
+use Rattle.run_output.specs.Ended.{EndsBy, Lines, output_of}
+use Rattle.run_output.specs.Output.{Finishes, Output, code}
+use Rattle.run_output.specs.Outside.{Meanings}
+use Rattle.station_io.specs.Sink.{Outlet}
+use Rattle.run_output.specs.declared.outside.Outside.{Outside}
+use Rattle.run_output.specs.declared.status.Status.{Status}
+use Rattle.run_output.specs.declared.status.Status.TheVariants as ends
+use Rattle.run_output.proofs.Causes.{rose_before, rose_later}
+use Rattle.run_output.proofs.Statuses.{ends_so, has_status}
+
+-- What a run says of the outside, by the number that it ends with.
+pub record RunCauses {F K L D : Type 0} (m : Meanings F K L D) (old new : Outside F K L D) (result : ℕ) : Type 0 where
+  pub read_fault : Cause (m.shelf.faults old.files) (m.shelf.faults new.files) (result ≡ 8)
+  pub write_fault : Cause (m.outlet.faults old.out) (m.outlet.faults new.out) (result ≡ 9)
+  pub link_fault : Cause (m.traffic.faults old.link) (m.traffic.faults new.link) (result ≡ 6)
+  pub disk_fault : result ≡ 7 → RoseOnOne m.medium old.disk old.second new.disk new.second
+  pub disk_never_falls : m.medium.faults old.disk ≤ m.medium.faults new.disk
+  pub second_never_falls : m.medium.faults old.second ≤ m.medium.faults new.second
+  pub files_still : result ≢ 8 → result ≢ 9 → m.shelf.faults new.files ≡ m.shelf.faults old.files
+  pub sink_still : result ≢ 9 → m.outlet.faults new.out ≡ m.outlet.faults old.out
+  pub disk_well : result ≢ 7 → result ≢ 9 → WentWell m.medium old.disk new.disk
+  pub second_well : result ≢ 7 → result ≢ 9 → WentWell m.medium old.second new.second
+
+-- the status of a number
+abbrev at : ℕ → Status
+at n =
+    if n == 1 then ends.Usage else
+    if n == 2 then ends.BadSettings else
+    if n == 3 then ends.BadSchedule else
+    if n == 4 then ends.Trouble else
+    if n == 5 then ends.Unseen else
+    if n == 6 then ends.LinkFault else
+    if n == 7 then ends.DiskFault else
+    if n == 8 then ends.ReadFault else
+    if n == 9 then ends.WriteFault else
+    if n == 10 then ends.ArchiveFull else
+    if n == 11 then ends.BadArchive else
+    if n == 12 then ends.OutOfMemory else
+    if n == 13 then ends.Flood else
+    if n == 14 then ends.BadPage else
+    if n == 15 then ends.TooLong else
+    if n == 16 then ends.OldArchive else
+    if n == 17 then ends.NotPrefix else
+    ends.Done
+
+at_code : (status : Status) → at (code status) ≡ status
+at_code ends.Done = refl
+at_code ends.Usage = refl
+at_code ends.BadSettings = refl
+at_code ends.BadSchedule = refl
+at_code ends.Trouble = refl
+at_code ends.Unseen = refl
+at_code ends.LinkFault = refl
+at_code ends.DiskFault = refl
+at_code ends.ReadFault = refl
+at_code ends.WriteFault = refl
+at_code ends.ArchiveFull = refl
+at_code ends.BadArchive = refl
+at_code ends.OutOfMemory = refl
+at_code ends.Flood = refl
+at_code ends.BadPage = refl
+at_code ends.TooLong = refl
+at_code ends.OldArchive = refl
+at_code ends.NotPrefix = refl
+
+-- statuses of one number are one
+pub same_code : (one other : Status) → code one ≡ code other → one ≡ other
+same_code one other is = sym (at_code one) ∙ ap at is ∙ at_code other
+
+is_write : (status : Status) → (status ≡ ends.WriteFault) ⊎ (status ≢ ends.WriteFault)
+is_write ends.Done = inr (λ e. cc)
+is_write ends.Usage = inr (λ e. cc)
+is_write ends.BadSettings = inr (λ e. cc)
+is_write ends.BadSchedule = inr (λ e. cc)
+is_write ends.Trouble = inr (λ e. cc)
+is_write ends.Unseen = inr (λ e. cc)
+is_write ends.LinkFault = inr (λ e. cc)
+is_write ends.DiskFault = inr (λ e. cc)
+is_write ends.ReadFault = inr (λ e. cc)
+is_write ends.WriteFault = inl refl
+is_write ends.ArchiveFull = inr (λ e. cc)
+is_write ends.BadArchive = inr (λ e. cc)
+is_write ends.OutOfMemory = inr (λ e. cc)
+is_write ends.Flood = inr (λ e. cc)
+is_write ends.BadPage = inr (λ e. cc)
+is_write ends.TooLong = inr (λ e. cc)
+is_write ends.OldArchive = inr (λ e. cc)
+is_write ends.NotPrefix = inr (λ e. cc)
+
+-- a run that ends with another number than that of a write fault ends with the status of its output
+pub same_status : {S : Type 0} (outlet : Outlet S) (old new : S) (output : Output) (status : Status) → Finishes (outlet.taken old) (outlet.taken new) output status
+    → code status ≢ 9 → output.status ≡ status
+same_status outlet old new output status (inl whole) other = sym whole.0
+same_status outlet old new output status (inr part) other = absurd (other (ap code part.0))
+
+module _ {F K L D : Type 0} (m : Meanings F K L D) (old mid new : Outside F K L D) (ended : Result Lines Output) (status : Status)
+    (has : HasCauses m old ended mid) (alone : new ≡ record mid { out = new.out })
+    (finishes : Finishes (m.outlet.taken mid.out) (m.outlet.taken new.out) (output_of ended) status)
+    (cause : Cause (m.outlet.faults mid.out) (m.outlet.faults new.out) (status ≢ (output_of ended).status))
+    (still : status ≢ ends.WriteFault → m.outlet.faults new.out ≡ m.outlet.faults mid.out) where
+  -- the run ended with the number of this status, so the command was ended by it
+  pub by : (fault : Status) → fault ≢ ends.Done → code fault ≢ 9 → code status ≡ code fault → EndsBy fault ended
+  by fault other write is = ends_so fault ended (output_of ended) refl other
+      (same_status m.outlet mid.out new.out (output_of ended) status finishes (λ nine. write (sym is ∙ nine)) ∙ same_code status fault is)
+
+  -- it did not, nor with that of a write fault, so the command was not
+  not_by : (fault : Status) → code status ≢ code fault → code status ≢ 9 → ¬ (EndsBy fault ended)
+  not_by fault other write is =
+      other (ap code (sym (same_status m.outlet mid.out new.out (output_of ended) status finishes write) ∙ has_status fault ended (output_of ended) refl is))
+
+  written : (status ≡ ends.WriteFault) → Rose (m.outlet.faults old.out) (m.outlet.faults new.out)
+  written is = elim (is_write (output_of ended).status) [
+    | inl by ↦ rose_before _ _ _ (has.write_fault.rose (ends_so ends.WriteFault ended (output_of ended) refl (λ e. cc) by)) cause.never_falls
+    | inr other ↦ rose_later _ _ _ has.write_fault.never_falls (cause.rose (λ same. other (sym same ∙ is)))
+  ]
+
+  run_causes_mid : RunCauses m old (record mid { out = new.out }) (code status)
+  run_causes_mid = record {
+    read_fault = record { never_falls = has.read_fault.never_falls; rose = λ is. has.read_fault.rose (by ends.ReadFault (λ e. cc) (λ e. cc) is) };
+    write_fault = record {
+      never_falls = omega (arith, has.write_fault.never_falls, cause.never_falls);
+      rose = λ is. written (same_code status ends.WriteFault is);
+    };
+    link_fault = record { never_falls = has.link_fault.never_falls; rose = λ is. has.link_fault.rose (by ends.LinkFault (λ e. cc) (λ e. cc) is) };
+    disk_fault = λ is. has.disk_fault (by ends.DiskFault (λ e. cc) (λ e. cc) is);
+    disk_never_falls = has.disk_never_falls;
+    second_never_falls = has.second_never_falls;
+    files_still = λ read write. has.files_still (not_by ends.ReadFault read write);
+    sink_still = λ write. still (λ is. write (ap code is)) ∙ has.sink_still (not_by ends.WriteFault write write);
+    disk_well = λ fault write. has.disk_well (not_by ends.DiskFault fault write) (not_by ends.WriteFault write write);
+    second_well = λ fault write. has.second_well (not_by ends.DiskFault fault write) (not_by ends.WriteFault write write);
+  }
+
+  -- the causes of a run whose command has causes
+  pub run_causes : RunCauses m old new (code status)
+  run_causes = subst (λ (w : Outside F K L D). RunCauses m old w (code status)) (sym alone) run_causes_mid
+
+-- what holds of the number of an output's status, and of that of a write fault, holds of the number that a run ends with
+pub ends_within : {S : Type 0} (outlet : Outlet S) (old new : S) (output : Output) (status : Status) (P : ℕ → Type 0)
+    → Finishes (outlet.taken old) (outlet.taken new) output status → P (code output.status) → P 9 → P (code status)
+ends_within outlet old new output status P (inl whole) is nine = subst P (ap code (sym whole.0)) is
+ends_within outlet old new output status P (inr part) is nine = subst P (ap code (sym part.0)) nine

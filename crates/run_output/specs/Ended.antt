@@ -1,0 +1,21 @@
+-- How a command ended: with its last lines, or before it was done.
+use Rattle.std.specs.Prelude.{ℕ, ◌≡◌, Ok, Err}
+use Rattle.std.specs.declared.result.Result.{Result}
+use Rattle.arrayvec.specs.ArrayVec.{ArrayVec}
+use Rattle.run_output.specs.declared.status.Status.{Status}
+use Rattle.run_output.specs.declared.status.Status.TheVariants as ends
+use Rattle.run_output.specs.Output.{Output}
+
+-- what is written last, and the status
+abbrev pub output_of : Result (ArrayVec ℕ) Output → Output
+output_of (Ok text) = record { text = text.items; status = ends.Done }
+output_of (Err output) = output
+
+-- a step ended the run with this status
+abbrev pub EndsBy : {A : Type 0} → Status → Result A Output → Type 0
+EndsBy status (Ok a) = ⊥
+EndsBy status (Err output) = output.status ≡ status
+
+-- the last lines of a command that is done
+abbrev pub Lines : Type 0
+Lines = ArrayVec ℕ

@@ -1,4 +1,0 @@
-pub mod CaughtUp
-pub mod OneRound
-pub mod RoundTexts
-pub mod Rounds

@@ -1,5 +1,0 @@
-use Rattle.std.proofs.Common.{length}
-use Rattle.station_command.proofs.catching_up.+push_attempts.Given as goal
-
-abbrev pub decreases-push_attempts : goal.decreases-push_attempts
-decreases-push_attempts l = length l.troubles.now

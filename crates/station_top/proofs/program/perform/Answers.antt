@@ -1,0 +1,25 @@
+use Rattle.station_top.proofs.program.perform.Goals as goal
+
+pub returns-in-Some-Pages : goal.returns-in-Some-Pages
+returns-in-Some-Pages g c = rw c.in-Some-Pages.is (rw c.in-Some-Pages.field-0-is c.print_file.ensures)
+
+pub returns-in-Some-CorrectedPages : goal.returns-in-Some-CorrectedPages
+returns-in-Some-CorrectedPages g c = rw c.in-Some-CorrectedPages.is (rw c.in-Some-CorrectedPages.field-0-is c.corrected_pages.ensures)
+
+pub returns-in-Some-Task : goal.returns-in-Some-Task
+returns-in-Some-Task g c = rw c.in-Some-Task.is (rw c.in-Some-Task.field-0-is c.call_for.ensures)
+
+pub returns-in-Some-Report : goal.returns-in-Some-Report
+returns-in-Some-Report g c = rw c.in-Some-Report.is (rw c.in-Some-Report.field-0-is c.report.ensures)
+
+pub returns-in-Some-Replay : goal.returns-in-Some-Replay
+returns-in-Some-Replay g c = rw c.in-Some-Replay.is (rw c.in-Some-Replay.field-0-is c.replay_files.ensures)
+
+pub returns-in-Some-Copy : goal.returns-in-Some-Copy
+returns-in-Some-Copy g c = rw c.in-Some-Copy.is (rw c.in-Some-Copy.field-0-is c.copy_files.ensures)
+
+pub returns-in-Some-Station : goal.returns-in-Some-Station
+returns-in-Some-Station g c = rw c.in-Some-Station.is (rw c.in-Some-Station.field-0-is c.catch_up.ensures)
+
+pub returns-in-Some-Console : goal.returns-in-Some-Console
+returns-in-Some-Console g c = rw c.in-Some-Console.is (rw c.in-Some-Console.field-0-is c.serve_files.ensures)

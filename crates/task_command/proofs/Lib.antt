@@ -1,4 +1,0 @@
-pub mod Answering
-pub mod Joins
-pub mod PacketLines
-pub mod TaskEnds

@@ -1,2 +1,0 @@
-pub mod TaskRun
-pub mod TaskText
