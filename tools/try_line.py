@@ -19,7 +19,7 @@ from threading import Thread
 
 sys.dont_write_bytecode = True  # nothing is left beside the scripts
 
-from trying import LONGEST, SLEEPER, Differs, Ended, hold, hold_seconds, need, try_all
+from trying import LONGEST, SLEEPER, Differs, Ended, Missed, hold, hold_seconds, need, try_all
 
 HERE, ALSO_HERE = "127.0.0.1", "127.0.0.2"
 QUIET_WAIT = 0.4  # seconds
@@ -91,7 +91,7 @@ def serving(program, turns, host=HERE):
     with program.start(f"console settings schedule {host}:{port} {turns}") as run:
         while not listens(port):
             if run.seconds() > TO_BEGIN:
-                raise Differs(f"it does not listen at {host}:{port}")
+                raise Missed(f"it does not listen at {host}:{port}")  # another process may have taken the port
             time.sleep(BETWEEN_LOOKS)
         yield run, port
 
@@ -213,14 +213,19 @@ def call_by_a_name(program):
             hold("the task", run.end(), LINK_FAULT)
 
 
-def call_to_itself(program):
-    """A call that the system connects to itself, since it leaves the caller no other port, is no line."""
-    port = free_port()
+def with_one_port(port):
+    """The command under which a process finds no other port free for a call."""
     alone = 'ip link set lo up && echo "$0 $0" >/proc/sys/net/ipv4/ip_local_port_range && exec "$@"'
     under = ["unshare", "-rn", "sh", "-c", alone, str(port)]
     need("ip", "-V")
     need(*under, "true")
-    hold("the task", program.run(TASK.format(f"{HERE}:{port}"), under=under), LINK_FAULT)
+    return under
+
+
+def call_to_itself(program):
+    """A call that the system connects to itself, since it leaves the caller no other port, is no line."""
+    port = free_port()
+    hold("the task", program.run(TASK.format(f"{HERE}:{port}"), under=with_one_port(port)), LINK_FAULT)
 
 
 def turns_of_a_console(program):

@@ -430,6 +430,7 @@ expect 'a setup that is installed' 2 '*no name of a station*' prefix/bin/jofitra
 expect 'a check that is installed' 3 'JOFITRANA UNKNOWN - rows holds text, *' prefix/bin/jofitrana-check rows
 expect 'a salvage that is installed' 0 '*new.archive has its first 15 rows, *' \
     prefix/bin/jofitrana-salvage --program "$program" cut.archive new.archive
+expect 'a taker of packets that is installed' 6 'link fault' prefix/bin/jofitrana-packets 127.0.0.1:1 5 live.packets
 expect 'a demo that is installed' 1 '*demo: the console does not serve; *' \
     env TMPDIR="$folder/shown" prefix/bin/jofitrana-demo ./program
 expect 'a manual for each tool' 0 '' diff <(sed -n 's|^link .* bin/||p' "$tools/installed.txt") \

@@ -62,7 +62,7 @@ def tried(words):
 def main(words):
     if not words or words[0] in NOT_TRIED:
         say('station, copy and task keep or send something, so they are for the proved program alone;'
-            ' try takes replay, make, console, report and pages')
+            ' try takes replay, make, console, report, pages and soft')
         return NO_COMMAND
     say(f'unproved: this is the program before any proof. To prove it first: ./station {shlex.join(words)}')
     try:

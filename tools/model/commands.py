@@ -6,6 +6,7 @@ from .archive import read_archive
 from .copies import copy
 from .made import MOST_MADE, MOST_SEED, make
 from .outcomes import BAD_WORDS, DISK_FAULT, DONE, FILE_TOO_LONG, READ_FAULT, Refusal, outcome
+from .packets import soft_outcome
 from .pages import pages_outcome
 from .reports import KINDS, report_lines
 from .run import Run
@@ -32,6 +33,8 @@ def answer_of(command, words, files):
         return made(*words)
     if command == "pages" and len(words) in (1, 2):
         return pages(words, files)
+    if command == "soft" and len(words) == 2:
+        return soft(*words, files)
     if command == "report" and len(words) == 4:
         return report(*words, files)
     if command == "copy" and len(words) == 2 and words[0] != words[1]:
@@ -45,7 +48,7 @@ def usage():
 
 
 def content(name, files):
-    """The bytes of a file of settings, of a schedule or of pages."""
+    """The bytes of a file of settings, of a schedule, of pages or of packets."""
     if name not in files:
         raise Refusal(READ_FAULT, "read fault")
     if len(files[name]) > LONGEST_FILE:
@@ -84,6 +87,12 @@ def pages(names, files):
     """What is printed of a file of pages; settings may stand before it."""
     settings = read_settings(content(names[0], files)) if len(names) == 2 else None
     return pages_outcome(settings, content(names[-1], files))
+
+
+def soft(settings_name, name, files):
+    """What is printed of a file of packets, which is read once the settings are accepted."""
+    settings = read_settings(content(settings_name, files))
+    return soft_outcome(settings, content(name, files))
 
 
 def report(name, kind, first_text, last_text, files):

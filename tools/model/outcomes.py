@@ -15,6 +15,7 @@ BAD_PAGE = 14
 FILE_TOO_LONG = 15
 OLD_ARCHIVE = 16
 NOT_A_PREFIX = 17
+BAD_ENTRY = 18
 
 
 @dataclass(frozen=True)

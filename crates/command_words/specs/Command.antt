@@ -30,6 +30,7 @@ pub record ConsoleNames : Type 0 where
 pub data CommandLine : Type 0 where
   pages : List ℕ → CommandLine
   corrected_pages : List ℕ → List ℕ → CommandLine
+  soft : List ℕ → List ℕ → CommandLine
   task : List ℕ → Task → CommandLine
   report : List ℕ → Wanted → CommandLine
   replay : List ℕ → List ℕ → CommandLine
@@ -47,6 +48,11 @@ abbrev pub pages_in : List (List ℕ) → Option CommandLine
 pages_in (file ∷ []) = Some (pages file)
 pages_in (settings ∷ file ∷ []) = Some (corrected_pages settings file)
 pages_in words = None
+
+-- `SETTINGS FILE`
+abbrev pub soft_in : List (List ℕ) → Option CommandLine
+soft_in (settings ∷ file ∷ []) = Some (soft settings file)
+soft_in words = None
 
 -- `ADDRESS` and a task
 abbrev pub task_in : List (List ℕ) → Option CommandLine
@@ -95,6 +101,7 @@ abbrev pub command_of : List (List ℕ) → Option CommandLine
 command_of [] = None
 command_of (command ∷ words) =
     if bytes_eq command (codes "pages") then pages_in words
+    else if bytes_eq command (codes "soft") then soft_in words
     else if bytes_eq command (codes "task") then task_in words
     else if bytes_eq command (codes "report") then report_in words
     else if bytes_eq command (codes "replay") then replay_in words
@@ -122,6 +129,7 @@ console_names words =
 abbrev pub command_read : Command → CommandLine
 command_read (read.Pages file) = pages file.now
 command_read (read.CorrectedPages settings file) = corrected_pages settings.now file.now
+command_read (read.Soft settings file) = soft settings.now file.now
 command_read (read.Task address asked) = task address.now asked
 command_read (read.Report archive wanted) = report archive.now wanted
 command_read (read.Replay settings schedule) = replay settings.now schedule.now

@@ -25,6 +25,13 @@ pub enum Command<'a> {
         /// The name of the file of pages.
         file: &'a str,
     },
+    /// `soft SETTINGS FILE`: the rows that a file of packets makes, corrected by the settings.
+    Soft {
+        /// The name of the settings file.
+        settings: &'a str,
+        /// The name of the file of packets.
+        file: &'a str,
+    },
     /// `task ADDRESS ..`: one task of a console.
     Task {
         /// Where the console is called.
@@ -78,6 +85,7 @@ impl<'a> Command<'a> {
         let (command, more) = words.split_first()?;
         match *command {
             "pages" => read_pages(more),
+            "soft" => read_soft(more),
             "task" => read_call(more),
             "report" => read_report(more),
             "replay" => read_replay(more),
@@ -90,7 +98,7 @@ impl<'a> Command<'a> {
     }
 }
 
-ghost use Rattle.command_words.specs.Command.{command_read, console_in, copy_in, line_of, make_in, pages_in, replay_in, report_in, station_in, task_in, texts};
+ghost use Rattle.command_words.specs.Command.{command_read, console_in, copy_in, line_of, make_in, pages_in, replay_in, report_in, soft_in, station_in, task_in, texts};
 ghost use Rattle.command_words.specs.Possible.{IsPossible};
 
 // `FILE`, or `SETTINGS FILE`.
@@ -103,6 +111,17 @@ fn read_pages<'a>(words: &[&'a str]) -> Option<Command<'a>>
         [settings, file] => Some(Command::CorrectedPages { settings, file }),
         _ => None,
     }
+}
+
+// `SETTINGS FILE`.
+fn read_soft<'a>(words: &[&'a str]) -> Option<Command<'a>>
+    ensures command { line_of result ≡ soft_in (texts words.now) }
+    ensures possible { IfSome result (λ command. IsPossible (command_read command)) }
+{
+    let [settings, file] = *words else {
+        return None;
+    };
+    Some(Command::Soft { settings, file })
 }
 
 // `ADDRESS` and a task.

@@ -8,6 +8,8 @@ pub mod PageLaws
 pub mod RecoveryLaws
 pub mod ReportLaws
 pub mod Rounds
+pub mod SoftLaws
 pub mod StationLaws
+pub mod Taking
 pub mod TaskEnds
 pub mod TaskLaws

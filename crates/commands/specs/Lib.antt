@@ -6,6 +6,7 @@ pub mod PageText
 pub mod Recovery
 pub mod ReportRun
 pub mod SlotText
+pub mod SoftRun
 pub mod StationRun
 pub mod Style
 pub mod StyleRead

@@ -1,7 +1,5 @@
-ghost use Rattle.std.specs.Prelude.{◌≡◌, ◌≢◌, ◌+◌, ◌++◌, ◌≤◌, length};
+ghost use Rattle.std.specs.Prelude.{◌≡◌, ◌+◌, ◌++◌, ◌≤◌, length};
 ghost use Rattle.arrayvec.specs.ArrayVec.{array_vec_len};
-ghost use Rattle.causes.specs.Written.{Leaves, WritesPart};
-ghost use Rattle.causes.specs.Cause.{Cause};
 ghost use Rattle.station_io.specs.Files.{most_bytes};
 ghost use Rattle.commands.specs.PageText.{page_text};
 ghost use Rattle.run_output.specs.Streams.{streams};
@@ -10,8 +8,9 @@ ghost use Rattle.commands.specs.StyleRead.{style_of};
 
 use crate::slot_text::push_slot;
 use crate::style::Style;
+use crate::waiting::make_room;
 use archive_record::read;
-use run_output::{Ending, PAGE_ROOM, PIECE, ROOM, Status, Text};
+use run_output::{Ending, PAGE_ROOM, ROOM, Status, Text};
 use station_base::{push_bytes, push_number};
 use station_io::{Put, Sink};
 use vantage_frames::{PAGE_SIZE, Page, PageRead, SLOTS, read_page};
@@ -40,24 +39,6 @@ pub fn print_pages<K: Sink>(file: &[u8], style: &Style<'_>, out: &mut K) -> Resu
     }
     push_bad_page(&mut pending, number);
     Err(Ending::new(pending, Status::BadPage))
-}
-
-// Writes what is held back, where it is enough for a piece.
-fn make_room<K: Sink>(pending: &mut Text, out: &mut K) -> Put
-    ensures room { array_vec_len pending.new + PAGE_ROOM ≤ ROOM }
-    ensures done { result ≡ Put.Done
-        → Leaves (K.outlet.taken out.old) (K.outlet.taken out.new) pending.old.items pending.new.items }
-    ensures failed { result ≡ Put.Failed
-        → WritesPart (K.outlet.taken out.old) (K.outlet.taken out.new) pending.old.items }
-    ensures cause { Cause (K.outlet.faults out.old) (K.outlet.faults out.new) (result ≡ Put.Failed) }
-    ensures still { result ≢ Put.Failed → K.outlet.faults out.new ≡ K.outlet.faults out.old }
-{
-    if pending.len() < PIECE {
-        return Put::Done;
-    }
-    let answer = out.put(pending.as_slice());
-    pending.clear();
-    answer
 }
 
 // Appends the lines of a page.

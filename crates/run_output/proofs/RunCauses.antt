@@ -47,6 +47,7 @@ at n =
     if n == 15 then ends.TooLong else
     if n == 16 then ends.OldArchive else
     if n == 17 then ends.NotPrefix else
+    if n == 18 then ends.BadEntry else
     ends.Done
 
 at_code : (status : Status) → at (code status) ≡ status
@@ -68,6 +69,7 @@ at_code ends.BadPage = refl
 at_code ends.TooLong = refl
 at_code ends.OldArchive = refl
 at_code ends.NotPrefix = refl
+at_code ends.BadEntry = refl
 
 -- statuses of one number are one
 pub same_code : (one other : Status) → code one ≡ code other → one ≡ other
@@ -92,6 +94,7 @@ is_write ends.BadPage = inr (λ e. cc)
 is_write ends.TooLong = inr (λ e. cc)
 is_write ends.OldArchive = inr (λ e. cc)
 is_write ends.NotPrefix = inr (λ e. cc)
+is_write ends.BadEntry = inr (λ e. cc)
 
 -- a run that ends with another number than that of a write fault ends with the status of its output
 pub same_status : {S : Type 0} (outlet : Outlet S) (old new : S) (output : Output) (status : Status) → Finishes (outlet.taken old) (outlet.taken new) output status

@@ -2,7 +2,7 @@
 use Rattle.std.specs.Prelude.{ℕ, ℤ, ◌≡◌, pos, min, not, List, ◌∷◌, length, map, filter, sum_by, replicate, Some, None}
 use Rattle.std.specs.Ordering.{int_eq}
 use Rattle.std.specs.declared.option.Option.{Option}
-use Rattle.station_base.specs.CivilMinute.{minute_of}
+use Rattle.station_base.specs.CivilMinute.{IsCivilMinute, minute_of}
 use Rattle.station_base.specs.declared.row.Row.{Row}
 use Rattle.loop_packet.specs.declared.packet.LoopPacket.{LoopPacket}
 use Rattle.soft_record.specs.Interval.{Rising}
@@ -73,6 +73,7 @@ soft_values rs =
 
 -- the row of the interval that ends at this minute, of its entries
 pub record IsSoftRow (period end : ℕ) (rs : List Rising) (row : Row) : Type 0 where
+  pub civil : IsCivilMinute row.stamp
   pub stamp : minute_of row.stamp ≡ end
   pub interval : row.interval ≡ period
   pub values : row.values ≡ soft_values rs

@@ -1,5 +1,5 @@
 ghost use Rattle.std.specs.Prelude.{◌≡◌, ◌≤◌, ◌<◌, ◌↔◌, IsSome, IfSome};
-ghost use Rattle.station_base.specs.CivilMinute.{last_minute, minute_of};
+ghost use Rattle.station_base.specs.CivilMinute.{IsCivilMinute, last_minute, minute_of};
 ghost use Rattle.station_base.specs.Period.{IsPeriod};
 ghost use Rattle.soft_record.specs.Entry.{end_of};
 ghost use Rattle.soft_record.specs.IntervalEnd.{IsNear};
@@ -13,6 +13,7 @@ pub fn interval_end(period: Period, entry: &Entry) -> Option<Stamp>
     requires civil { entry.now.second < 60 }
     ensures found { IsSome result ↔ (end_of period entry.now ≤ minute_of last_minute) }
     ensures end { IfSome result (λ end. minute_of end ≡ end_of period entry.now) }
+    ensures civil { IfSome result IsCivilMinute }
     ensures near { IfSome result (IsNear entry.now) }
     ensures period { IsPeriod period }
 {

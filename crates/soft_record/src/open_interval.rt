@@ -1,6 +1,6 @@
 ghost use Rattle.std.specs.Prelude.{◌≡◌, ◌≢◌, ◌+◌, ◌*◌, ◌<◌, ◌≤◌, ◌++◌, [], ◌∷◌, ℕ, List, Some, None};
 ghost use Rattle.std.proofs.Props.{props};
-ghost use Rattle.station_base.specs.CivilMinute.{minute_of};
+ghost use Rattle.station_base.specs.CivilMinute.{IsCivilMinute, minute_of};
 ghost use Rattle.station_base.specs.Period.{IsPeriod};
 ghost use Rattle.soft_record.specs.Entry.{end_of, moment};
 ghost use Rattle.soft_record.specs.Given.{AreGood, CanFollow};
@@ -28,6 +28,7 @@ impl OpenInterval {
 
     /// That of the first entry of all.
     pub fn first(end: Stamp, entry: &Entry) -> OpenInterval
+        requires civil { IsCivilMinute end }
         requires near { IsNear entry.now end }
         ensures { (period : ℕ) → minute_of end ≡ end_of period entry.now → IsOpen period (entry.now ∷ []) result }
     {
@@ -54,6 +55,7 @@ impl OpenInterval {
 
     /// The interval that an entry begins behind this one.
     pub fn next(&self, end: Stamp, entry: &Entry) -> OpenInterval
+        requires civil { IsCivilMinute end }
         requires near { IsNear entry.now end }
         ensures { (period : ℕ) (entries : List heard.Entry) → IsPeriod period → AreGood period None entries → IsOpen period entries self.now
             → CanFollow period (Some self.now.last) entry.now → minute_of end ≡ end_of period entry.now

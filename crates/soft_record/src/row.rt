@@ -1,5 +1,5 @@
 ghost use Rattle.std.specs.Prelude.{◌≡◌, List};
-ghost use Rattle.station_base.specs.CivilMinute.{minute_of};
+ghost use Rattle.station_base.specs.CivilMinute.{IsCivilMinute, minute_of};
 ghost use Rattle.soft_record.specs.Interval.{Rising};
 ghost use Rattle.soft_record.specs.Readings.{HasReadings, IsReading};
 ghost use Rattle.soft_record.specs.SoftRow.{IsSoftRow, at_most};
@@ -14,7 +14,7 @@ const MOST: u32 = 65_535;
 /// The row of an interval, of what its entries come to.
 pub fn row_of(end: Stamp, period: Period, sums: &Sums) -> Row
     requires { AreSmall sums.now }
-    ensures row { (rs : List Rising) → AreSumsOf rs sums.now → IsSoftRow period (minute_of end) rs result }
+    ensures row { (rs : List Rising) → IsCivilMinute end → AreSumsOf rs sums.now → IsSoftRow period (minute_of end) rs result }
     ensures readings { HasReadings result }
 {
     let values = [

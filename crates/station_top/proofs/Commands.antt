@@ -2,7 +2,7 @@
 use Rattle.std.proofs.Common.{◌≡◌, ◌⊎◌, subst}
 use Rattle.std.specs.declared.result.Result.{Result}
 use Rattle.causes.specs.Cause.{Cause}
-use Rattle.command_words.specs.Command.{CommandLine, pages, corrected_pages, task, report, replay, copy, station, console, make}
+use Rattle.command_words.specs.Command.{CommandLine, pages, corrected_pages, soft, task, report, replay, copy, station, console, make}
 use Rattle.commands.specs.PageRun.{IsDoneOrHindered}
 use Rattle.commands.specs.ReportRun.{IsReported}
 use Rattle.commands.specs.Style.{short}
@@ -10,6 +10,7 @@ use Rattle.commands.proofs.CopyLaws.{copies_on_causes, copies_on_complete}
 use Rattle.commands.proofs.PageLaws.{prints_corrected_causes, prints_corrected_complete, prints_file_causes, prints_file_complete}
 use Rattle.commands.proofs.ReportLaws.{reports_on_causes, reports_on_complete}
 use Rattle.commands.specs.StationRun.{IsSettled, ShowsCaughtUp}
+use Rattle.commands.proofs.SoftLaws.{prints_soft_causes, prints_soft_complete}
 use Rattle.commands.proofs.StationLaws.{catches_up_causes, catches_up_complete}
 use Rattle.commands.proofs.TaskLaws.{calls_for_causes, calls_for_done, calls_for_shortage}
 use Rattle.model_commands.specs.ConsoleRun.{IsServedOrHindered, IsUntouchedOrShort}
@@ -28,6 +29,7 @@ use Rattle.station_top.specs.Run.{HasArchive, HasConsole, HasGoodInput, HasSched
 pub performs_causes : {F K L D : Type 0} (m : Meanings F K L D) (command : CommandLine) → Causes m (performs m command)
 performs_causes m (pages file) = prints_file_causes m short file
 performs_causes m (corrected_pages settings file) = prints_corrected_causes m settings file
+performs_causes m (soft settings file) = prints_soft_causes m settings file
 performs_causes m (task address asked) = calls_for_causes m address asked
 performs_causes m (report archive wanted) = reports_on_causes m archive wanted
 performs_causes m (replay settings schedule) = replays_files_causes m settings schedule
@@ -41,6 +43,7 @@ module _ {F K L D : Type 0} (m : Meanings F K L D) (old new : Outside F K L D) (
       → IsDoneOrHindered (output_of ended).status
   complete (pages file) good did = prints_file_complete m short file old new ended good did
   complete (corrected_pages settings file) good did = prints_corrected_complete m settings file old new ended good.0 good.1 did
+  complete (soft settings file) good did = prints_soft_complete m settings file old new ended good did
   complete (task address asked) good did = absurd good
   complete (report archive wanted) good did = absurd good
   complete (replay settings schedule) good did = absurd good
@@ -55,6 +58,7 @@ module _ {F K L D : Type 0} (m : Meanings F K L D) (old new : Outside F K L D) (
   reported (copy from to) good did = copies_on_complete m from to old new ended good did
   reported (pages file) good did = absurd good
   reported (corrected_pages settings file) good did = absurd good
+  reported (soft settings file) good did = absurd good
   reported (task address asked) good did = absurd good
   reported (replay settings schedule) good did = absurd good
   reported (station names) good did = absurd good
@@ -66,6 +70,7 @@ module _ {F K L D : Type 0} (m : Meanings F K L D) (old new : Outside F K L D) (
   replayed (replay settings schedule) good did = replays_files_complete m settings schedule old new ended good did
   replayed (pages file) good did = absurd good
   replayed (corrected_pages settings file) good did = absurd good
+  replayed (soft settings file) good did = absurd good
   replayed (task address asked) good did = absurd good
   replayed (report archive wanted) good did = absurd good
   replayed (copy from to) good did = absurd good
@@ -78,6 +83,7 @@ module _ {F K L D : Type 0} (m : Meanings F K L D) (old new : Outside F K L D) (
   served (console names) good did = serves_files_complete m names old new ended good did
   served (pages file) good did = absurd good
   served (corrected_pages settings file) good did = absurd good
+  served (soft settings file) good did = absurd good
   served (task address asked) good did = absurd good
   served (report archive wanted) good did = absurd good
   served (replay settings schedule) good did = absurd good
@@ -90,6 +96,7 @@ module _ {F K L D : Type 0} (m : Meanings F K L D) (old new : Outside F K L D) (
   shown_done (task address asked) shown did = calls_for_done m address asked old new ended shown did
   shown_done (pages file) shown did = absurd shown
   shown_done (corrected_pages settings file) shown did = absurd shown
+  shown_done (soft settings file) shown did = absurd shown
   shown_done (report archive wanted) shown did = absurd shown
   shown_done (replay settings schedule) shown did = absurd shown
   shown_done (copy from to) shown did = absurd shown
@@ -101,6 +108,7 @@ module _ {F K L D : Type 0} (m : Meanings F K L D) (old new : Outside F K L D) (
   caught_up (station names) shown did = catches_up_complete m names old new ended shown.0 shown.1 did
   caught_up (pages file) shown did = absurd shown
   caught_up (corrected_pages settings file) shown did = absurd shown
+  caught_up (soft settings file) shown did = absurd shown
   caught_up (task address asked) shown did = absurd shown
   caught_up (report archive wanted) shown did = absurd shown
   caught_up (replay settings schedule) shown did = absurd shown
@@ -113,6 +121,7 @@ module _ {F K L D : Type 0} (m : Meanings F K L D) (old new : Outside F K L D) (
   made (make seed records) is did = makes_run_complete m seed records old new ended did
   made (pages file) is did = absurd is
   made (corrected_pages settings file) is did = absurd is
+  made (soft settings file) is did = absurd is
   made (task address asked) is did = absurd is
   made (report archive wanted) is did = absurd is
   made (replay settings schedule) is did = absurd is
@@ -125,6 +134,7 @@ module _ {F K L D : Type 0} (m : Meanings F K L D) (old new : Outside F K L D) (
   shortage (task address asked) is did = calls_for_shortage m address asked old new ended did
   shortage (pages file) is did = absurd is
   shortage (corrected_pages settings file) is did = absurd is
+  shortage (soft settings file) is did = absurd is
   shortage (report archive wanted) is did = absurd is
   shortage (replay settings schedule) is did = absurd is
   shortage (copy from to) is did = absurd is
@@ -137,6 +147,7 @@ module _ {F K L D : Type 0} (m : Meanings F K L D) (old new : Outside F K L D) (
   serving_shortage (console names) is did by = serves_files_shortage m names old new ended did by
   serving_shortage (pages file) is did by = absurd is
   serving_shortage (corrected_pages settings file) is did by = absurd is
+  serving_shortage (soft settings file) is did by = absurd is
   serving_shortage (task address asked) is did by = absurd is
   serving_shortage (report archive wanted) is did by = absurd is
   serving_shortage (replay settings schedule) is did by = absurd is
@@ -151,6 +162,7 @@ same_shown {F} {K} {L} {D} m old new other (station names) same shown =
     (shown.0, subst (λ (l : L). ShowsCaughtUp m.traffic m.medium old.disk old.link l) same shown.1)
 same_shown m old new other (pages file) same shown = absurd shown
 same_shown m old new other (corrected_pages settings file) same shown = absurd shown
+same_shown m old new other (soft settings file) same shown = absurd shown
 same_shown m old new other (task address asked) same shown = absurd shown
 same_shown m old new other (report archive wanted) same shown = absurd shown
 same_shown m old new other (replay settings schedule) same shown = absurd shown

@@ -6,12 +6,13 @@ use Rattle.disk_model.specs.Medium.{Medium}
 use Rattle.serial_link.specs.Traffic.{Traffic}
 use Rattle.station_io.specs.Files.{Shelf}
 use Rattle.station_io.specs.Sink.{Outlet}
-use Rattle.command_words.specs.Command.{CommandLine, pages, corrected_pages, task, report, replay, copy, station}
+use Rattle.command_words.specs.Command.{CommandLine, pages, corrected_pages, soft, task, report, replay, copy, station}
 use Rattle.command_words.specs.Command.{console, make}
 use Rattle.commands.specs.CopyRun.{TellArchives, copies_on}
 use Rattle.commands.specs.GoodFile.{IsGoodFile}
 use Rattle.commands.specs.PageRun.{prints_corrected, prints_file}
 use Rattle.commands.specs.ReportRun.{TellsArchive, reports_on}
+use Rattle.commands.specs.SoftRun.{HasEntries, prints_soft}
 use Rattle.commands.specs.StationRun.{ShowsCaughtUp, catches_up}
 use Rattle.commands.specs.Style.{short}
 use Rattle.commands.specs.TaskRun.{ShowsDone, calls_for}
@@ -39,6 +40,7 @@ pub record IsUsage {F K L D : Type 0} (outlet : Outlet K) (old new : Outside F K
 abbrev pub performs : {F K L D : Type 0} → Meanings F K L D → CommandLine → Step (Outside F K L D) Lines
 performs m (pages file) = prints_file m short file
 performs m (corrected_pages settings file) = prints_corrected m settings file
+performs m (soft settings file) = prints_soft m settings file
 performs m (task address asked) = calls_for m address asked
 performs m (report archive wanted) = reports_on m archive wanted
 performs m (replay settings schedule) = replays_files m settings schedule
@@ -66,6 +68,7 @@ abbrev pub HasGoodInput : {F : Type 0} → Shelf F → CommandLine → F → Typ
 HasGoodInput shelf (pages file) files = IsSomeAnd (shelf.held files file) IsGoodFile
 HasGoodInput shelf (corrected_pages settings file) files =
     IsSomeAnd (shelf.held files settings) IsAccepted × IsSomeAnd (shelf.held files file) IsGoodFile
+HasGoodInput shelf (soft settings file) files = HasEntries shelf settings file files
 HasGoodInput shelf other files = ⊥
 
 -- the command is a replay, and both files are told and good

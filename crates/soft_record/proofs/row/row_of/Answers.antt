@@ -8,7 +8,7 @@ use Rattle.soft_record.proofs.row.row_of.Goals as goal
 
 pub returns-clause-row : goal.returns-clause-row
 unfolding soft_values
-returns-clause-row c rs come =
+returns-clause-row c rs civil come =
     let out_mean = c.mean.ensures.mean _ come.out_temp in
     let out_high = c.greatest.ensures.greatest _ come.out_temp in
     let out_low = c.least.ensures.least _ come.out_temp in
@@ -25,6 +25,7 @@ returns-clause-row c rs come =
     let high_radiation = c.greatest-4.ensures.greatest _ come.radiation in
     let high_uv = c.greatest-5.ensures.greatest _ come.uv in
     record {
+      civil = civil;
       stamp = refl;
       interval = refl;
       values = rw (

@@ -23,3 +23,6 @@ returns-in-Some-Station g c = rw c.in-Some-Station.is (rw c.in-Some-Station.fiel
 
 pub returns-in-Some-Console : goal.returns-in-Some-Console
 returns-in-Some-Console g c = rw c.in-Some-Console.is (rw c.in-Some-Console.field-0-is c.serve_files.ensures)
+
+pub returns-in-Some-Soft : goal.returns-in-Some-Soft
+returns-in-Some-Soft g c = rw c.in-Some-Soft.is (rw c.in-Some-Soft.field-0-is c.soft_rows.ensures)

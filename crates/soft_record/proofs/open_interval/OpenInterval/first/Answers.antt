@@ -9,6 +9,7 @@ returns c period ends =
     let P : List Rising → Type 0 = λ (rs : List Rising). AreSumsOf rs c.first.result in
     record {
       last = refl;
+      civil = c.requires.civil;
       end = ends;
       sums = subst P (sym (kept period _ None c.args.entry.now [] (sym ends))) c.first.ensures.sums;
     }

@@ -17,6 +17,7 @@ returns c period entries valid good is_open follows ends other =
     let P : List Rising → Type 0 = λ (rs : List Rising). AreSumsOf rs c.with.result in
     record {
       last = last_more None entries e;
+      civil = c.requires.civil;
       end = ends;
       sums = subst P (sym same) (c.with.ensures.sums [] c.new.ensures.sums);
     }

@@ -16,6 +16,7 @@ returns c period entries is_open ends =
     let P : List Rising → Type 0 = λ (rs : List Rising). AreSumsOf rs c.with.result in
     record {
       last = last_more None entries e;
+      civil = is_open.civil;
       end = ends;
       sums = subst P (sym same) (c.with.ensures.sums old is_open.sums);
     }

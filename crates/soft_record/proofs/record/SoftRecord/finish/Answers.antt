@@ -12,5 +12,5 @@ returns-clause-finishes c = λ period entries rows stands.
     let o = c.in_ok-open.open in
     let is_open = keeps_some period entries old.open o stands.last (sym c.in_ok-open.ensures.value) in
     let P : ℕ → Type 0 = λ (p : ℕ). IsSoftRow p (minute_of o.end) (interval_of period (minute_of o.end) entries) c.row_of.result in
-    let row : IsRowOf period entries (minute_of o.end) c.row_of.result = subst P stands.its_period (c.row_of.ensures.row _ is_open.sums) in
+    let row : IsRowOf period entries (minute_of o.end) c.row_of.result = subst P stands.its_period (c.row_of.ensures.row _ is_open.civil is_open.sums) in
     finishes_some old period entries rows o c.row_of.result stands is_open row

@@ -56,7 +56,7 @@ returns-clause-takes c = λ period entries rows stands.
     let apart : minute_of o.end ≢ end_of period e = λ same. other (same ∙ sym ends.1) in
     let follows = later_follows period (Some o.last) o.last e refl told.1 later ends.0 in
     let P : ℕ → Type 0 = λ (p : ℕ). IsSoftRow p (minute_of o.end) (interval_of period (minute_of o.end) entries) c.row_of.result in
-    let row : IsRowOf period entries (minute_of o.end) c.row_of.result = subst P stands.its_period (c.row_of.ensures.row _ is_open.sums) in (
+    let row : IsRowOf period entries (minute_of o.end) c.row_of.result = subst P stands.its_period (c.row_of.ensures.row _ is_open.civil is_open.sums) in (
       e,
       (told.0, later_follows period _ o.last e is_open.last told.1 later ends.0),
       takes_closed old _ period entries rows e o c.next.result c.row_of.result stands valid is_open refl refl follows apart
