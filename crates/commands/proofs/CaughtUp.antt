@@ -1,5 +1,5 @@
 -- Over an archive that may grow a round that is shown as done ends well, but for a fault of the outside or want of memory.
-use Rattle.std.proofs.Common.{◌≡◌, ℕ, true, false, List, ◌++◌, Option, Some, None, refl, sym, ap, subst, ◌∙◌, inl, inr}
+use Rattle.std.proofs.Common.{◌≡◌, ℕ, true, false, List, [], ◌∷◌, ◌++◌, Option, Some, None, refl, sym, ap, subst, ◌∙◌, inl, inr}
 use Rattle.std.proofs.lemmas.List.{append_cancel_left}
 use Rattle.std.proofs.lemmas.Option.{same_Some}
 use Rattle.std.specs.Prelude.{MatchResult}
@@ -24,13 +24,22 @@ use Rattle.weather_book.specs.Start.{Finds}
 use Rattle.weather_book.specs.declared.book.Book.{Book}
 use Rattle.weather_book.specs.declared.start.BookStart.{BookStart}
 use Rattle.weather_book.specs.declared.start.BookStart.TheVariants as found
-use Rattle.run_output.specs.Ended.{Lines, output_of}
+use Rattle.run_output.specs.Ended.{IsOneOf, Lines, output_of}
 use Rattle.run_output.specs.Output.{Output}
 use Rattle.run_output.specs.Outside.{Meanings}
 use Rattle.run_output.specs.declared.outside.Outside.{Outside}
+use Rattle.run_output.specs.declared.status.Status.{Status}
+use Rattle.run_output.specs.declared.status.Status.TheVariants as ends
 use Rattle.commands.specs.Recovery.{book_found, recovers}
-use Rattle.commands.specs.StationRun.{IsSettled, ShowsWhole, round_output, rounds}
-use Rattle.commands.proofs.OneRound.{MayEnd, one_round}
+use Rattle.commands.specs.StationRun.{ShowsWhole, round_output, rounds}
+use Rattle.station_session.proofs.OneRound.{MayEnd, one_round}
+
+-- done, unless a fault of the outside or want of memory kept the command from that
+abbrev pub settled : List Status
+settled = ends.Done ∷ ends.LinkFault ∷ ends.DiskFault ∷ ends.ReadFault ∷ ends.WriteFault ∷ ends.OutOfMemory ∷ []
+
+abbrev pub IsSettled : Status → Type 0
+IsSettled = IsOneOf settled
 
 finds_rows : (start : BookStart) (file : List ℕ) (rows : List Row) → CanBeAddedTo file rows → Finds Write start file
     → MatchResult (book_found start) (λ book. last_of book ≡ last_stamp rows) (λ output. IsSettled output.status)

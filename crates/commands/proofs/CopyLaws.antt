@@ -23,10 +23,10 @@ use Rattle.run_output.specs.declared.outside.Outside.{Outside}
 use Rattle.run_output.specs.declared.status.Status.TheVariants as ends
 use Rattle.run_output.proofs.Behind.{then_has}
 use Rattle.run_output.proofs.CallCauses.{attaches_causes, second_attaches_causes}
-use Rattle.run_output.proofs.Causes.{Causes, then_causes}
+use Rattle.run_output.proofs.Causes.{Causes, same_cause, same_count, then_causes}
 use Rattle.run_output.proofs.Statuses.{attach_ends, ends_so, has_status}
 use Rattle.commands.specs.CopyRun.{CanCopy, TellArchives, copies, copies_on, copy_output}
-use Rattle.commands.specs.ReportRun.{IsReported}
+use Rattle.commands.proofs.ReportLaws.{IsReported}
 
 -- the status is that of a disk fault where a disk failed, and none of files, sink or link
 of_disks : (end : CopyEnd) → (copy_output end).status ≡ ends.DiskFault → (end ≡ copied.FromFault) ⊎ (end ≡ copied.ToFault)
@@ -61,24 +61,24 @@ copies_causes {F} {K} {L} {D} m old new result did =
     let from = did.did.from_went in
     let to = did.did.to_went in
     subst (λ (w : Outside F K L D). HasCauses m old result w) (sym did.alone) (record {
-      read_fault = record { never_falls = omega arith; rose = λ by. absurd (other.read (has_status _ result _ did.given by)) };
-      files_still = λ no. refl;
-      write_fault = record { never_falls = omega arith; rose = λ by. absurd (other.write (has_status _ result _ did.given by)) };
-      sink_still = λ no. refl;
-      link_fault = record { never_falls = omega arith; rose = λ by. absurd (other.link (has_status _ result _ did.given by)) };
-      disk_fault = λ by. rose_on_one m.medium did.end old.disk old.second new.disk new.second did.did.from_fault did.did.to_fault
-          (of_disks did.end (has_status _ result _ did.given by));
-      disk_never_falls = did.did.from_fault.never_falls;
-      second_never_falls = did.did.to_fault.never_falls;
-      disk_well = λ disk write. record {
-        calls = from.calls;
-        by = from.by;
-        well = from.fails ∙ (no_disk did.end (λ is. disk (ends_so _ result _ did.given (λ e. cc) is))).0;
-      };
-      second_well = λ disk write. record {
-        calls = to.calls;
-        by = to.by;
-        well = to.fails ∙ (no_disk did.end (λ is. disk (ends_so _ result _ did.given (λ e. cc) is))).1;
+      files = same_count (m.shelf.faults old.files) (λ by. other.read (has_status _ result _ did.given by));
+      sink = same_count (m.outlet.faults old.out) (λ by. other.write (has_status _ result _ did.given by));
+      link = same_cause (m.traffic.faults old.link) (λ by. other.link (has_status _ result _ did.given by));
+      disks = record {
+        rose = λ by. rose_on_one m.medium did.end old.disk old.second new.disk new.second did.did.from_fault did.did.to_fault
+            (of_disks did.end (has_status _ result _ did.given by));
+        disk_never_falls = did.did.from_fault.never_falls;
+        second_never_falls = did.did.to_fault.never_falls;
+        disk_well = λ disk _. record {
+          calls = from.calls;
+          by = from.by;
+          well = from.fails ∙ (no_disk did.end (λ is. disk (ends_so _ result _ did.given (λ e. cc) is))).0;
+        };
+        second_well = λ disk _. record {
+          calls = to.calls;
+          by = to.by;
+          well = to.fails ∙ (no_disk did.end (λ is. disk (ends_so _ result _ did.given (λ e. cc) is))).1;
+        };
       };
     })
 

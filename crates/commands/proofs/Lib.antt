@@ -2,7 +2,6 @@ pub mod Answering
 pub mod CaughtUp
 pub mod CopyLaws
 pub mod Listings
-pub mod OneRound
 pub mod PacketLines
 pub mod PageLaws
 pub mod RecoveryLaws

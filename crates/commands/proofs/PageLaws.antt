@@ -7,14 +7,14 @@ use Rattle.std.specs.Simd.{first_chunks}
 use Rattle.std.specs.declared.option.Option.{Option}
 use Rattle.std.specs.declared.result.Result.{Result}
 use Rattle.crc_ccitt.specs.Check.{check}
-use Rattle.run_output.specs.Ended.{Lines, output_of}
+use Rattle.run_output.specs.Ended.{IsOneOf, Lines, output_of}
 use Rattle.run_output.specs.Output.{Output}
 use Rattle.run_output.specs.Outside.{Meanings, over_out}
 use Rattle.run_output.specs.Reading.{IsAccepted}
 use Rattle.run_output.specs.Streams.{streams}
 use Rattle.run_output.specs.declared.outside.Outside.{Outside}
 use Rattle.run_output.specs.declared.status.Status.{Status}
-use Rattle.run_output.specs.declared.status.Status.TheVariants.{BadPage, DiskFault, Done, LinkFault, ReadFault}
+use Rattle.run_output.specs.declared.status.Status.TheVariants.{BadPage, DiskFault, Done, LinkFault, OutOfMemory, ReadFault, WriteFault}
 use Rattle.run_output.proofs.CallCauses.{reads_causes, settles_causes, streams_causes}
 use Rattle.run_output.proofs.Causes.{Causes, then_causes}
 use Rattle.run_output.proofs.GoodFiles.{IsHindrance, accepted-settles, good-reads, good_behind, settles-stay}
@@ -22,8 +22,15 @@ use Rattle.settings_file.specs.StationSettings.{StationSettings}
 use Rattle.station_io.specs.Sink.{Outlet}
 use Rattle.commands.specs.GoodFile.{IsGoodFile}
 use Rattle.commands.specs.Listing.{listing, listing_from}
-use Rattle.commands.specs.PageRun.{IsDoneOrHindered, prints_corrected, prints_file}
+use Rattle.commands.specs.PageRun.{prints_corrected, prints_file}
 use Rattle.commands.specs.Style.{RowStyle, corrected}
+
+-- done, unless a read fault, a write fault or want of memory kept the command from that
+abbrev pub done_or_hindered : List Status
+done_or_hindered = Done ∷ ReadFault ∷ WriteFault ∷ OutOfMemory ∷ []
+
+abbrev pub IsDoneOrHindered : Status → Type 0
+IsDoneOrHindered = IsOneOf done_or_hindered
 
 by_check : (test : Bool) (good bad : Output) (status : Status) → good.status ≢ status → bad.status ≢ status → (if test then good else bad).status ≢ status
 by_check true good bad status here there = here

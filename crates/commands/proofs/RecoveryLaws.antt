@@ -21,23 +21,17 @@ found_causes : {D : Type 0} (medium : Medium D) (old new : D) (changes : ℕ) (s
 found_causes medium old new changes found.DiskFault fault went = record {
   fault = record { never_falls = fault.never_falls; rose = λ is. fault.rose refl };
   well = λ no. absurd (no refl);
-  no_read = λ is. cc;
-  no_write = λ is. cc;
-  no_link = λ is. cc;
+  others = (λ is. cc, λ is. cc, λ is. cc);
 }
 found_causes medium old new changes (found.Book book) fault went = record {
   fault = record { never_falls = fault.never_falls; rose = λ no. absurd no };
   well = λ no. record { calls = went.calls; by = went.by; well = went.fails };
-  no_read = λ no. no;
-  no_write = λ no. no;
-  no_link = λ no. no;
+  others = (λ no. no, λ no. no, λ no. no);
 }
 found_causes medium old new changes other fault went = record {
   fault = record { never_falls = fault.never_falls; rose = λ is. absurd cc };
   well = λ no. record { calls = went.calls; by = went.by; well = went.fails };
-  no_read = λ is. cc;
-  no_write = λ is. cc;
-  no_link = λ is. cc;
+  others = (λ is. cc, λ is. cc, λ is. cc);
 }
 
 -- a recovery has causes

@@ -1,5 +1,5 @@
 -- A report: each fault has a cause, and over an archive only a fault or want of memory keeps it from being written.
-use Rattle.std.proofs.Common.{◌≡◌, ◌≢◌, ℕ, List, Some, None, false, Err, refl, sym, ap, subst, ◌∙◌, arith, inl, inr}
+use Rattle.std.proofs.Common.{◌≡◌, ◌≢◌, ℕ, List, [], ◌∷◌, Some, None, false, Err, refl, sym, ap, subst, ◌∙◌, arith, inl, inr}
 use Rattle.std.specs.declared.option.Option.{Option}
 use Rattle.std.specs.declared.result.Result.{Result}
 use Rattle.std.specs.Option.{IsSomeAnd}
@@ -17,18 +17,26 @@ use Rattle.weather_reports.specs.Reported.{ReadsOver}
 use Rattle.weather_reports.specs.declared.end.ReportEnd.{ReportEnd}
 use Rattle.weather_reports.specs.declared.end.ReportEnd.TheVariants as report_end
 use Rattle.run_output.specs.Causes.{HasCauses, WentWell}
-use Rattle.run_output.specs.Ended.{Lines, output_of}
+use Rattle.run_output.specs.Ended.{IsOneOf, Lines, output_of}
 use Rattle.run_output.specs.Output.{Output}
 use Rattle.run_output.specs.Outside.{Meanings}
 use Rattle.run_output.specs.declared.outside.Outside.{Outside}
+use Rattle.run_output.specs.declared.status.Status.{Status}
 use Rattle.run_output.specs.declared.status.Status.TheVariants as ends
 use Rattle.run_output.proofs.Behind.{then_has}
 use Rattle.run_output.proofs.CallCauses.{attaches_causes}
-use Rattle.run_output.proofs.Causes.{Causes, none_well, then_causes}
+use Rattle.run_output.proofs.Causes.{Causes, none_well, same_cause, same_count, then_causes}
 use Rattle.run_output.proofs.Statuses.{attach_ends, ends_so, has_status}
 use Rattle.commands.specs.Recovery.{book_found}
-use Rattle.commands.specs.ReportRun.{HoldsRows, IsReported, TellsArchive, report_given, reports, reports_on}
+use Rattle.commands.specs.ReportRun.{HoldsRows, TellsArchive, report_given, reports, reports_on}
 use Rattle.commands.proofs.RecoveryLaws.{recovers_causes}
+
+-- written, unless a disk fault, a write fault or want of memory kept the command from that
+abbrev pub reported : List Status
+reported = ends.Done ∷ ends.DiskFault ∷ ends.WriteFault ∷ ends.OutOfMemory ∷ []
+
+abbrev pub IsReported : Status → Type 0
+IsReported = IsOneOf reported
 
 -- the status tells how the report ended
 of_disk : (end : ReportEnd) → (report_given end).status ≡ ends.DiskFault → end ≡ report_end.DiskFault
@@ -60,20 +68,23 @@ all_read medium rows report_end.WriteFault old new disk write reads = absurd (wr
 pub reports_causes : {F K L D : Type 0} (m : Meanings F K L D) (wanted : Wanted) (book : Book) → Causes m (reports m wanted book)
 reports_causes {F} {K} {L} {D} m wanted book old new result did =
     subst (λ (w : Outside F K L D). HasCauses m old result w) (sym did.alone) (record {
-      read_fault = record { never_falls = omega arith; rose = λ by. absurd ((no_other did.end).0 (has_status _ result _ did.given by)) };
-      files_still = λ no. refl;
-      write_fault = record {
-        never_falls = did.sink_cause.never_falls;
-        rose = λ by. did.sink_cause.rose (of_sink did.end (has_status _ result _ did.given by));
+      files = same_count (m.shelf.faults old.files) (λ by. (no_other did.end).0 (has_status _ result _ did.given by));
+      sink = record {
+        cause = record {
+          never_falls = did.sink_cause.never_falls;
+          rose = λ by. did.sink_cause.rose (of_sink did.end (has_status _ result _ did.given by));
+        };
+        still = λ no _. did.sink_still (λ is. no (ends_so _ result _ did.given (λ e. cc) (ap (λ (end : ReportEnd). (report_given end).status) is)));
       };
-      sink_still = λ no. did.sink_still (λ is. no (ends_so _ result _ did.given (λ e. cc) (ap (λ (end : ReportEnd). (report_given end).status) is)));
-      link_fault = record { never_falls = omega arith; rose = λ by. absurd ((no_other did.end).1 (has_status _ result _ did.given by)) };
-      disk_fault = λ by. inl (did.disk_cause.rose (of_disk did.end (has_status _ result _ did.given by)));
-      disk_never_falls = did.disk_cause.never_falls;
-      second_never_falls = omega arith;
-      disk_well = λ disk write. all_read m.medium did.rows did.end old.disk new.disk (λ is. disk (ends_so _ result _ did.given (λ e. cc) is))
-          (λ is. write (ends_so _ result _ did.given (λ e. cc) is)) did.reads;
-      second_well = λ disk write. none_well m.medium old.second;
+      link = same_cause (m.traffic.faults old.link) (λ by. (no_other did.end).1 (has_status _ result _ did.given by));
+      disks = record {
+        rose = λ by. inl (did.disk_cause.rose (of_disk did.end (has_status _ result _ did.given by)));
+        disk_never_falls = did.disk_cause.never_falls;
+        second_never_falls = omega arith;
+        disk_well = λ disk write. all_read m.medium did.rows did.end old.disk new.disk (λ is. disk (ends_so _ result _ did.given (λ e. cc) is))
+            (λ is. write (ends_so _ result _ did.given (λ e. cc) is)) did.reads;
+        second_well = λ _ _. none_well m.medium old.second;
+      };
     })
 
 -- a report has causes

@@ -27,7 +27,7 @@ use Rattle.run_output.specs.Outside.{Meanings}
 use Rattle.run_output.specs.declared.outside.Outside.{Outside}
 use Rattle.run_output.specs.declared.status.Status.{Status}
 use Rattle.run_output.specs.declared.status.Status.TheVariants as ends
-use Rattle.run_output.proofs.Causes.{Causes, none_well}
+use Rattle.run_output.proofs.Causes.{Causes, none_well, same_count}
 use Rattle.run_output.proofs.Statuses.{ends_so, has_status}
 use Rattle.commands.specs.StationRun.{round_output, rounds}
 
@@ -84,18 +84,18 @@ rounds_causes {F} {K} {L} {D} m settings book old new result did =
     let says = ends_as did.end did.report in
     let by_end = λ (status : Status) (by : EndsBy status result). has_status status result output did.given by in
     subst (λ (w : Outside F K L D). HasCauses m old result w) (sym did.alone) (record {
-      read_fault = record { never_falls = omega arith; rose = λ by. absurd (says.no_read (by_end ends.ReadFault by)) };
-      files_still = λ no. refl;
-      write_fault = record { never_falls = omega arith; rose = λ by. absurd (says.no_write (by_end ends.WriteFault by)) };
-      sink_still = λ no. refl;
-      link_fault = record {
+      files = same_count (m.shelf.faults old.files) (λ by. says.no_read (by_end ends.ReadFault by));
+      sink = same_count (m.outlet.faults old.out) (λ by. says.no_write (by_end ends.WriteFault by));
+      link = record {
         never_falls = did.answers.fault.never_falls;
         rose = λ by. did.answers.fault.rose (says.link (by_end ends.LinkFault by));
       };
-      disk_fault = λ by. inl (did.answers.disk_fault.rose (says.disk (by_end ends.DiskFault by)));
-      disk_never_falls = did.answers.disk_fault.never_falls;
-      second_never_falls = omega arith;
-      disk_well = λ disk write. round_well (λ is. disk (ends_so ends.DiskFault result output did.given (λ never. cc)
-          (ap (λ (end : RoundEnd). (round_output end did.report).status) is))) did.serves;
-      second_well = λ disk write. none_well m.medium old.second;
+      disks = record {
+        rose = λ by. inl (did.answers.disk_fault.rose (says.disk (by_end ends.DiskFault by)));
+        disk_never_falls = did.answers.disk_fault.never_falls;
+        second_never_falls = omega arith;
+        disk_well = λ disk _. round_well (λ is. disk (ends_so ends.DiskFault result output did.given (λ never. cc)
+            (ap (λ (end : RoundEnd). (round_output end did.report).status) is))) did.serves;
+        second_well = λ _ _. none_well m.medium old.second;
+      };
     })

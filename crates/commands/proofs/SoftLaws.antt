@@ -26,7 +26,7 @@ use Rattle.run_output.proofs.CallCauses.{reads_causes, settles_causes, streams_c
 use Rattle.run_output.proofs.Causes.{Causes, then_causes}
 use Rattle.run_output.proofs.GoodFiles.{IsHindrance, good-reads, good-settles, good_behind, settles-stay}
 use Rattle.run_output.proofs.Statuses.{has_status}
-use Rattle.commands.specs.PageRun.{IsDoneOrHindered}
+use Rattle.commands.proofs.PageLaws.{IsDoneOrHindered}
 use Rattle.commands.proofs.Taking.{behind_one}
 use Rattle.commands.specs.SoftRun.{BeginsWith, HasEntries, IsBadBehind, IsEntryFile, lines_of, prints_soft, streams_soft}
 

@@ -1,29 +1,26 @@
 -- Why `station` ends, and what good input comes to.
-use Rattle.std.proofs.Common.{◌≡◌, true, Ok, Err, sym, ap, subst, ◌∙◌, inl, inr}
-use Rattle.std.specs.Prelude.{IfErr}
+use Rattle.std.proofs.Common.{◌≡◌, true, Err, ap, ◌∙◌, inl, inr}
 use Rattle.std.specs.Option.{IsSomeAnd}
 use Rattle.std.specs.declared.result.Result.{Result}
 use Rattle.gated_log.specs.declared.start.Purpose.TheVariants.{Write}
 use Rattle.serial_link.specs.declared.link.Connected.{Connected}
 use Rattle.serial_link.specs.declared.link.Connected.TheVariants as connected
 use Rattle.serial_link.specs.declared.link.Side.TheVariants.{Call}
-use Rattle.station_session.specs.declared.report.Report.{Report}
 use Rattle.command_words.specs.Command.{StationNames}
 use Rattle.run_output.specs.Calls.{by_call}
-use Rattle.run_output.specs.Causes.{HasCauses}
 use Rattle.run_output.specs.Ended.{Lines, output_of}
-use Rattle.run_output.specs.Output.{Output, link_fault, no_memory}
+use Rattle.run_output.specs.Output.{Output, link_fault}
 use Rattle.run_output.specs.Outside.{Meanings}
 use Rattle.run_output.specs.Reading.{IsAccepted}
 use Rattle.run_output.specs.declared.outside.Outside.{Outside}
 use Rattle.run_output.specs.declared.status.Status.{Status}
 use Rattle.run_output.proofs.Behind.{then_has}
-use Rattle.run_output.proofs.CallCauses.{attaches_causes, calls_causes, settles_causes}
-use Rattle.run_output.proofs.Causes.{Causes, still, then_causes}
+use Rattle.run_output.proofs.CallCauses.{attaches_causes, calls_causes, memory_quiet, quiet_causes, settles_causes}
+use Rattle.run_output.proofs.Causes.{Causes, then_causes}
 use Rattle.run_output.proofs.GoodFiles.{IsHindrance, accepted-settles}
 use Rattle.run_output.proofs.Statuses.{attach_ends}
-use Rattle.commands.specs.StationRun.{IsSettled, ShowsCaughtUp, catches_up, has_report}
-use Rattle.commands.proofs.CaughtUp.{recovers_rows, rounds_settled}
+use Rattle.commands.specs.StationRun.{ShowsCaughtUp, catches_up, has_report}
+use Rattle.commands.proofs.CaughtUp.{IsSettled, recovers_rows, rounds_settled}
 use Rattle.commands.proofs.RecoveryLaws.{recovers_causes}
 use Rattle.commands.proofs.Rounds.{rounds_causes}
 
@@ -31,15 +28,8 @@ call_ends : (answer : Connected) (output : Output) → ◌≡◌ {A = Result (Un
 call_ends connected.Done output is = absurd cc
 call_ends connected.Failed output is = cc
 
--- without memory nothing is done
-without_memory : {F K L D : Type 0} (m : Meanings F K L D) (world : Outside F K L D) (result : Result Report Output)
-    → IfErr result (λ output. output ≡ no_memory) → HasCauses m world result world
-without_memory m world (Ok report) none = still m world (Ok report) (λ by. by) (λ by. by) (λ by. by) (λ by. by)
-without_memory m world (Err output) none = still m world (Err output) (λ by. cc) (λ by. cc) (λ by. cc) (λ by. cc)
-
 report_causes : {F K L D : Type 0} (m : Meanings F K L D) → Causes m has_report
-report_causes {F} {K} {L} {D} m old new result did =
-    subst (λ (w : Outside F K L D). HasCauses m old result w) (sym did.2) (without_memory m old result did.1)
+report_causes m old new result did = quiet_causes m old new result (memory_quiet result did.1) did.2
 
 hindered : (status : Status) → IsHindrance status → IsSettled status
 hindered status (inl fault) = inr (inr (inr (inl fault)))

@@ -1,11 +1,10 @@
 -- What the end of a task gives, and what shows it.
-use Rattle.std.proofs.Common.{◌≡◌, ◌≢◌, Some, List, [], ◌∷◌, ◌++◌, ℕ, refl, sym, ap, ◌∙◌, inl, inr, append-nil, arith}
+use Rattle.std.proofs.Common.{◌≡◌, ◌≢◌, Some, List, [], ◌++◌, ℕ, refl, sym, ap, ◌∙◌, append-nil}
 use Rattle.std.proofs.lemmas.List.{append_cancel_left}
-use Rattle.console_tasks.specs.TaskTalk.{DoesTask, EndsSo, Fails, HasEnd, TaskTalk}
-use Rattle.console_tasks.specs.Exchange.{Exchange}
+use Rattle.console_tasks.specs.TaskTalk.{DoesTask}
 use Rattle.console_tasks.specs.declared.end.TaskEnd.{TaskEnd}
 use Rattle.console_tasks.specs.declared.end.TaskEnd.TheVariants as task_end
-use Rattle.console_tasks.proofs.Endings.{ends_once}
+use Rattle.console_tasks.proofs.Done.{ends_done, not_begun}
 use Rattle.serial_link.specs.Traffic.{Traffic}
 use Rattle.serial_link.specs.declared.talk.TalkItem.{TalkItem}
 use Rattle.run_output.specs.declared.status.Status.TheVariants as ends
@@ -39,23 +38,6 @@ pub none_stores : (text : List ℕ) (end : TaskEnd) → (output_at text end).sta
 none_stores text task_end.Done = λ is. cc
 none_stores text other = λ is. cc
 
--- a talk that shows a task as done has no other end
-other_end : (xs : List Exchange) (t : List TalkItem) (answers : List (List ℕ)) (end : TaskEnd) → TaskTalk xs t answers task_end.Done
-    → HasEnd (TaskTalk xs) end t → end ≡ task_end.Done
-other_end xs t answers end done (others, talk) = sym ((ends_once xs).once t answers others task_end.Done end done talk).1
-
-not_failed : (xs : List Exchange) (t : List TalkItem) (answers : List (List ℕ)) (end : TaskEnd) → TaskTalk xs t answers task_end.Done
-    → Fails (TaskTalk xs) end t → end ≡ task_end.Done
-not_failed xs t answers task_end.Done done failed = refl
-not_failed xs t answers task_end.LinkFault done cut = absurd ((ends_once xs).cut t answers task_end.Done cut done)
-not_failed xs t answers task_end.OutOfMemory done cut = absurd ((ends_once xs).cut t answers task_end.Done cut done)
-not_failed xs t answers other done failed = other_end xs t answers other done failed
-
-ends_done : (xs : List Exchange) (t : List TalkItem) (answers shown : List (List ℕ)) (end : TaskEnd) → EndsSo (TaskTalk xs) answers end t
-    → TaskTalk xs t shown task_end.Done → end ≡ task_end.Done
-ends_done xs t answers shown end (inl so) done = so.0
-ends_done xs t answers shown end (inr failed) done = not_failed xs t shown end done failed
-
 some_inner : (xs ys : List TalkItem) → Some xs ≡ Some ys → xs ≡ ys
 some_inner xs ys e = cc
 
@@ -68,13 +50,7 @@ shown_done {L} traffic task old new answers end does shown =
     let same : t ≡ shown.gained = append_cancel_left shown.before t shown.gained (some_inner (shown.before ++ t) (shown.before ++ shown.gained) grown) in
     ends_done (exchanges_of task) t answers shown.done.0 end does.talk.1 (rw same shown.done.1)
 
--- a task whose talk has not begun is not done
-not_begun : (xs : List Exchange) (answers : List (List ℕ)) → TaskTalk xs [] answers task_end.Done → ⊥
-not_begun xs answers (inl ([], w, rest, awake, whole, still, wakes, more)) = omega (arith, still.0)
-not_begun xs answers (inl (i ∷ s, w, rest, awake, whole, still, wakes, more)) = cc
-not_begun xs answers (inr (floods, none, end)) = cc
-
--- nor is one of a link that gained nothing
+-- a task of a link that gained nothing is not done
 pub not_silent : {L : Type 0} (traffic : Traffic L) (task : Task) (old new : L) → traffic.talk new ≡ traffic.talk old → ShowsDone traffic task old new → ⊥
 not_silent {L} traffic task old new silent shown =
     let same : Some (shown.before ++ shown.gained) ≡ Some shown.before = sym shown.grown ∙ silent ∙ shown.told in

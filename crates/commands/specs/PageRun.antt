@@ -1,13 +1,11 @@
 -- What a run does that prints the pages of a file: which files it reads, in which order, and what is written.
-use Rattle.std.specs.Prelude.{ℕ, ◌≡◌, ◌⊎◌, List}
+use Rattle.std.specs.Prelude.{ℕ, List}
 use Rattle.run_output.specs.Ended.{Lines}
 use Rattle.run_output.specs.Outside.{Meanings, over_files, over_out}
 use Rattle.run_output.specs.Reading.{reads, settles}
 use Rattle.run_output.specs.Steps.{Step, then}
 use Rattle.run_output.specs.Streams.{streams}
 use Rattle.run_output.specs.declared.outside.Outside.{Outside}
-use Rattle.run_output.specs.declared.status.Status.{Status}
-use Rattle.run_output.specs.declared.status.Status.TheVariants as ends
 use Rattle.commands.specs.Listing.{listing}
 use Rattle.commands.specs.Style.{RowStyle, corrected}
 
@@ -22,8 +20,3 @@ abbrev pub prints_corrected : {F K L D : Type 0} → Meanings F K L D → List �
 prints_corrected m settings name =
     then (over_files (settles m.shelf settings)) (λ settings.
     prints_file m (corrected settings) name)
-
--- The command was done, unless a read fault, a write fault or want of memory kept it from that.
-abbrev pub IsDoneOrHindered : Status → Type 0
-IsDoneOrHindered status =
-    (status ≡ ends.Done) ⊎ (status ≡ ends.ReadFault) ⊎ (status ≡ ends.WriteFault) ⊎ (status ≡ ends.OutOfMemory)

@@ -1,5 +1,5 @@
 -- What a run does that reports on an archive: its one attach, the recovery, the reads, and what is written.
-use Rattle.std.specs.Prelude.{ℕ, ◌≡◌, ◌≢◌, ◌⊎◌, false, List, [], IsSomeAnd}
+use Rattle.std.specs.Prelude.{ℕ, ◌≡◌, ◌≢◌, false, List, [], IsSomeAnd}
 use Rattle.std.specs.declared.result.Result.{Result}
 use Rattle.causes.specs.Cause.{Cause}
 use Rattle.causes.specs.Told.{WhereTold}
@@ -15,7 +15,6 @@ use Rattle.run_output.specs.Output.{Output, disk_fault, write_fault}
 use Rattle.run_output.specs.Outside.{Meanings, over_disk}
 use Rattle.run_output.specs.Steps.{Step, then}
 use Rattle.run_output.specs.declared.outside.Outside.{Outside}
-use Rattle.run_output.specs.declared.status.Status.{Status}
 use Rattle.run_output.specs.declared.status.Status.TheVariants as ends
 use Rattle.station_base.specs.declared.day.DayNumber.{DayNumber}
 use Rattle.station_base.specs.declared.row.Row.{Row}
@@ -77,8 +76,3 @@ HoldsRows file = (rows : List Row) × (rows_of file ≡ holds rows)
 -- the disk tells its bytes, which are an archive
 abbrev pub TellsArchive : {D : Type 0} → Medium D → D → Type 0
 TellsArchive medium disk = IsSomeAnd (medium.seen disk) HoldsRows
-
--- The report was written, unless a disk fault, a write fault or want of memory kept it from that.
-abbrev pub IsReported : Status → Type 0
-IsReported status =
-    (status ≡ ends.Done) ⊎ (status ≡ ends.DiskFault) ⊎ (status ≡ ends.WriteFault) ⊎ (status ≡ ends.OutOfMemory)

@@ -1,6 +1,6 @@
 -- What a run does that brings an archive up to date from a console: its one attach, the recovery, its one connect, the
 -- round, and what is given of it.
-use Rattle.std.specs.Prelude.{ℕ, ◌≡◌, ◌⊎◌, ◌+◌, true, List, [], ◌∷◌, ◌++◌, Option, Some, codes, decimal}
+use Rattle.std.specs.Prelude.{ℕ, ◌≡◌, ◌+◌, true, List, [], ◌∷◌, ◌++◌, Option, Some, codes, decimal}
 use Rattle.std.specs.Prelude.{length, IfErr, IfOk, IsSomeAnd}
 use Rattle.std.specs.declared.result.Result.{Result}
 use Rattle.archive_copy.specs.Answers.{CanBeAddedTo}
@@ -33,7 +33,6 @@ use Rattle.run_output.specs.Outside.{Meanings, over_disk, over_files, over_link}
 use Rattle.run_output.specs.Reading.{settles}
 use Rattle.run_output.specs.Steps.{Step, then}
 use Rattle.run_output.specs.declared.outside.Outside.{Outside}
-use Rattle.run_output.specs.declared.status.Status.{Status}
 use Rattle.run_output.specs.declared.status.Status.TheVariants as ends
 use Rattle.commands.specs.Recovery.{recovers}
 
@@ -146,9 +145,3 @@ pub record ShowsCaughtUp {L D : Type 0} (traffic : Traffic L) (medium : Medium D
   pub rows : List Row
   pub archive : IsSomeAnd (medium.seen disk) (λ file. CanBeAddedTo file rows)
   pub talk : ShowsWhole traffic (last_stamp rows) old new
-
--- the command was done, or a fault of the outside or want of memory kept it from that
-abbrev pub IsSettled : Status → Type 0
-IsSettled status =
-    (status ≡ ends.Done) ⊎ (status ≡ ends.LinkFault) ⊎ (status ≡ ends.DiskFault) ⊎ (status ≡ ends.ReadFault)
-    ⊎ (status ≡ ends.WriteFault) ⊎ (status ≡ ends.OutOfMemory)

@@ -7,3 +7,4 @@ pub mod Comparing
 pub mod Packing
 pub mod Clocks
 pub mod Endings
+pub mod Done

@@ -1,5 +1,5 @@
 -- A console that is served: its causes, and how it ends.
-use Rattle.std.proofs.Common.{◌≡◌, ◌⊎◌, ℕ, List, Ok, Err, refl, sym, ap, ◌∙◌, subst, arith, inl, inr}
+use Rattle.std.proofs.Common.{◌≡◌, ◌⊎◌, ℕ, List, [], ◌∷◌, Ok, Err, refl, sym, ap, ◌∙◌, subst, arith, inl, inr}
 use Rattle.std.specs.Prelude.{IfErr}
 use Rattle.std.specs.declared.result.Result.{Result}
 use Rattle.causes.specs.Cause.{Cause, Rose}
@@ -9,14 +9,14 @@ use Rattle.console_server.specs.declared.serving.ServeEnd.{ServeEnd}
 use Rattle.console_server.specs.declared.serving.ServeEnd.TheVariants as serve_end
 use Rattle.console_server.specs.declared.serving.Served.{Served}
 use Rattle.run_output.specs.Calls.{by_call, calls}
-use Rattle.run_output.specs.Ended.{EndsBy, Lines, output_of}
+use Rattle.run_output.specs.Ended.{EndsBy, IsOneOf, Lines, output_of}
 use Rattle.run_output.specs.Output.{Output, link_fault, no_memory}
 use Rattle.run_output.specs.Outside.{Meanings, over_link}
 use Rattle.run_output.specs.Steps.{Behind, Step as RunStep, then}
 use Rattle.run_output.specs.declared.outside.Outside.{Outside}
 use Rattle.run_output.specs.declared.status.Status.{Status}
 use Rattle.run_output.specs.declared.status.Status.TheVariants as ends
-use Rattle.run_output.proofs.CallCauses.{LinkCauses, by_link, calls_causes, settles_causes}
+use Rattle.run_output.proofs.CallCauses.{LinkCauses, by_link, calls_causes, memory_quiet, quiet_causes, settles_causes}
 use Rattle.run_output.proofs.Causes.{Causes, then_causes}
 use Rattle.run_output.proofs.Statuses.{has_status}
 use Rattle.schedule_replay.specs.Replayed.{steps_in}
@@ -25,11 +25,17 @@ use Rattle.serial_link.specs.declared.link.Connected.{Connected}
 use Rattle.serial_link.specs.declared.link.Connected.TheVariants as connected
 use Rattle.serial_link.specs.declared.link.Side.TheVariants.{Serve}
 use Rattle.station_replay.specs.Schedule.{Step}
-use Rattle.model_commands.specs.ConsoleRun.{IsServedOrHindered, IsUntouchedOrShort, readies, served_output, serves, serves_files}
+use Rattle.model_commands.specs.ConsoleRun.{IsUntouchedOrShort, readies, served_output, serves, serves_files}
 use Rattle.model_commands.specs.ReplayRun.{HasGoodFiles}
 use Rattle.model_commands.proofs.GoodSchedule.{good_files_read, then_ends}
-use Rattle.model_commands.proofs.Quiet.{memory_quiet, quiet_causes}
 use Rattle.model_commands.proofs.ReplayLaws.{reads_schedule_causes}
+
+-- served for all turns, unless a link fault, a read fault, a write fault or want of memory kept the command from that
+abbrev pub served : List Status
+served = ends.Done ∷ ends.LinkFault ∷ ends.ReadFault ∷ ends.WriteFault ∷ ends.OutOfMemory ∷ []
+
+abbrev pub IsServedOrHindered : Status → Type 0
+IsServedOrHindered = IsOneOf served
 
 readies_causes : {F K L D : Type 0} (m : Meanings F K L D) (period : ℕ) (steps : List Step) → Causes m (readies period steps)
 readies_causes m period steps old new result did = quiet_causes m old new result (memory_quiet result did.1) did.2
@@ -49,9 +55,8 @@ served_causes traffic old new end count ended fault given =
     let so = λ (status : Status) (is : EndsBy status ended). served_as end count status (has_status status ended _ given is) in
     record {
       fault = record { never_falls = fault.never_falls; rose = λ is. fault.rose (let e = so ends.LinkFault is in grind arith) };
-      no_read = λ is. let e = so ends.ReadFault is in grind arith;
-      no_write = λ is. let e = so ends.WriteFault is in grind arith;
-      no_disk = λ is. let e = so ends.DiskFault is in grind arith;
+      others = (λ is. let e = so ends.ReadFault is in grind arith, λ is. let e = so ends.WriteFault is in grind arith,
+          λ is. let e = so ends.DiskFault is in grind arith);
     }
 
 pub serves_files_causes : {F K L D : Type 0} (m : Meanings F K L D) (names : ConsoleNames) → Causes m (serves_files m names)

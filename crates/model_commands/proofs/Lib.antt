@@ -2,7 +2,6 @@ pub mod BeforeRounds
 pub mod ConsoleLaws
 pub mod GoodSchedule
 pub mod MakeLaws
-pub mod Quiet
 pub mod Readied
 pub mod ReplayLaws
 pub mod Replays

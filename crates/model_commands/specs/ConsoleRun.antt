@@ -22,7 +22,6 @@ use Rattle.run_output.specs.Reading.{settles}
 use Rattle.run_output.specs.Steps as steps
 use Rattle.run_output.specs.Steps.{then}
 use Rattle.run_output.specs.declared.outside.Outside.{Outside}
-use Rattle.run_output.specs.declared.status.Status.{Status}
 use Rattle.run_output.specs.declared.status.Status.TheVariants as ends
 use Rattle.schedule_replay.specs.Replayed.{steps_in}
 use Rattle.serial_link.specs.Link.{Talks}
@@ -95,13 +94,6 @@ serves_files m names =
     then (readies schedule.period (steps_in schedule)) (λ console.
     then (over_link (calls m.traffic Serve names.address)) (λ _.
     over_link (serves m.traffic console names.turns)))))
-
--- The console was served for all turns, unless a link fault, a read fault, a write fault or want of memory kept it from
--- that.
-abbrev pub IsServedOrHindered : Status → Type 0
-IsServedOrHindered status =
-    (status ≡ ends.Done) ⊎ (status ≡ ends.LinkFault) ⊎ (status ≡ ends.ReadFault) ⊎ (status ≡ ends.WriteFault)
-    ⊎ (status ≡ ends.OutOfMemory)
 
 -- the link is as it was, or it was short of memory
 abbrev pub IsUntouchedOrShort : {L : Type 0} → Traffic L → L → L → Type 0

@@ -1,5 +1,5 @@
 -- What a run does that replays a schedule: its two readings, and what is written of the replay.
-use Rattle.std.specs.Prelude.{ℕ, ◌≡◌, ◌≢◌, ◌⊎◌, ◌≤◌, true, false, List, [], length, IsOk, IsOkAnd, IsSomeAnd}
+use Rattle.std.specs.Prelude.{ℕ, ◌≡◌, ◌≢◌, ◌≤◌, true, false, List, [], length, IsOk, IsOkAnd, IsSomeAnd}
 use Rattle.std.specs.declared.option.Option.{Option}
 use Rattle.std.specs.declared.result.Result.{Result}
 use Rattle.causes.specs.Cause.{Cause}
@@ -75,10 +75,3 @@ AreGoodSettings schedule text =
 abbrev pub HasGoodFiles : {F : Type 0} → Shelf F → List ℕ → List ℕ → F → Type 0
 HasGoodFiles shelf settings schedule files =
     IsSomeAnd (shelf.held files settings) (AreGoodSettings (shelf.held files schedule))
-
--- The schedule was replayed, to its end or to an unseen delivery, unless a read fault, a write fault or want of memory
--- kept it from that.
-abbrev pub IsReplayedOrHindered : Status → Type 0
-IsReplayedOrHindered status =
-    (status ≡ ends.Done) ⊎ (status ≡ ends.Unseen) ⊎ (status ≡ ends.ReadFault) ⊎ (status ≡ ends.WriteFault)
-    ⊎ (status ≡ ends.OutOfMemory)

@@ -1,9 +1,9 @@
 -- The causes of a run: those of its command, and of the write of its last lines.
-use Rattle.std.proofs.Common.{◌≡◌, ◌≢◌, ◌⊎◌, ℕ, ◌≤◌, inl, inr, refl, sym, ap, subst, ◌∙◌, arith}
+use Rattle.std.proofs.Common.{◌≡◌, ◌≢◌, ◌⊎◌, ℕ, inl, inr, refl, sym, ap, subst, ◌∙◌, arith}
 use Rattle.std.specs.Prelude.{◌==◌, if◌then◌else◌}
 use Rattle.std.specs.declared.result.Result.{Result}
 use Rattle.causes.specs.Cause.{Cause, Rose}
-use Rattle.run_output.specs.Causes.{HasCauses, RoseOnOne, WentWell}
+use Rattle.run_output.specs.Causes.{FaultCauses, HasCauses}
 use Rattle.run_output.specs.Ended.{EndsBy, Lines, output_of}
 use Rattle.run_output.specs.Output.{Finishes, Output, code}
 use Rattle.run_output.specs.Outside.{Meanings}
@@ -15,17 +15,8 @@ use Rattle.run_output.proofs.Causes.{rose_before, rose_later}
 use Rattle.run_output.proofs.Statuses.{ends_so, has_status}
 
 -- What a run says of the outside, by the number that it ends with.
-pub record RunCauses {F K L D : Type 0} (m : Meanings F K L D) (old new : Outside F K L D) (result : ℕ) : Type 0 where
-  pub read_fault : Cause (m.shelf.faults old.files) (m.shelf.faults new.files) (result ≡ 8)
-  pub write_fault : Cause (m.outlet.faults old.out) (m.outlet.faults new.out) (result ≡ 9)
-  pub link_fault : Cause (m.traffic.faults old.link) (m.traffic.faults new.link) (result ≡ 6)
-  pub disk_fault : result ≡ 7 → RoseOnOne m.medium old.disk old.second new.disk new.second
-  pub disk_never_falls : m.medium.faults old.disk ≤ m.medium.faults new.disk
-  pub second_never_falls : m.medium.faults old.second ≤ m.medium.faults new.second
-  pub files_still : result ≢ 8 → result ≢ 9 → m.shelf.faults new.files ≡ m.shelf.faults old.files
-  pub sink_still : result ≢ 9 → m.outlet.faults new.out ≡ m.outlet.faults old.out
-  pub disk_well : result ≢ 7 → result ≢ 9 → WentWell m.medium old.disk new.disk
-  pub second_well : result ≢ 7 → result ≢ 9 → WentWell m.medium old.second new.second
+abbrev pub RunCauses : {F K L D : Type 0} → Meanings F K L D → Outside F K L D → Outside F K L D → ℕ → Type 0
+RunCauses m old new result = FaultCauses m old new (result ≡ 8) (result ≡ 9) (result ≡ 6) (result ≡ 7)
 
 -- the status of a number
 abbrev at : ℕ → Status
@@ -52,49 +43,15 @@ at n =
 
 at_code : (status : Status) → at (code status) ≡ status
 at_code ends.Done = refl
-at_code ends.Usage = refl
-at_code ends.BadSettings = refl
-at_code ends.BadSchedule = refl
-at_code ends.Trouble = refl
-at_code ends.Unseen = refl
-at_code ends.LinkFault = refl
-at_code ends.DiskFault = refl
-at_code ends.ReadFault = refl
-at_code ends.WriteFault = refl
-at_code ends.ArchiveFull = refl
-at_code ends.BadArchive = refl
-at_code ends.OutOfMemory = refl
-at_code ends.Flood = refl
-at_code ends.BadPage = refl
-at_code ends.TooLong = refl
-at_code ends.OldArchive = refl
-at_code ends.NotPrefix = refl
-at_code ends.BadEntry = refl
+at_code other = refl
 
 -- statuses of one number are one
 pub same_code : (one other : Status) → code one ≡ code other → one ≡ other
 same_code one other is = sym (at_code one) ∙ ap at is ∙ at_code other
 
 is_write : (status : Status) → (status ≡ ends.WriteFault) ⊎ (status ≢ ends.WriteFault)
-is_write ends.Done = inr (λ e. cc)
-is_write ends.Usage = inr (λ e. cc)
-is_write ends.BadSettings = inr (λ e. cc)
-is_write ends.BadSchedule = inr (λ e. cc)
-is_write ends.Trouble = inr (λ e. cc)
-is_write ends.Unseen = inr (λ e. cc)
-is_write ends.LinkFault = inr (λ e. cc)
-is_write ends.DiskFault = inr (λ e. cc)
-is_write ends.ReadFault = inr (λ e. cc)
 is_write ends.WriteFault = inl refl
-is_write ends.ArchiveFull = inr (λ e. cc)
-is_write ends.BadArchive = inr (λ e. cc)
-is_write ends.OutOfMemory = inr (λ e. cc)
-is_write ends.Flood = inr (λ e. cc)
-is_write ends.BadPage = inr (λ e. cc)
-is_write ends.TooLong = inr (λ e. cc)
-is_write ends.OldArchive = inr (λ e. cc)
-is_write ends.NotPrefix = inr (λ e. cc)
-is_write ends.BadEntry = inr (λ e. cc)
+is_write other = inr (λ e. cc)
 
 -- a run that ends with another number than that of a write fault ends with the status of its output
 pub same_status : {S : Type 0} (outlet : Outlet S) (old new : S) (output : Output) (status : Status) → Finishes (outlet.taken old) (outlet.taken new) output status
@@ -119,25 +76,31 @@ module _ {F K L D : Type 0} (m : Meanings F K L D) (old mid new : Outside F K L 
 
   written : (status ≡ ends.WriteFault) → Rose (m.outlet.faults old.out) (m.outlet.faults new.out)
   written is = elim (is_write (output_of ended).status) [
-    | inl by ↦ rose_before _ _ _ (has.write_fault.rose (ends_so ends.WriteFault ended (output_of ended) refl (λ e. cc) by)) cause.never_falls
-    | inr other ↦ rose_later _ _ _ has.write_fault.never_falls (cause.rose (λ same. other (sym same ∙ is)))
+    | inl by ↦ rose_before _ _ _ (has.sink.cause.rose (ends_so ends.WriteFault ended (output_of ended) refl (λ e. cc) by)) cause.never_falls
+    | inr other ↦ rose_later _ _ _ has.sink.cause.never_falls (cause.rose (λ same. other (sym same ∙ is)))
   ]
 
   run_causes_mid : RunCauses m old (record mid { out = new.out }) (code status)
   run_causes_mid = record {
-    read_fault = record { never_falls = has.read_fault.never_falls; rose = λ is. has.read_fault.rose (by ends.ReadFault (λ e. cc) (λ e. cc) is) };
-    write_fault = record {
-      never_falls = omega (arith, has.write_fault.never_falls, cause.never_falls);
-      rose = λ is. written (same_code status ends.WriteFault is);
+    files = record {
+      cause = record { never_falls = has.files.cause.never_falls; rose = λ is. has.files.cause.rose (by ends.ReadFault (λ e. cc) (λ e. cc) is) };
+      still = λ read write. has.files.still (not_by ends.ReadFault read write) (not_by ends.WriteFault write write);
     };
-    link_fault = record { never_falls = has.link_fault.never_falls; rose = λ is. has.link_fault.rose (by ends.LinkFault (λ e. cc) (λ e. cc) is) };
-    disk_fault = λ is. has.disk_fault (by ends.DiskFault (λ e. cc) (λ e. cc) is);
-    disk_never_falls = has.disk_never_falls;
-    second_never_falls = has.second_never_falls;
-    files_still = λ read write. has.files_still (not_by ends.ReadFault read write);
-    sink_still = λ write. still (λ is. write (ap code is)) ∙ has.sink_still (not_by ends.WriteFault write write);
-    disk_well = λ fault write. has.disk_well (not_by ends.DiskFault fault write) (not_by ends.WriteFault write write);
-    second_well = λ fault write. has.second_well (not_by ends.DiskFault fault write) (not_by ends.WriteFault write write);
+    sink = record {
+      cause = record {
+        never_falls = omega (arith, has.sink.cause.never_falls, cause.never_falls);
+        rose = λ is. written (same_code status ends.WriteFault is);
+      };
+      still = λ write _. still (λ is. write (ap code is)) ∙ has.sink.still (not_by ends.WriteFault write write) (not_by ends.WriteFault write write);
+    };
+    link = record { never_falls = has.link.never_falls; rose = λ is. has.link.rose (by ends.LinkFault (λ e. cc) (λ e. cc) is) };
+    disks = record {
+      rose = λ is. has.disks.rose (by ends.DiskFault (λ e. cc) (λ e. cc) is);
+      disk_never_falls = has.disks.disk_never_falls;
+      second_never_falls = has.disks.second_never_falls;
+      disk_well = λ fault write. has.disks.disk_well (not_by ends.DiskFault fault write) (not_by ends.WriteFault write write);
+      second_well = λ fault write. has.disks.second_well (not_by ends.DiskFault fault write) (not_by ends.WriteFault write write);
+    };
   }
 
   -- the causes of a run whose command has causes

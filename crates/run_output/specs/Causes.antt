@@ -1,5 +1,5 @@
 -- What a step that ended the run says of the outside: a status of a fault is given where a fault was counted.
-use Rattle.std.specs.Prelude.{◌≡◌, ◌⊎◌, ◌≤◌, false, List}
+use Rattle.std.specs.Prelude.{ℕ, ◌≡◌, ◌⊎◌, ◌≤◌, false, List}
 use Rattle.std.specs.declared.result.Result.{Result}
 use Rattle.causes.specs.Cause.{Cause, Rose}
 use Rattle.disk_model.specs.Calls.{DiskCall}
@@ -22,17 +22,29 @@ abbrev pub RoseOnOne : {D : Type 0} → Medium D → D → D → D → D → Typ
 RoseOnOne medium disk second disk' second' =
     Rose (medium.faults disk) (medium.faults disk') ⊎ Rose (medium.faults second) (medium.faults second')
 
--- Each of the four faults was answered only where its own count rose, no count fell, and where a fault was not answered
--- none was counted. A call of a disk may have failed before a write did.
-pub record HasCauses {F K L D A : Type 0} (m : Meanings F K L D) (old : Outside F K L D) (result : Result A Output)
-    (new : Outside F K L D) : Type 0 where
-  pub read_fault : Cause (m.shelf.faults old.files) (m.shelf.faults new.files) (EndsBy ReadFault result)
-  pub files_still : ¬ (EndsBy ReadFault result) → m.shelf.faults new.files ≡ m.shelf.faults old.files
-  pub write_fault : Cause (m.outlet.faults old.out) (m.outlet.faults new.out) (EndsBy WriteFault result)
-  pub sink_still : ¬ (EndsBy WriteFault result) → m.outlet.faults new.out ≡ m.outlet.faults old.out
-  pub link_fault : Cause (m.traffic.faults old.link) (m.traffic.faults new.link) (EndsBy LinkFault result)
-  pub disk_fault : EndsBy DiskFault result → RoseOnOne m.medium old.disk old.second new.disk new.second
-  pub disk_never_falls : m.medium.faults old.disk ≤ m.medium.faults new.disk
-  pub second_never_falls : m.medium.faults old.second ≤ m.medium.faults new.second
-  pub disk_well : ¬ (EndsBy DiskFault result) → ¬ (EndsBy WriteFault result) → WentWell m.medium old.disk new.disk
-  pub second_well : ¬ (EndsBy DiskFault result) → ¬ (EndsBy WriteFault result) → WentWell m.medium old.second new.second
+-- The count of a part never falls, and rises where the run ends by the fault of that part. Where it does not, nor by a write that
+-- failed behind the fault, the count stays.
+pub record Counts (before after : ℕ) (fault cut : Type 0) : Type 0 where
+  pub cause : Cause before after fault
+  pub still : ¬ fault → ¬ cut → after ≡ before
+
+-- So it is of the two disks, of which one failed where the run ends by a disk fault.
+pub record CountsDisks {D : Type 0} (medium : Medium D) (disk second disk' second' : D) (fault cut : Type 0) : Type 0 where
+  pub rose : fault → RoseOnOne medium disk second disk' second'
+  pub disk_never_falls : medium.faults disk ≤ medium.faults disk'
+  pub second_never_falls : medium.faults second ≤ medium.faults second'
+  pub disk_well : ¬ fault → ¬ cut → WentWell medium disk disk'
+  pub second_well : ¬ fault → ¬ cut → WentWell medium second second'
+
+-- Each of the four faults ends a run only where its own count rose.
+pub record FaultCauses {F K L D : Type 0} (m : Meanings F K L D) (old new : Outside F K L D)
+    (by_read by_write by_link by_disk : Type 0) : Type 0 where
+  pub files : Counts (m.shelf.faults old.files) (m.shelf.faults new.files) by_read by_write
+  pub sink : Counts (m.outlet.faults old.out) (m.outlet.faults new.out) by_write by_write
+  pub link : Cause (m.traffic.faults old.link) (m.traffic.faults new.link) by_link
+  pub disks : CountsDisks m.medium old.disk old.second new.disk new.second by_disk by_write
+
+-- The faults by which a step ends the run have causes.
+abbrev pub HasCauses : {F K L D A : Type 0} → Meanings F K L D → Outside F K L D → Result A Output → Outside F K L D → Type 0
+HasCauses m old result new =
+    FaultCauses m old new (EndsBy ReadFault result) (EndsBy WriteFault result) (EndsBy LinkFault result) (EndsBy DiskFault result)

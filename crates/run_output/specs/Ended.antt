@@ -1,5 +1,5 @@
 -- How a command ended: with its last lines, or before it was done.
-use Rattle.std.specs.Prelude.{ℕ, ◌≡◌, Ok, Err}
+use Rattle.std.specs.Prelude.{ℕ, ◌≡◌, ◌⊎◌, List, [], ◌∷◌, Ok, Err}
 use Rattle.std.specs.declared.result.Result.{Result}
 use Rattle.arrayvec.specs.ArrayVec.{ArrayVec}
 use Rattle.run_output.specs.declared.status.Status.{Status}
@@ -19,3 +19,9 @@ EndsBy status (Err output) = output.status ≡ status
 -- the last lines of a command that is done
 abbrev pub Lines : Type 0
 Lines = ArrayVec ℕ
+
+-- it is one of these
+abbrev pub IsOneOf : {A : Type 0} → List A → A → Type 0
+IsOneOf [] it = ⊥
+IsOneOf (one ∷ []) it = it ≡ one
+IsOneOf (one ∷ next ∷ more) it = (it ≡ one) ⊎ IsOneOf (next ∷ more) it

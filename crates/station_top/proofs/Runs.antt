@@ -1,13 +1,26 @@
 -- What a run of the program comes to, by what its command did and the write of its last lines.
-use Rattle.std.proofs.Common.{◌≡◌, ◌≢◌, ◌⊎◌, ℕ, Some, None, Err, inl, inr, refl, sym, ap, subst, ◌∙◌}
+use Rattle.std.proofs.Common.{◌≡◌, ◌≢◌, ℕ, List, [], ◌∷◌, Some, None, Err, inl, inr, refl, sym, ap, subst, map, ◌∙◌}
 use Rattle.std.specs.Prelude.{IfNone, IfSome}
 use Rattle.std.specs.declared.option.Option.{Option}
 use Rattle.std.specs.declared.result.Result.{Result}
 use Rattle.causes.specs.Cause.{Cause}
-use Rattle.command_words.specs.Command.{CommandLine}
+use Rattle.command_words.specs.Command.{CommandLine, pages, corrected_pages, soft, task, report, replay, copy, station, console, make}
+use Rattle.commands.specs.StationRun.{ShowsCaughtUp}
+use Rattle.commands.specs.Style.{short}
+use Rattle.commands.specs.TaskRun.{ShowsDone}
+use Rattle.commands.proofs.CaughtUp.{settled}
+use Rattle.commands.proofs.CopyLaws.{copies_on_complete}
+use Rattle.commands.proofs.PageLaws.{done_or_hindered, prints_corrected_complete, prints_file_complete}
+use Rattle.commands.proofs.ReportLaws.{reported, reports_on_complete}
+use Rattle.commands.proofs.SoftLaws.{prints_soft_complete}
+use Rattle.commands.proofs.StationLaws.{catches_up_complete}
+use Rattle.commands.proofs.TaskLaws.{calls_for_done, calls_for_shortage}
 use Rattle.model_commands.specs.ConsoleRun.{IsUntouchedOrShort}
+use Rattle.model_commands.proofs.ConsoleLaws.{served, serves_files_complete, serves_files_shortage}
+use Rattle.model_commands.proofs.MakeLaws.{made, makes_run_complete}
+use Rattle.model_commands.proofs.ReplayLaws.{replayed, replays_files_complete}
 use Rattle.run_output.specs.Causes.{HasCauses}
-use Rattle.run_output.specs.Ended.{EndsBy, Lines, output_of}
+use Rattle.run_output.specs.Ended.{EndsBy, IsOneOf, Lines, output_of}
 use Rattle.run_output.specs.Output.{EndsWith, Finishes, Output, code}
 use Rattle.run_output.specs.Outside.{Meanings}
 use Rattle.run_output.specs.declared.outside.Outside.{Outside}
@@ -15,8 +28,8 @@ use Rattle.run_output.specs.declared.status.Status.{Status}
 use Rattle.run_output.specs.declared.status.Status.TheVariants as ends
 use Rattle.run_output.proofs.Causes.{Causes, still}
 use Rattle.run_output.proofs.RunCauses.{RunCauses, by, ends_within, run_causes}
-use Rattle.station_top.specs.Run.{HasArchive, HasConsole, HasGoodInput, HasSchedule, IsMake, IsServing, IsShownCaughtUp, IsShownDone, IsTask, IsUsage, Performs, performs, performs_words, usage}
-use Rattle.station_top.proofs.Commands as commands
+use Rattle.station_top.specs.Run.{IsUsage, Performs, Promises, performs, performs_words, usage}
+use Rattle.station_top.proofs.Commands.{performs_causes}
 
 -- what is so of the command that the words spell is so if they spell one
 pub if_spelled : (words : Option CommandLine) (P : CommandLine → Type 0) → ((command : CommandLine) → words ≡ Some command → P command) → IfSome words P
@@ -27,19 +40,21 @@ pub if_outside : (words : Option CommandLine) (P : Type 0) → (words ≡ None �
 if_outside None P none = none refl
 if_outside (Some command) P none = tt
 
-or : {A B C D : Type 0} → (A → C) → (B → D) → A ⊎ B → C ⊎ D
-or f g (inl a) = inl (f a)
-or f g (inr b) = inr (g b)
+numbered : (statuses : List Status) (status : Status) → IsOneOf statuses status → IsOneOf (map code statuses) (code status)
+numbered [] status is = is
+numbered (one ∷ []) status is = ap code is
+numbered (one ∷ next ∷ more) status (inl is) = inl (ap code is)
+numbered (one ∷ next ∷ more) status (inr is) = inr (numbered (next ∷ more) status is)
 
 usage_causes : {F K L D : Type 0} (m : Meanings F K L D) → Causes m (performs_words m None)
 usage_causes {F} {K} {L} {D} m old new result did =
     subst (λ (r : Result Lines Output). HasCauses m old r new) (sym did.0)
     (subst (λ (w : Outside F K L D). HasCauses m old (let r : Result Lines Output = Err usage in r) w) (sym did.1)
-    (still m old (Err usage) (λ e. cc) (λ e. cc) (λ e. cc) (λ e. cc)))
+    (still {A = Lines} m old (Err usage) (λ e. cc) (λ e. cc) (λ e. cc) (λ e. cc)))
 
 words_causes : {F K L D : Type 0} (m : Meanings F K L D) (words : Option CommandLine) → Causes m (performs_words m words)
 words_causes m None = usage_causes m
-words_causes m (Some command) = commands.performs_causes m command
+words_causes m (Some command) = performs_causes m command
 
 -- What the words did, and how their last lines were written.
 pub record Ran {F K L D : Type 0} (m : Meanings F K L D) (words : Option CommandLine) (old new : Outside F K L D) (result : ℕ) : Type 0 where
@@ -64,11 +79,12 @@ module _ {F K L D : Type 0} (m : Meanings F K L D) (words : Option CommandLine) 
   link : new.link ≡ ran.mid.link
   link = ap (λ (w : Outside F K L D). w.link) ran.alone
 
-  within : (P : ℕ → Type 0) → P (code (output_of ran.ended).status) → P 9 → P result
-  within P at nine = subst P (sym ran.is) (ends_within m.outlet ran.mid.out new.out (output_of ran.ended) ran.status P ran.finishes at nine)
+  within : (statuses : List Status) → IsOneOf (map code statuses) 9 → IsOneOf statuses (output_of ran.ended).status → IsOneOf (map code statuses) result
+  within statuses nine is = subst (IsOneOf (map code statuses)) (sym ran.is) (ends_within m.outlet ran.mid.out new.out (output_of ran.ended) ran.status
+      (IsOneOf (map code statuses)) ran.finishes (numbered statuses (output_of ran.ended).status is) nine)
 
-  short : result ≡ 12 → EndsBy ends.OutOfMemory ran.ended
-  short twelve = by m old ran.mid new ran.ended ran.status has ran.alone ran.finishes ran.cause ran.sink ends.OutOfMemory (λ e. cc) (λ e. cc) (sym ran.is ∙ twelve)
+  short_of : result ≡ 12 → EndsBy ends.OutOfMemory ran.ended
+  short_of twelve = by m old ran.mid new ran.ended ran.status has ran.alone ran.finishes ran.cause ran.sink ends.OutOfMemory (λ e. cc) (λ e. cc) (sym ran.is ∙ twelve)
 
   written : EndsWith m.outlet (output_of ran.ended) ran.mid.out new.out result
   written = record { status = ran.status; coded = sym ran.is; ends = ran.finishes }
@@ -79,6 +95,34 @@ module _ {F K L D : Type 0} (m : Meanings F K L D) (words : Option CommandLine) 
       subst (λ (w : Outside F K L D). IsUsage m.outlet w new result) none_did.1
       (record { alone = ran.alone; written = subst (λ (r : Result Lines Output). EndsWith m.outlet (output_of r) ran.mid.out new.out result) none_did.0 written })
 
+  promised : (command : CommandLine) → performs m command old ran.ended ran.mid → Promises m command old new result
+  promised (pages file) did = λ good. within done_or_hindered (inr (inr (inl refl))) (prints_file_complete m short file old ran.mid ran.ended good did)
+  promised (corrected_pages settings file) did = λ accepted good.
+      within done_or_hindered (inr (inr (inl refl))) (prints_corrected_complete m settings file old ran.mid ran.ended accepted good did)
+  promised (soft settings file) did = λ good.
+      within done_or_hindered (inr (inr (inl refl))) (prints_soft_complete m settings file old ran.mid ran.ended good did)
+  promised (task address asked) did =
+      let cause = calls_for_shortage m address asked old ran.mid ran.ended did in
+      record {
+        done = λ shown. within (ends.Done ∷ ends.WriteFault ∷ []) (inr refl)
+            (inl (calls_for_done m address asked old ran.mid ran.ended (subst (λ (l : L). ShowsDone m.traffic asked old.link l) link shown) did));
+        shortage = subst (λ (l : L). Cause (m.traffic.shortages old.link) (m.traffic.shortages l) (result ≡ 12)) (sym link)
+            (record { never_falls = cause.never_falls; rose = λ twelve. cause.rose (short_of twelve) });
+      }
+  promised (report archive wanted) did = λ good.
+      within reported (inr (inr (inl refl))) (reports_on_complete m archive wanted old ran.mid ran.ended good did)
+  promised (replay settings schedule) did = λ good.
+      within replayed (inr (inr (inr (inl refl)))) (replays_files_complete m settings schedule old ran.mid ran.ended good did)
+  promised (copy from to) did = λ good. within reported (inr (inr (inl refl))) (copies_on_complete m from to old ran.mid ran.ended good did)
+  promised (station names) did = λ accepted shown. within settled (inr (inr (inr (inr (inl refl))))) (catches_up_complete m names old ran.mid ran.ended
+      accepted (subst (λ (l : L). ShowsCaughtUp m.traffic m.medium old.disk old.link l) link shown) did)
+  promised (console names) did = record {
+    served = λ good. within served (inr (inr (inr (inl refl)))) (serves_files_complete m names old ran.mid ran.ended good did);
+    shortage = λ twelve. subst (λ (l : L). IsUntouchedOrShort m.traffic old.link l) (sym link)
+        (serves_files_shortage m names old ran.mid ran.ended did (short_of twelve));
+  }
+  promised (make seed records) did = within made (inr (inl refl)) (makes_run_complete m seed records old ran.mid ran.ended did)
+
   module _ (command : CommandLine) (spelled : words ≡ Some command) where
     performed : performs m command old ran.ended ran.mid
     performed = subst (λ (w : Option CommandLine). performs_words m w old ran.ended ran.mid) spelled ran.did
@@ -86,48 +130,6 @@ module _ {F K L D : Type 0} (m : Meanings F K L D) (words : Option CommandLine) 
     pub done : Performs m command old new result
     done = record { ended = ran.ended; mid = ran.mid; did = performed; alone = ran.alone; written = written }
 
-    pub complete : HasGoodInput m.shelf command old.files → (result ≡ 0) ⊎ (result ≡ 8) ⊎ (result ≡ 9) ⊎ (result ≡ 12)
-    complete good = within (λ n. (n ≡ 0) ⊎ (n ≡ 8) ⊎ (n ≡ 9) ⊎ (n ≡ 12))
-        (or (ap code) (or (ap code) (or (ap code) (ap code))) (commands.complete m old ran.mid ran.ended command good performed)) (inr (inr (inl refl)))
+    pub keeps : Promises m command old new result
+    keeps = promised command performed
 
-    pub reported : HasArchive m.medium command old.disk old.second → (result ≡ 0) ⊎ (result ≡ 7) ⊎ (result ≡ 9) ⊎ (result ≡ 12)
-    reported good = within (λ n. (n ≡ 0) ⊎ (n ≡ 7) ⊎ (n ≡ 9) ⊎ (n ≡ 12))
-        (or (ap code) (or (ap code) (or (ap code) (ap code))) (commands.reported m old ran.mid ran.ended command good performed)) (inr (inr (inl refl)))
-
-    pub replayed : HasSchedule m.shelf command old.files → (result ≡ 0) ⊎ (result ≡ 5) ⊎ (result ≡ 8) ⊎ (result ≡ 9) ⊎ (result ≡ 12)
-    replayed good = within (λ n. (n ≡ 0) ⊎ (n ≡ 5) ⊎ (n ≡ 8) ⊎ (n ≡ 9) ⊎ (n ≡ 12))
-        (or (ap code) (or (ap code) (or (ap code) (or (ap code) (ap code)))) (commands.replayed m old ran.mid ran.ended command good performed))
-        (inr (inr (inr (inl refl))))
-
-    pub served : HasConsole m.shelf command old.files → (result ≡ 0) ⊎ (result ≡ 6) ⊎ (result ≡ 8) ⊎ (result ≡ 9) ⊎ (result ≡ 12)
-    served good = within (λ n. (n ≡ 0) ⊎ (n ≡ 6) ⊎ (n ≡ 8) ⊎ (n ≡ 9) ⊎ (n ≡ 12))
-        (or (ap code) (or (ap code) (or (ap code) (or (ap code) (ap code)))) (commands.served m old ran.mid ran.ended command good performed))
-        (inr (inr (inr (inl refl))))
-
-    pub shown_done : IsShownDone m.traffic command old.link new.link → (result ≡ 0) ⊎ (result ≡ 9)
-    shown_done shown = within (λ n. (n ≡ 0) ⊎ (n ≡ 9))
-        (inl (ap code (commands.shown_done m old ran.mid ran.ended command (subst (λ (l : L). IsShownDone m.traffic command old.link l) link shown) performed)))
-        (inr refl)
-
-    shown_at_end : IsShownCaughtUp m command old new → IsShownCaughtUp m command old ran.mid
-    shown_at_end shown = commands.same_shown m old new ran.mid command link shown
-
-    pub caught_up : IsShownCaughtUp m command old new
-        → (result ≡ 0) ⊎ (result ≡ 6) ⊎ (result ≡ 7) ⊎ (result ≡ 8) ⊎ (result ≡ 9) ⊎ (result ≡ 12)
-    caught_up shown = within (λ n. (n ≡ 0) ⊎ (n ≡ 6) ⊎ (n ≡ 7) ⊎ (n ≡ 8) ⊎ (n ≡ 9) ⊎ (n ≡ 12))
-        (or (ap code) (or (ap code) (or (ap code) (or (ap code) (or (ap code) (ap code))))) (commands.caught_up m old ran.mid ran.ended command (shown_at_end shown) performed))
-        (inr (inr (inr (inr (inl refl)))))
-
-    pub made : IsMake command → (result ≡ 0) ⊎ (result ≡ 9) ⊎ (result ≡ 12)
-    made makes = within (λ n. (n ≡ 0) ⊎ (n ≡ 9) ⊎ (n ≡ 12))
-        (or (ap code) (λ none. inr (ap code none)) (commands.made m old ran.mid ran.ended command makes performed)) (inr (inl refl))
-
-    pub shortage : IsTask command → Cause (m.traffic.shortages old.link) (m.traffic.shortages new.link) (result ≡ 12)
-    shortage task =
-        let c = commands.shortage m old ran.mid ran.ended command task performed in
-        subst (λ (l : L). Cause (m.traffic.shortages old.link) (m.traffic.shortages l) (result ≡ 12)) (sym link)
-        (record { never_falls = c.never_falls; rose = λ twelve. c.rose (short twelve) })
-
-    pub serving_shortage : IsServing command → result ≡ 12 → IsUntouchedOrShort m.traffic old.link new.link
-    serving_shortage serving twelve = subst (λ (l : L). IsUntouchedOrShort m.traffic old.link l) (sym link)
-        (commands.serving_shortage m old ran.mid ran.ended command serving performed (short twelve))

@@ -1,12 +1,12 @@
 -- What a run of a command does: which calls it makes, what it writes, and how it ends.
-use Rattle.std.specs.Prelude.{ℕ, ◌≡◌, Some, None, Err, codes, IsSomeAnd}
+use Rattle.std.specs.Prelude.{ℕ, ◌≡◌, [], ◌∷◌, Some, None, Err, codes, IsSomeAnd}
 use Rattle.std.specs.declared.option.Option.{Option}
 use Rattle.std.specs.declared.result.Result.{Result}
-use Rattle.disk_model.specs.Medium.{Medium}
+use Rattle.causes.specs.Cause.{Cause}
 use Rattle.serial_link.specs.Traffic.{Traffic}
-use Rattle.station_io.specs.Files.{Shelf}
 use Rattle.station_io.specs.Sink.{Outlet}
-use Rattle.command_words.specs.Command.{CommandLine, pages, corrected_pages, soft, task, report, replay, copy, station}
+use Rattle.command_words.specs.declared.task.Task.{Task}
+use Rattle.command_words.specs.Command.{CommandLine, ConsoleNames, pages, corrected_pages, soft, task, report, replay, copy, station}
 use Rattle.command_words.specs.Command.{console, make}
 use Rattle.commands.specs.CopyRun.{TellArchives, copies_on}
 use Rattle.commands.specs.GoodFile.{IsGoodFile}
@@ -16,10 +16,10 @@ use Rattle.commands.specs.SoftRun.{HasEntries, prints_soft}
 use Rattle.commands.specs.StationRun.{ShowsCaughtUp, catches_up}
 use Rattle.commands.specs.Style.{short}
 use Rattle.commands.specs.TaskRun.{ShowsDone, calls_for}
-use Rattle.model_commands.specs.ConsoleRun.{serves_files}
+use Rattle.model_commands.specs.ConsoleRun.{IsUntouchedOrShort, serves_files}
 use Rattle.model_commands.specs.MakeRun.{makes_run}
 use Rattle.model_commands.specs.ReplayRun.{HasGoodFiles, replays_files}
-use Rattle.run_output.specs.Ended.{Lines, output_of}
+use Rattle.run_output.specs.Ended.{IsOneOf, Lines, output_of}
 use Rattle.run_output.specs.Output.{EndsWith, Output}
 use Rattle.run_output.specs.Outside.{Meanings}
 use Rattle.run_output.specs.Reading.{IsAccepted}
@@ -63,53 +63,38 @@ pub record Performs {F K L D : Type 0} (m : Meanings F K L D) (command : Command
   pub alone : new ≡ record mid { out = new.out }
   pub written : EndsWith m.outlet (output_of ended) mid.out new.out result
 
--- what the command reads is told and good
-abbrev pub HasGoodInput : {F : Type 0} → Shelf F → CommandLine → F → Type 0
-HasGoodInput shelf (pages file) files = IsSomeAnd (shelf.held files file) IsGoodFile
-HasGoodInput shelf (corrected_pages settings file) files =
-    IsSomeAnd (shelf.held files settings) IsAccepted × IsSomeAnd (shelf.held files file) IsGoodFile
-HasGoodInput shelf (soft settings file) files = HasEntries shelf settings file files
-HasGoodInput shelf other files = ⊥
+-- A task that what was said and heard shows as done ends so, unless its line could not be written. It takes no memory: it ends for
+-- want of memory only where the link had none.
+pub record TaskPromises {L : Type 0} (traffic : Traffic L) (asked : Task) (old new : L) (result : ℕ) : Type 0 where
+  pub done : ShowsDone traffic asked old new → IsOneOf (0 ∷ 9 ∷ []) result
+  pub shortage : Cause (traffic.shortages old) (traffic.shortages new) (result ≡ 12)
 
--- the command is a replay, and both files are told and good
-abbrev pub HasSchedule : {F : Type 0} → Shelf F → CommandLine → F → Type 0
-HasSchedule shelf (replay settings schedule) files = HasGoodFiles shelf settings schedule files
-HasSchedule shelf other files = ⊥
+-- Under good settings a console is served after a good schedule, unless the outside or the memory fails. A console that was
+-- called takes no memory: before a call is waited for there may be none for the files or for the console.
+pub record ConsolePromises {F K L D : Type 0} (m : Meanings F K L D) (names : ConsoleNames) (old new : Outside F K L D)
+    (result : ℕ) : Type 0 where
+  pub served : HasGoodFiles m.shelf names.settings names.schedule old.files → IsOneOf (0 ∷ 6 ∷ 8 ∷ 9 ∷ 12 ∷ []) result
+  pub shortage : result ≡ 12 → IsUntouchedOrShort m.traffic old.link new.link
 
--- the command serves a console, and both files are told and good
-abbrev pub HasConsole : {F : Type 0} → Shelf F → CommandLine → F → Type 0
-HasConsole shelf (console names) files = HasGoodFiles shelf names.settings names.schedule files
-HasConsole shelf other files = ⊥
-
--- the command is a report, over a disk that tells an archive, or a copy over two that tell archives
-abbrev pub HasArchive : {D : Type 0} → Medium D → CommandLine → D → D → Type 0
-HasArchive medium (report archive wanted) disk second = TellsArchive medium disk
-HasArchive medium (copy from to) disk second = TellArchives medium disk second
-HasArchive medium other disk second = ⊥
-
--- the command is a task, and what the link gained shows that it is done
-abbrev pub IsShownDone : {L : Type 0} → Traffic L → CommandLine → L → L → Type 0
-IsShownDone traffic (task address asked) old new = ShowsDone traffic asked old new
-IsShownDone traffic other old new = ⊥
-
--- the command is a round, its settings are told and accepted, and archive and talk show that the round is done
-abbrev pub IsShownCaughtUp : {F K L D : Type 0} → Meanings F K L D → CommandLine → Outside F K L D → Outside F K L D → Type 0
-IsShownCaughtUp m (station names) old new =
+-- What a command comes to by good input, or by a talk that shows it: it is done, a schedule is replayed to its end or to a delivery
+-- that was unseen, and only such a fault of the outside or want of memory keeps the command from that.
+abbrev pub Promises : {F K L D : Type 0} → Meanings F K L D → CommandLine → Outside F K L D → Outside F K L D → ℕ → Type 0
+Promises m (pages file) old new result =
+    IsSomeAnd (m.shelf.held old.files file) IsGoodFile → IsOneOf (0 ∷ 8 ∷ 9 ∷ 12 ∷ []) result
+Promises m (corrected_pages settings file) old new result =
+    IsSomeAnd (m.shelf.held old.files settings) IsAccepted → IsSomeAnd (m.shelf.held old.files file) IsGoodFile
+    → IsOneOf (0 ∷ 8 ∷ 9 ∷ 12 ∷ []) result
+Promises m (soft settings file) old new result =
+    HasEntries m.shelf settings file old.files → IsOneOf (0 ∷ 8 ∷ 9 ∷ 12 ∷ []) result
+Promises m (task address asked) old new result = TaskPromises m.traffic asked old.link new.link result
+Promises m (report archive wanted) old new result =
+    TellsArchive m.medium old.disk → IsOneOf (0 ∷ 7 ∷ 9 ∷ 12 ∷ []) result
+Promises m (replay settings schedule) old new result =
+    HasGoodFiles m.shelf settings schedule old.files → IsOneOf (0 ∷ 5 ∷ 8 ∷ 9 ∷ 12 ∷ []) result
+Promises m (copy from to) old new result =
+    TellArchives m.medium old.disk old.second → IsOneOf (0 ∷ 7 ∷ 9 ∷ 12 ∷ []) result
+Promises m (station names) old new result =
     IsSomeAnd (m.shelf.held old.files names.settings) IsAccepted
-    × ShowsCaughtUp m.traffic m.medium old.disk old.link new.link
-IsShownCaughtUp m other old new = ⊥
-
--- the command is a task
-abbrev pub IsTask : CommandLine → Type 0
-IsTask (task address asked) = Unit {0}
-IsTask other = ⊥
-
--- the command serves a console
-abbrev pub IsServing : CommandLine → Type 0
-IsServing (console names) = Unit {0}
-IsServing other = ⊥
-
--- the command makes a schedule
-abbrev pub IsMake : CommandLine → Type 0
-IsMake (make seed records) = Unit {0}
-IsMake other = ⊥
+    → ShowsCaughtUp m.traffic m.medium old.disk old.link new.link → IsOneOf (0 ∷ 6 ∷ 7 ∷ 8 ∷ 9 ∷ 12 ∷ []) result
+Promises m (console names) old new result = ConsolePromises m names old new result
+Promises m (make seed records) old new result = IsOneOf (0 ∷ 9 ∷ 12 ∷ []) result

@@ -1,11 +1,10 @@
-ghost use Rattle.std.specs.Prelude.{◌≡◌, ◌≢◌, ◌⊎◌, ◌<◌, ◌≤◌, ◌^◌, IfSome, IfNone};
+ghost use Rattle.std.specs.Prelude.{◌≡◌, ◌≢◌, ◌<◌, ◌≤◌, ◌^◌, IfSome, IfNone};
 ghost use Rattle.causes.specs.Cause.{Cause};
 ghost use Rattle.command_words.specs.Command.{command_of, command_read, line_of, texts};
 ghost use Rattle.command_words.specs.Possible.{IsPossible};
-ghost use Rattle.model_commands.specs.ConsoleRun.{IsUntouchedOrShort};
 ghost use Rattle.run_output.specs.Causes.{RoseOnOne, WentWell};
 ghost use Rattle.run_output.specs.Outside.{means};
-ghost use Rattle.station_top.specs.Run.{HasArchive, HasConsole, HasGoodInput, HasSchedule, IsMake, IsServing, IsShownCaughtUp, IsShownDone, IsTask, IsUsage, Performs, performs_words};
+ghost use Rattle.station_top.specs.Run.{IsUsage, Performs, Promises, performs_words};
 
 use command_words::Command;
 use commands::{call_for, catch_up, copy_files, corrected_pages, print_file, report, soft_rows};
@@ -44,14 +43,6 @@ pub fn run<F: Files, K: Sink, L: Link, D: Disk>(
     ensures disk_never_falls { D.medium.faults outside.old.disk ≤ D.medium.faults outside.new.disk }
     ensures second_never_falls { D.medium.faults outside.old.second ≤ D.medium.faults outside.new.second }
 
-    // A task takes no memory: it ends for want of it only where the link had none.
-    ensures shortage { IfSome (command_of (texts words.now)) (λ command. IsTask command
-        → Cause (L.traffic.shortages outside.old.link) (L.traffic.shortages outside.new.link) (result ≡ 12)) }
-
-    // A console that was called takes none either. Before a call is waited for there may be none for the files or for the console.
-    ensures serving_shortage { IfSome (command_of (texts words.now)) (λ command. IsServing command
-        → result ≡ 12 → IsUntouchedOrShort L.traffic outside.old.link outside.new.link) }
-
     // Where none is answered, no fault was counted. A read fault whose line could not be written ends with 9.
     ensures files_still { result ≢ 8 → result ≢ 9 → F.shelf.faults outside.new.files ≡ F.shelf.faults outside.old.files }
     ensures sink_still { result ≢ 9 → K.outlet.faults outside.new.out ≡ K.outlet.faults outside.old.out }
@@ -60,34 +51,9 @@ pub fn run<F: Files, K: Sink, L: Link, D: Disk>(
     ensures disk_well { result ≢ 7 → result ≢ 9 → WentWell D.medium outside.old.disk outside.new.disk }
     ensures second_well { result ≢ 7 → result ≢ 9 → WentWell D.medium outside.old.second outside.new.second }
 
-    // Over good input only such a fault and want of memory keep the command from being done.
-    ensures complete { IfSome (command_of (texts words.now)) (λ command. HasGoodInput F.shelf command outside.old.files
-        → (result ≡ 0) ⊎ (result ≡ 8) ⊎ (result ≡ 9) ⊎ (result ≡ 12)) }
-    ensures reported { IfSome (command_of (texts words.now)) (λ command.
-        HasArchive D.medium command outside.old.disk outside.old.second
-        → (result ≡ 0) ⊎ (result ≡ 7) ⊎ (result ≡ 9) ⊎ (result ≡ 12)) }
-
-    // A schedule that is accepted is replayed to its end, or to a delivery that was unseen.
-    ensures replayed { IfSome (command_of (texts words.now)) (λ command. HasSchedule F.shelf command outside.old.files
-        → (result ≡ 0) ⊎ (result ≡ 5) ⊎ (result ≡ 8) ⊎ (result ≡ 9) ⊎ (result ≡ 12)) }
-
-    // Under good settings a console is served after a good schedule, unless the outside or the memory fails.
-    ensures served { IfSome (command_of (texts words.now)) (λ command. HasConsole F.shelf command outside.old.files
-        → (result ≡ 0) ⊎ (result ≡ 6) ⊎ (result ≡ 8) ⊎ (result ≡ 9) ⊎ (result ≡ 12)) }
-
-    // A task that what was said and heard shows as done ends so, unless its line could not be written.
-    ensures done { IfSome (command_of (texts words.now)) (λ command.
-        IsShownDone L.traffic command outside.old.link outside.new.link → (result ≡ 0) ⊎ (result ≡ 9)) }
-
-    // A round that archive and talk show as done ends so, unless the link, the disk, the files or the sink failed, or
-    // memory was wanting.
-    ensures caught_up { IfSome (command_of (texts words.now)) (λ command.
-        IsShownCaughtUp (means F.shelf K.outlet L.traffic D.medium) command outside.old outside.new
-        → (result ≡ 0) ⊎ (result ≡ 6) ⊎ (result ≡ 7) ⊎ (result ≡ 8) ⊎ (result ≡ 9) ⊎ (result ≡ 12)) }
-
-    // A schedule that is made from a number is run to its end.
-    ensures made { IfSome (command_of (texts words.now)) (λ command. IsMake command
-        → (result ≡ 0) ⊎ (result ≡ 9) ⊎ (result ≡ 12)) }
+    // Over good input the command is done, unless the outside failed or memory was wanting.
+    ensures promised { IfSome (command_of (texts words.now)) (λ command.
+        Promises (means F.shelf K.outlet L.traffic D.medium) command outside.old outside.new result) }
 {
     let ended = perform(alloc, Command::read(words), outside);
     finish(ended, &mut outside.out).number()
