@@ -1,5 +1,6 @@
 -- Files and a sink in memory.
-use Rattle.std.specs.Prelude.{ℕ, ◌≡◌, ◌+◌, ◌-◌, ◌^◌, ◌↔◌, ◌||◌, Bool, ◌==◌, min, List, Some, is_none, IsTrue}
+use Rattle.std.specs.Prelude.{ℕ, ◌≡◌, ◌+◌, ◌-◌, ◌^◌, ◌↔◌, ◌||◌, Bool, ◌==◌, min, List, ◌++◌, Some, is_none, IsTrue}
+use Rattle.std.proofs.Common.{sym, ap, ◌∙◌, append-nil, append_assoc}
 use Rattle.std.specs.List.{list_any}
 use Rattle.station_io.specs.declared.files.TextRead.{TextRead}
 use Rattle.station_io.specs.declared.files.TextRead.TheVariants.{Failed}
@@ -42,4 +43,10 @@ pub record Bucket : Type 0 where
 
 -- what a sink in memory tells: all of it
 abbrev pub bucket_outlet : Outlet Bucket
-bucket_outlet = record { taken = λ bucket. Some bucket.bytes; faults = λ bucket. bucket.faults }
+bucket_outlet = record {
+  taken = λ bucket. Some bucket.bytes;
+  faults = λ bucket. bucket.faults;
+  wrote = λ old bytes new. new.bytes ≡ old.bytes ++ bytes;
+  wrote_none = λ bucket. sym (append-nil bucket.bytes);
+  wrote_joins = λ s t u xs ys one two. two ∙ ap (λ (bytes : List ℕ). bytes ++ ys) one ∙ append_assoc s.bytes xs ys;
+}

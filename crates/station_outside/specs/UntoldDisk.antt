@@ -1,5 +1,5 @@
 -- A disk that tells nothing of what its file holds, nor of what a crash leaves.
-use Rattle.std.specs.Prelude.{ℕ, ◌≡◌, List, Option, None, Some}
+use Rattle.std.specs.Prelude.{ℕ, ◌≡◌, None, Some}
 use Rattle.disk_model.specs.Medium.{Medium}
 
 -- what is not told is no value

@@ -1,6 +1,7 @@
-ghost use Rattle.std.specs.Prelude.{◌≡◌, ◌≢◌, None};
+ghost use Rattle.std.specs.Prelude.{◌≡◌, ◌≢◌};
 ghost use Rattle.std.specs.Io.KnownBytes.{Appends};
 ghost use Rattle.causes.specs.Written.{WritesPart};
+ghost use Rattle.station_outside.specs.UntoldSink.{untold_outlet};
 
 use crate::outcome::{Outcome, understand};
 use causes::raised;
@@ -22,9 +23,9 @@ impl<'a, R> StdSink<'a, R> {
 }
 
 impl<R: Print> Sink for StdSink<'_, R> {
-    ghost outlet = { record { taken = λ _. None; faults = λ sink. sink.faults } };
+    ghost outlet = { untold_outlet (λ sink. sink.faults) };
 
-    #[tactic(auto, using(causes::proofs::Writing::writes_nothing))]
+    #[tactic(auto, using(causes::proofs::Writing::writes_nothing, crate::proofs::SinkWrites::some_written))]
     fn put(&mut self, bytes: &[u8]) -> Put {
         let answer = write_whole(&mut io::writer(self.runtime), bytes);
         if answer == Put::Failed {
