@@ -17,7 +17,7 @@ use Rattle.schedule_replay.specs.Stops.{stop_set}
 use Rattle.schedule_replay.proofs.Accepting.{falling_accepted}
 use Rattle.schedule_replay.proofs.Falling.{AllFall, MidsFall, lines_in}
 use Rattle.archive_record.proofs.Stamping.{IsNumbered, numbered_after}
-use Rattle.made_run.specs.Draws.{drawn, next}
+use Rattle.draws.specs.Draws.{drawn, next}
 use Rattle.made_run.specs.Made.{after_rounds, details_of, due_after, due_row, due_step, first_due, host_lost, is_round, kind_drawn, made_steps, reply_cut, reply_late, rounds_behind, steps_from, stop_drawn, stop_of}
 
 -- 2024-01-01 is day 19,723

@@ -11,7 +11,7 @@ use Rattle.schedule_file.specs.declared.schedule.step.Step as code_step
 use Rattle.schedule_file.specs.declared.schedule.step.Step.TheVariants as code
 use Rattle.schedule_file.specs.Steps.{Step, DueStep, step_seen, steps_seen}
 use Rattle.archive_record.proofs.Stamping.{same_minute}
-use Rattle.made_run.specs.Draws.{drawn, next}
+use Rattle.draws.specs.Draws.{drawn, next}
 use Rattle.made_run.specs.Made.{after_rounds, due_after, due_step, due_values, first_due, is_round, plain_round, rounds_behind, steps_from}
 use Rattle.made_run.proofs.Falling.{due_numbered}
 

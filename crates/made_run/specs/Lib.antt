@@ -1,4 +1,3 @@
 pub mod CountsRun
-pub mod Draws
 pub mod Made
 pub mod MakeEnd

@@ -11,7 +11,7 @@ use Rattle.schedule_file.specs.declared.schedule.step.Stop.{Stop}
 use Rattle.schedule_file.specs.Forms.{no_values}
 use Rattle.schedule_file.specs.Steps.{Details, Step, DueStep, RoundStep, no_details}
 use Rattle.archive_record.specs.MovedOn.{minute_numbered}
-use Rattle.made_run.specs.Draws.{drawn, next}
+use Rattle.draws.specs.Draws.{drawn, next}
 
 -- 2024-01-01 00:05
 abbrev pub first_due : CivilMinute

@@ -1,7 +1,6 @@
 //! Makes a schedule from a number, and runs it to counts.
 #![tactic(auto)]
 
-mod draws;
 mod making;
 mod record;
 mod round;

@@ -3,10 +3,10 @@ ghost use Rattle.archive_record.specs.Reading.{reading};
 ghost use Rattle.archive_record.specs.declared.record_read.RecordRead.{RecordRead};
 ghost use Rattle.station_base.specs.Fields.{field_named};
 ghost use Rattle.schedule_file.specs.Forms.{no_values};
-ghost use Rattle.made_run.specs.Draws.{drawn, next};
+ghost use Rattle.draws.specs.Draws.{drawn, next};
 ghost use Rattle.made_run.specs.Made.{due_values, first_due, with_value};
 
-use crate::draws::Draws;
+use draws::Draws;
 use archive_record::{Rec52, RecordRead, read, write};
 use station_base::{FIELD_COUNT, FieldId, Period, Row, Stamp};
 

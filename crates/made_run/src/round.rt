@@ -1,9 +1,9 @@
 ghost use Rattle.std.specs.Prelude.{◌≡◌, ◌<◌, ◌^◌, ℕ, IfOk, OnOk};
 ghost use Rattle.schedule_file.specs.Steps.{details_seen, step_seen};
-ghost use Rattle.made_run.specs.Draws.{next};
+ghost use Rattle.draws.specs.Draws.{next};
 ghost use Rattle.made_run.specs.Made.{after_kind, details_of, kind_drawn, plain_round, round_of, stop_of};
 
-use crate::draws::Draws;
+use draws::Draws;
 use causes::OutOfMemory;
 use schedule_file::{Fate, Fates, Step, Stop};
 use std::alloc::Global;

@@ -3,7 +3,7 @@ use Rattle.station_base.proofs.Minutes.{last_minute_number}
 use Rattle.schedule_file.specs.declared.schedule.step.Step as code_step
 use Rattle.schedule_file.specs.declared.schedule.step.Step.TheVariants as code
 use Rattle.schedule_file.specs.Steps.{Step, step_seen, steps_seen}
-use Rattle.made_run.specs.Draws.{next}
+use Rattle.draws.specs.Draws.{next}
 use Rattle.made_run.specs.Made.{after_kind, after_rounds, is_round, kind_drawn, made_steps, round_of, rounds_behind, steps_from}
 use Rattle.made_run.proofs.Falling.{first_due_number}
 use Rattle.made_run.proofs.Stepwise.{due_seen, record_made, round_made}

@@ -1,4 +1,4 @@
--- The numbers that a made schedule is drawn from. (This project's own.)
+-- The numbers that are drawn behind a seed: the generator that ISO C gives as its example of rand, modulo 2 ^ 31.
 use Rattle.std.specs.Prelude.{ℕ, ◌+◌, ◌*◌, ◌/◌, ◌%◌, ◌^◌}
 
 -- the number behind another
