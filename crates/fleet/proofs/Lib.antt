@@ -1,0 +1,9 @@
+pub mod Alone
+pub mod FleetEnded
+pub mod Fronts
+pub mod LogSteps
+pub mod LogText
+pub mod NewCrew
+pub mod OneStation
+pub mod PutPieces
+pub mod Stations

@@ -1,0 +1,43 @@
+-- How the turns of all stations end.
+use Rattle.std.specs.Prelude.{ℕ, ◌≡◌, ◌≢◌, List, [], ◌∷◌, ◌++◌, length, slice_index_or, Some}
+use Rattle.causes.specs.Cause.{Cause}
+use Rattle.station_io.specs.Sink.{Outlet}
+use Rattle.fleet.specs.declared.member.MemberTurn.{MemberTurn}
+use Rattle.fleet.specs.declared.member.MemberTurn.TheVariants as member
+use Rattle.fleet.specs.declared.run.FleetEnd.{FleetEnd}
+use Rattle.fleet.specs.declared.run.FleetEnd.TheVariants as fleet
+use Rattle.fleet.specs.Crew.{Crew}
+use Rattle.fleet.specs.Log.{Along, AreDrawn, IsUncut, switches_in}
+use Rattle.fleet.specs.MemberTurns.{Turning}
+use Rattle.fleet.specs.OpenStations.{least_unseen, open_from}
+use Rattle.fleet.specs.TurnText.{AreTextsOf, Entry}
+
+-- the last turn gave this answer
+abbrev pub EndsWith : {K : Type 0} → MemberTurn → List (Entry K) → Type 0
+EndsWith {K} answer log = (front : List (Entry K)) × (e : Entry K) × (log ≡ front ++ e ∷ []) × (e.answer ≡ answer)
+
+-- each station's last answer is Ended
+abbrev pub AllEnded : List MemberTurn → Type 0
+AllEnded last = (k : ℕ) → slice_index_or last k member.Ended ≡ member.Ended
+
+-- what the end says of the turns, and of the last answers
+abbrev pub EndsAs : {K : Type 0} → FleetEnd → List (Entry K) → List MemberTurn → Type 0
+EndsAs (fleet.Done turns switches) log last = (turns ≡ length log) × (switches ≡ switches_in log) × AllEnded last
+EndsAs (fleet.Unseen station) log last =
+    (open_from 1 last ≡ []) × (least_unseen 1 last ≡ Some station) × IsUncut last
+EndsAs fleet.WriteFault log last = EndsWith member.WriteFault log
+EndsAs fleet.OutOfMemory log last = EndsWith member.OutOfMemory log
+
+-- The turns went to the stations that were drawn behind the seed, and what they wrote was written in their order. A
+-- write fault is answered only where the sink's faults rose.
+pub record RunsFleet {M K : Type 0} (turning : Turning M) (outlet : Outlet K) (seed : ℕ) (old : Crew M) (before : K)
+    (end : FleetEnd) (new : Crew M) (after : K) : Type 0 where
+  pub log : List (Entry K)
+  pub turns : Along turning outlet old before log new after
+  pub drawn : AreDrawn seed old.last log
+  pub text : List ℕ
+  pub texts : AreTextsOf outlet log text
+  pub wrote : outlet.wrote before text after
+  pub ends : EndsAs end log new.last
+  pub cause : Cause (outlet.faults before) (outlet.faults after) (end ≡ fleet.WriteFault)
+  pub still : end ≢ fleet.WriteFault → outlet.faults after ≡ outlet.faults before

@@ -1,0 +1,9 @@
+pub mod Crew
+pub mod FleetEnds
+pub mod Lines
+pub mod Log
+pub mod MemberTurns
+pub mod NumberedSink
+pub mod OpenStations
+pub mod PenLaws
+pub mod TurnText

@@ -1,0 +1,23 @@
+ghost use Rattle.std.specs.Prelude.{ℕ, List, ◌≤◌};
+ghost use Rattle.fleet.specs.Crew.{Crew};
+ghost use Rattle.fleet.specs.Log.{Along, IsAlone};
+ghost use Rattle.fleet.specs.TurnText.{AreTextsOf, Entry};
+
+use crate::member::Member;
+use station_io::Sink;
+
+/// The turns of other stations have no effect on a station: it is its opening member after its own turns, with their
+/// answers and what they wrote.
+#[tactic(auto, using(crate::proofs::Alone::alone))]
+pub fn each_station_is_alone<M: Member, K: Sink>()
+    ensures { (old new : Crew M) (before after : K) (log : List (Entry K)) (station : ℕ) → 1 ≤ station
+        → Along M.turning K.outlet old before log new after → IsAlone M.turning K.outlet old log new station }
+{}
+
+/// Whatever each of the turns wrote, the sink took it in their order, each line with the number of its station.
+#[tactic(auto, using(crate::proofs::LogText::wrote_along))]
+pub fn what_turns_write_is_written<M: Member, K: Sink>()
+    ensures { (old new : Crew M) (before after : K) (log : List (Entry K)) (text : List ℕ)
+        → Along M.turning K.outlet old before log new after → AreTextsOf K.outlet log text
+        → K.outlet.wrote before text after }
+{}
