@@ -1,11 +1,13 @@
 -- How a report ends, by what came of the text that waited.
-use Rattle.std.proofs.Common.{◌≡◌, ◌≢◌, ◌⊎◌, ℕ, true, false, List, [], refl, sym, subst, ⊎_elim}
+use Rattle.std.proofs.Common.{◌≡◌, ◌≢◌, ◌⊎◌, ℕ, true, false, List, [], ◌++◌, Some, refl, sym, ap, subst, ⊎_elim}
 use Rattle.std.specs.declared.option.Option.{Option}
 use Rattle.std.specs.Io.KnownBytes.{Appends}
+use Rattle.causes.specs.Lists.{IsFrontOf}
 use Rattle.causes.specs.Written.{WritesPart}
 use Rattle.weather_reports.specs.declared.end.ReportEnd.{ReportEnd}
 use Rattle.weather_reports.specs.declared.end.ReportEnd.TheVariants.{Done, DiskFault, WriteFault}
 use Rattle.weather_reports.specs.Reported.{AsFailed, Reports}
+use Rattle.weather_reports.proofs.Behind.{part_behind}
 use Rattle.weather_reports.proofs.Progress.{Comes, comes_front, comes_short, comes_whole}
 
 -- what came of the writing of a text before an end
@@ -13,6 +15,15 @@ pub record Finishes (old new : Option (List ℕ)) (pending : List ℕ) (end resu
   pub done : result ≢ WriteFault → Appends old new pending
   pub failed : result ≡ WriteFault → WritesPart old new pending
   pub kind : (result ≡ end) ⊎ (result ≡ WriteFault)
+
+-- what waited was written behind other bytes
+pub finishes_behind : (before pending written : List ℕ) (end result : ReportEnd) → IsFrontOf written pending → (result ≢ WriteFault → written ≡ pending)
+    → (result ≡ end) ⊎ (result ≡ WriteFault) → Finishes (Some before) (Some (before ++ written)) pending end result
+finishes_behind before pending written end result front whole kind = record {
+  done = λ no. ap (λ (text : List ℕ). before ++ text) (whole no);
+  failed = λ _. part_behind before written pending front;
+  kind = kind;
+}
 
 -- no lines were ahead
 pub ends_whole : (old now new : Option (List ℕ)) (lines : List (List ℕ)) (pending : List ℕ) (result : ReportEnd) →

@@ -1,4 +1,5 @@
 pub mod Held
+pub mod Behind
 pub mod Lines
 pub mod Progress
 pub mod Ends

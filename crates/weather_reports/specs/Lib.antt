@@ -3,4 +3,5 @@ pub mod Months
 pub mod Report
 pub mod Begun
 pub mod Reported
+pub mod Wrote
 pub mod Recomputed

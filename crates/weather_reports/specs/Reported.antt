@@ -1,5 +1,5 @@
 -- What a report writes, by its end.
-use Rattle.std.specs.Prelude.{ℕ, ◌≡◌, ◌+◌, ◌*◌, Bool, true, false, List, flat_map}
+use Rattle.std.specs.Prelude.{ℕ, ◌≡◌, ◌+◌, ◌*◌, Bool, true, false, List, [], Some, flat_map}
 use Rattle.std.specs.declared.option.Option.{Option}
 use Rattle.std.specs.Io.KnownBytes.{Appends}
 use Rattle.causes.specs.Lists.{IsFrontOf}
@@ -20,6 +20,10 @@ abbrev pub Reports : Option (List ℕ) → Option (List ℕ) → List (List ℕ)
 Reports old new lines Done = Appends old new (text_of lines)
 Reports old new lines DiskFault = (front : List (List ℕ)) × IsFrontOf front lines × Appends old new (text_of front)
 Reports old new lines WriteFault = WritesPart old new (text_of lines)
+
+-- these bytes are what a report of the lines writes, by its end
+abbrev pub IsReport : List (List ℕ) → ReportEnd → List ℕ → Type 0
+IsReport lines end written = Reports (Some []) (Some written) lines end
 
 -- whether a read failed, by the end
 abbrev pub AsFailed : ReportEnd → Bool → Type 0

@@ -6,7 +6,8 @@ ghost use Rattle.station_base.specs.declared.row.Row.{Row};
 ghost use Rattle.weather_book.specs.Book.{StandsFor};
 ghost use Rattle.weather_book.specs.Stands.{StandsToReadOn};
 ghost use Rattle.weather_reports.specs.Report.{month_table_lines};
-ghost use Rattle.weather_reports.specs.Reported.{ReadsOver, Reports};
+ghost use Rattle.weather_reports.specs.Reported.{IsReport, ReadsOver, Reports};
+ghost use Rattle.weather_reports.specs.Wrote.{Wrote};
 
 use crate::ReportEnd;
 use crate::days::{is_among, summary_of};
@@ -29,6 +30,7 @@ pub fn month_table<D: Disk, K: Sink>(
     ensures lines { (rows : List Row) → StandsToReadOn D.medium book.now disk.old rows
         → WhereTold (D.medium.seen disk.old) (λ _. Reports (K.outlet.taken out.old) (K.outlet.taken out.new)
         (month_table_lines first last rows) result) }
+    ensures wrote { Wrote K.outlet D.medium book.now disk.old (λ rows. IsReport (month_table_lines first last rows) result) out.old out.new }
     ensures stays { Stays D.medium disk.old disk.new }
     ensures went { (rows : List Row) → StandsFor book.now rows → ReadsOver D.medium rows result disk.old disk.new }
     ensures disk_fault { Faults D.medium disk.old disk.new (result ≡ ReportEnd.DiskFault) }

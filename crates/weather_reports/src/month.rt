@@ -9,6 +9,7 @@ ghost use Rattle.daily_summary.specs.Summary.{rows_of_day, summary_of};
 ghost use Rattle.weather_reports.specs.Begun.{Grows, IsBegun, IsInOrder, begun_lines};
 ghost use Rattle.weather_reports.specs.Months.{is_of_month, month_text};
 ghost use Rattle.weather_reports.specs.Reported.{text_of};
+ghost use Rattle.weather_reports.specs.Wrote.{Prints};
 
 use crate::printing::{PIECE, Pending, print_sums};
 use daily_summary::DaySummary;
@@ -83,6 +84,7 @@ pub fn print_month<K: Sink>(pending: &mut Pending, month: &Option<Month>, out: &
         (pending.old.items ++ text_of (begun_lines month.now)) pending.new.items }
     ensures failed { result ≡ Put.Failed → WritesPart (K.outlet.taken out.old) (K.outlet.taken out.new)
         (pending.old.items ++ text_of (begun_lines month.now)) }
+    ensures wrote { Prints K.outlet result (pending.old.items ++ text_of (begun_lines month.now)) pending.new.items out.old out.new }
     ensures cause { Cause (K.outlet.faults out.old) (K.outlet.faults out.new) (result ≡ Put.Failed) }
     ensures still { result ≢ Put.Failed → K.outlet.faults out.new ≡ K.outlet.faults out.old }
 {

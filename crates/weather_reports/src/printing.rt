@@ -7,6 +7,7 @@ ghost use Rattle.station_base.specs.RowLine.{row_line};
 ghost use Rattle.weather_book.specs.Adding.{AreLimited, ArePrintable};
 ghost use Rattle.weather_reports.specs.Line.{lines_from};
 ghost use Rattle.weather_reports.specs.Reported.{text_of};
+ghost use Rattle.weather_reports.specs.Wrote.{Flushes, Prints};
 
 use crate::ReportEnd;
 use crate::line::sum_line;
@@ -30,6 +31,7 @@ pub fn finish<K: Sink>(pending: &[u8], end: ReportEnd, out: &mut K) -> ReportEnd
     ensures failed { result ≡ ReportEnd.WriteFault → end ≢ ReportEnd.WriteFault
         → WritesPart (K.outlet.taken out.old) (K.outlet.taken out.new) pending.now }
     ensures kind { (result ≡ end) ⊎ (result ≡ ReportEnd.WriteFault) }
+    ensures wrote { Flushes K.outlet result pending.now out.old out.new }
     ensures cause { Cause (K.outlet.faults out.old) (K.outlet.faults out.new) (result ≢ end) }
     ensures still { result ≢ ReportEnd.WriteFault → K.outlet.faults out.new ≡ K.outlet.faults out.old }
 {
@@ -51,6 +53,7 @@ pub fn print_line<K: Sink>(pending: &mut Pending, line: &[u8], out: &mut K) -> P
         → Leaves (K.outlet.taken out.old) (K.outlet.taken out.new) (pending.old.items ++ line.now) pending.new.items }
     ensures failed { result ≡ Put.Failed
         → WritesPart (K.outlet.taken out.old) (K.outlet.taken out.new) (pending.old.items ++ line.now) }
+    ensures wrote { Prints K.outlet result (pending.old.items ++ line.now) pending.new.items out.old out.new }
     ensures cause { Cause (K.outlet.faults out.old) (K.outlet.faults out.new) (result ≡ Put.Failed) }
     ensures still { result ≢ Put.Failed → K.outlet.faults out.new ≡ K.outlet.faults out.old }
 {
@@ -73,6 +76,7 @@ pub fn print_rows<K: Sink>(pending: &mut Pending, rows: &[Row], out: &mut K) -> 
         (pending.old.items ++ text_of (map row_line rows.now)) pending.new.items }
     ensures failed { result ≡ Put.Failed → WritesPart (K.outlet.taken out.old) (K.outlet.taken out.new)
         (pending.old.items ++ text_of (map row_line rows.now)) }
+    ensures wrote { Prints K.outlet result (pending.old.items ++ text_of (map row_line rows.now)) pending.new.items out.old out.new }
     ensures cause { Cause (K.outlet.faults out.old) (K.outlet.faults out.new) (result ≡ Put.Failed) }
     ensures still { result ≢ Put.Failed → K.outlet.faults out.new ≡ K.outlet.faults out.old }
 {
@@ -99,6 +103,7 @@ pub fn print_sums<K: Sink>(
         (pending.old.items ++ text_of (lines_from head.now 0 sums.now)) pending.new.items }
     ensures failed { result ≡ Put.Failed → WritesPart (K.outlet.taken out.old) (K.outlet.taken out.new)
         (pending.old.items ++ text_of (lines_from head.now 0 sums.now)) }
+    ensures wrote { Prints K.outlet result (pending.old.items ++ text_of (lines_from head.now 0 sums.now)) pending.new.items out.old out.new }
     ensures cause { Cause (K.outlet.faults out.old) (K.outlet.faults out.new) (result ≡ Put.Failed) }
     ensures still { result ≢ Put.Failed → K.outlet.faults out.new ≡ K.outlet.faults out.old }
 {

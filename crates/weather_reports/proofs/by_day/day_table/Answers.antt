@@ -1,19 +1,16 @@
-use Rattle.std.proofs.Common.{◌≡◌, ◌+◌, ◌∙◌, ℕ, List, length, drop, refl, sym, ap, arith, ◌*◌, true, false}
+use Rattle.std.proofs.Common.{◌≡◌, ◌+◌, ◌∙◌, length, refl, sym, ap, arith, ◌*◌, true, false, [], Some}
 use Rattle.std.proofs.lemmas.List.{drop_all}
-use Rattle.std.specs.Prelude.{filter, flat_map}
 use Rattle.disk_model.specs.Disk.{stays_none, stays_joins}
-use Rattle.daily_summary.specs.declared.summary.DaySummary.{DaySummary}
-use Rattle.daily_summary.specs.Summary.{rows_of_day, summary_of}
 use Rattle.weather_book.specs.Days.{days_of}
 use Rattle.weather_book.specs.Rows.{slot_total}
 use Rattle.weather_book.proofs.Looks.{no_look}
 use Rattle.weather_book.proofs.Pieces.{more_reads}
 use Rattle.weather_book.proofs.Standing.{to_read_stays}
-use Rattle.weather_reports.specs.Line.{lines_of}
-use Rattle.weather_reports.specs.Report.{day_lines, day_table_lines, is_among}
-use Rattle.weather_reports.proofs.Progress.{comes_none, comes_on, comes_fails}
-use Rattle.weather_reports.proofs.Ends.{ends_early, ends_whole, none_failed, one_failed}
-use Rattle.weather_reports.proofs.NextDay.{day_passed, day_taken}
+use Rattle.weather_reports.specs.Report.{day_table_lines, is_among}
+use Rattle.weather_reports.proofs.Behind.{leaves_behind, part_behind, wrote_as, wrote_more, wrote_nothing}
+use Rattle.weather_reports.proofs.Progress.{comes_none}
+use Rattle.weather_reports.proofs.Ends.{ends_early, ends_whole, finishes_behind, none_failed, one_failed}
+use Rattle.weather_reports.proofs.NextDay.{day_comes, day_fails, day_passed}
 use Rattle.weather_reports.proofs.by_day.day_table.Goals as goal
 
 pub loop-n-init : goal.loop-n-init
@@ -25,6 +22,8 @@ loop-n-init g c = record {
   went = λ rows stands. no_look g.D.Disk.medium (176 * (slot_total rows + 1)) c.args.disk.now;
   lines = λ rows stands x told.
       rw c.new-pending.ensures (comes_none (g.K.Sink.outlet.taken c.args.out.now) (day_table_lines c.args.first c.args.last rows));
+  wrote = wrote_nothing g.K.Sink.outlet g.D.Disk.medium c.args.book.now c.args.disk.now _ c.args.out.now (λ rows stands x told.
+      rw c.new-pending.ensures (comes_none (Some []) (day_table_lines c.args.first c.args.last rows)));
 }
 
 pub loop-n-preserved-then-not-is_among : goal.loop-n-preserved-then-not-is_among
@@ -39,6 +38,9 @@ loop-n-preserved-then-not-is_among g c =
       lines = λ rows stands x told.
           rw (day_passed (is_among c.args.first c.args.last) (days_of rows) c.loop-n.n c.day_at-day.result.0
           (c.day_at-day.ensures.day rows stands.stands_for) (sym c.is_among.ensures ∙ c.if-not-is_among.true)) at (i.lines rows stands x told);
+      wrote = wrote_as g.K.Sink.outlet g.D.Disk.medium c.args.book.now c.args.disk.now _ _ _ _ i.wrote (λ rows stands x told w before.
+          rw (day_passed (is_among c.args.first c.args.last) (days_of rows) c.loop-n.n c.day_at-day.result.0
+          (c.day_at-day.ensures.day rows stands.stands_for) (sym c.is_among.ensures ∙ c.if-not-is_among.true)) at before);
     }
 
 pub returns-in_default-clause-lines : goal.returns-in_default-clause-lines
@@ -47,21 +49,36 @@ returns-in_default-clause-lines g c rows stands x told =
     ends_early _ _ _ _ _ c.loop-n.pending.items _ (c.loop-n.invariant.lines rows stands x told)
     (record { done = λ no. rw text at (c.finish.ensures.done no); failed = λ w. rw text at (c.finish.ensures.failed w (λ e. absurd cc)); kind = c.finish.ensures.kind })
 
+pub returns-in_default-clause-wrote : goal.returns-in_default-clause-wrote
+returns-in_default-clause-wrote g c =
+    let text : c.deref.result.now ≡ c.loop-n.pending.items = c.deref.ensures.0 in
+    let print = rw text at c.finish.ensures.wrote in
+    wrote_more g.K.Sink.outlet g.D.Disk.medium c.args.book.now c.args.disk.now _ _ _ _ _ print.0 c.loop-n.invariant.wrote print.1 (λ rows stands x told w before.
+    ends_early _ _ _ _ _ c.loop-n.pending.items _ before (finishes_behind w c.loop-n.pending.items print.0 _ _ print.2 print.3 c.finish.ensures.kind))
+
 pub returns-in-Failed-clause-lines : goal.returns-in-Failed-clause-lines
 returns-in-Failed-clause-lines g c rows stands x told =
-    let m = g.D.Disk.medium in let i = c.loop-n.invariant in let day = c.day_at-day.result.0 in
-    let p = is_among c.args.first c.args.last in let ahead = flat_map (day_lines rows) (filter p (drop (c.loop-n.n + 1) (days_of rows))) in
+    let m = g.D.Disk.medium in let i = c.loop-n.invariant in
     let among = sym c.is_among.ensures ∙ c.if-not-is_among.false in
-    let before = rw (day_taken p (days_of rows) c.loop-n.n day (c.day_at-day.ensures.day rows stands.stands_for) among) at (i.lines rows stands x told) in
     let read = c.in-Some.ensures.summary rows (to_read_stays m c.args.book.now _ _ rows stands i.stays) x (i.stays.reads ∙ told) in
-    let lines : lines_of c.day_head.result c.in-Some.summary ≡ day_lines rows day =
-    ap (λ (s : DaySummary). lines_of c.day_head.result s) read
-    ∙ ap (λ (head : List ℕ). lines_of head (summary_of (rows_of_day day rows))) c.day_head.ensures in
-    comes_fails _ _ _ _ (day_lines rows day) ahead c.loop-n.pending.items before (rw lines at (c.print_sums.ensures.failed c.in-Failed.is))
+    day_fails rows (is_among c.args.first c.args.last) c.loop-n.n c.day_at-day.result.0 (c.day_at-day.ensures.day rows stands.stands_for) among _ _ c.day_head.ensures read
+    _ _ _ _ c.loop-n.pending.items (i.lines rows stands x told) (c.print_sums.ensures.failed c.in-Failed.is)
+
+pub returns-in-Failed-clause-wrote : goal.returns-in-Failed-clause-wrote
+returns-in-Failed-clause-wrote g c =
+    let m = g.D.Disk.medium in let i = c.loop-n.invariant in
+    let among = sym c.is_among.ensures ∙ c.if-not-is_among.false in
+    let print = rw c.in-Failed.is at c.print_sums.ensures.wrote in
+    wrote_more g.K.Sink.outlet m c.args.book.now c.args.disk.now _ _ _ _ _ print.0 i.wrote print.1 (λ rows stands x told w before.
+    let read = c.in-Some.ensures.summary rows (to_read_stays m c.args.book.now _ _ rows stands i.stays) x (i.stays.reads ∙ told) in
+    day_fails rows (is_among c.args.first c.args.last) c.loop-n.n c.day_at-day.result.0 (c.day_at-day.ensures.day rows stands.stands_for) among _ _ c.day_head.ensures read
+    _ _ _ _ c.loop-n.pending.items before (part_behind w print.0 _ print.2))
 
 pub loop-n-preserved : goal.loop-n-preserved
 loop-n-preserved g c =
-    let i = c.loop-n.invariant in
+    let m = g.D.Disk.medium in let i = c.loop-n.invariant in
+    let among = sym c.is_among.ensures ∙ c.if-not-is_among.false in
+    let print = rw c.in_default-print_sums.is at c.print_sums.ensures.wrote in
     record {
       room = c.print_sums.ensures.room;
       faults = c.print_sums.ensures.still c.in_default-print_sums.not-Failed ∙ i.faults;
@@ -69,15 +86,13 @@ loop-n-preserved g c =
       stays = stays_joins i.stays c.summary_of.ensures.stays;
       went = λ rows stands. more_reads g.D.Disk.medium (i.went rows stands) (c.in-Some.ensures.went rows stands);
       lines = λ rows stands x told.
-          let m = g.D.Disk.medium in let day = c.day_at-day.result.0 in
-          let p = is_among c.args.first c.args.last in let ahead = flat_map (day_lines rows) (filter p (drop (c.loop-n.n + 1) (days_of rows))) in
-          let among = sym c.is_among.ensures ∙ c.if-not-is_among.false in
-          let before = rw (day_taken p (days_of rows) c.loop-n.n day (c.day_at-day.ensures.day rows stands.stands_for) among) at (i.lines rows stands x told) in
           let read = c.in-Some.ensures.summary rows (to_read_stays m c.args.book.now _ _ rows stands i.stays) x (i.stays.reads ∙ told) in
-          let lines : lines_of c.day_head.result c.in-Some.summary ≡ day_lines rows day =
-          ap (λ (s : DaySummary). lines_of c.day_head.result s) read
-          ∙ ap (λ (head : List ℕ). lines_of head (summary_of (rows_of_day day rows))) c.day_head.ensures in
-          comes_on _ _ _ _ (day_lines rows day) ahead c.loop-n.pending.items _ before (rw lines at (c.print_sums.ensures.done c.in_default-print_sums.is));
+          day_comes rows (is_among c.args.first c.args.last) c.loop-n.n c.day_at-day.result.0 (c.day_at-day.ensures.day rows stands.stands_for) among _ _ c.day_head.ensures read
+          _ _ _ _ c.loop-n.pending.items (i.lines rows stands x told) _ (c.print_sums.ensures.done c.in_default-print_sums.is);
+      wrote = wrote_more g.K.Sink.outlet m c.args.book.now c.args.disk.now _ _ _ _ _ print.0 i.wrote print.1 (λ rows stands x told w before.
+          let read = c.in-Some.ensures.summary rows (to_read_stays m c.args.book.now _ _ rows stands i.stays) x (i.stays.reads ∙ told) in
+          day_comes rows (is_among c.args.first c.args.last) c.loop-n.n c.day_at-day.result.0 (c.day_at-day.ensures.day rows stands.stands_for) among _ _ c.day_head.ensures read
+          _ _ _ _ c.loop-n.pending.items before _ (leaves_behind w print.0 _ _ print.2));
     }
 
 pub returns-clause-lines : goal.returns-clause-lines
@@ -87,6 +102,15 @@ returns-clause-lines g c rows stands x told =
     let before = rw none at (c.loop-n.invariant.lines rows stands x told) in
     ends_whole _ _ _ _ c.loop-n.pending.items _ before
     (record { done = λ no. rw text at (c.finish-2.ensures.done no); failed = λ w. rw text at (c.finish-2.ensures.failed w (λ e. absurd cc)); kind = c.finish-2.ensures.kind })
+
+pub returns-clause-wrote : goal.returns-clause-wrote
+returns-clause-wrote g c =
+    let text : c.deref-2.result.now ≡ c.loop-n.pending.items = c.deref-2.ensures.0 in
+    let print = rw text at c.finish-2.ensures.wrote in
+    wrote_more g.K.Sink.outlet g.D.Disk.medium c.args.book.now c.args.disk.now _ _ _ _ _ print.0 c.loop-n.invariant.wrote print.1 (λ rows stands x told w comes.
+    let none = drop_all c.loop-n.n (days_of rows) (omega (arith, c.loop-n-test.false, c.loop-n.auto.n-end, c.days-n-end.ensures.rows rows stands.stands_for)) in
+    let before = rw none at comes in
+    ends_whole _ _ _ _ c.loop-n.pending.items _ before (finishes_behind w c.loop-n.pending.items print.0 _ _ print.2 print.3 c.finish-2.ensures.kind))
 
 pub returns-in_default-clause-went : goal.returns-in_default-clause-went
 returns-in_default-clause-went g c rows stands = record {

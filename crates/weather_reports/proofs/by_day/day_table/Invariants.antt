@@ -1,4 +1,4 @@
-use Rattle.std.proofs.Common.{◌≡◌, ◌<◌, ◌≤◌, List, drop, ◌+◌, ◌*◌, false}
+use Rattle.std.proofs.Common.{◌≡◌, ◌<◌, ◌≤◌, List, drop, ◌+◌, ◌*◌, false, [], Some}
 use Rattle.std.specs.Prelude.{filter, flat_map}
 use Rattle.arrayvec.specs.ArrayVec.{array_vec_len}
 use Rattle.causes.specs.Told.{WhereTold}
@@ -11,6 +11,7 @@ use Rattle.weather_book.specs.Rows.{slot_total}
 use Rattle.weather_book.specs.Stands.{StandsToReadOn}
 use Rattle.weather_reports.specs.declared.printing.TheConstants.{PIECE}
 use Rattle.weather_reports.specs.Report.{day_lines, day_table_lines, is_among}
+use Rattle.weather_reports.specs.Wrote.{Wrote}
 use Rattle.weather_reports.proofs.Progress.{Comes}
 use Rattle.weather_reports.proofs.by_day.day_table.Given as goal
 
@@ -26,4 +27,7 @@ invariant-loop-n g l = record {
       → WhereTold (g.D.Disk.medium.seen l.initial.disk) (λ _. Comes (g.K.Sink.outlet.taken l.initial.out) (g.K.Sink.outlet.taken l.out)
       (day_table_lines l.first l.last rows) (flat_map (day_lines rows) (filter (is_among l.first l.last) (drop l.n (days_of rows))))
       l.pending.items);
+  wrote : Wrote g.K.Sink.outlet g.D.Disk.medium l.book l.initial.disk (λ rows written. Comes (Some []) (Some written)
+      (day_table_lines l.first l.last rows) (flat_map (day_lines rows) (filter (is_among l.first l.last) (drop l.n (days_of rows))))
+      l.pending.items) l.initial.out l.out;
 }

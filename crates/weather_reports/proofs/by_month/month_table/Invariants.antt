@@ -1,4 +1,4 @@
-use Rattle.std.proofs.Common.{◌≡◌, ◌<◌, ◌≤◌, ℤ, List, IfSome, drop, ◌+◌, ◌*◌, false}
+use Rattle.std.proofs.Common.{◌≡◌, ◌<◌, ◌≤◌, ℤ, List, IfSome, drop, ◌+◌, ◌*◌, false, [], Some}
 use Rattle.std.specs.Prelude.{filter, flat_map}
 use Rattle.arrayvec.specs.ArrayVec.{array_vec_len}
 use Rattle.causes.specs.Told.{WhereTold}
@@ -12,6 +12,7 @@ use Rattle.weather_book.specs.Stands.{StandsToReadOn}
 use Rattle.weather_reports.specs.declared.printing.TheConstants.{PIECE}
 use Rattle.weather_reports.specs.Begun.{IsBegun, IsInOrder, HasFewRows, months_after}
 use Rattle.weather_reports.specs.Report.{is_among, month_lines, month_table_lines}
+use Rattle.weather_reports.specs.Wrote.{Wrote}
 use Rattle.weather_reports.proofs.Progress.{Comes}
 use Rattle.weather_reports.proofs.by_month.month_table.Given as goal
 
@@ -30,4 +31,8 @@ invariant-loop-n g l = record {
       × Comes (g.K.Sink.outlet.taken l.initial.out) (g.K.Sink.outlet.taken l.out) (month_table_lines l.first l.last rows)
       (flat_map (month_lines rows) (months_after begun (filter (is_among l.first l.last) (drop l.n (days_of rows)))))
       l.pending.items);
+  wrote : Wrote g.K.Sink.outlet g.D.Disk.medium l.book l.initial.disk (λ rows written. (begun : List ℤ) × IsBegun rows begun l.month
+      × Comes (Some []) (Some written) (month_table_lines l.first l.last rows)
+      (flat_map (month_lines rows) (months_after begun (filter (is_among l.first l.last) (drop l.n (days_of rows)))))
+      l.pending.items) l.initial.out l.out;
 }

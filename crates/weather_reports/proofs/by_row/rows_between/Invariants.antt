@@ -1,4 +1,4 @@
-use Rattle.std.proofs.Common.{◌≡◌, ◌<◌, ◌≤◌, ◌-◌, List, drop, take, map, ◌+◌, ◌*◌, false}
+use Rattle.std.proofs.Common.{◌≡◌, ◌<◌, ◌≤◌, ◌-◌, List, drop, take, map, ◌+◌, ◌*◌, false, [], Some}
 use Rattle.arrayvec.specs.ArrayVec.{array_vec_len}
 use Rattle.causes.specs.Told.{WhereTold}
 use Rattle.disk_model.specs.Disk.{Stays}
@@ -9,6 +9,7 @@ use Rattle.gated_log.specs.Calls.{Looked}
 use Rattle.weather_book.specs.Rows.{slot_total}
 use Rattle.weather_book.specs.Stands.{StandsToReadOn}
 use Rattle.weather_reports.specs.declared.printing.TheConstants.{PIECE}
+use Rattle.weather_reports.specs.Wrote.{Wrote}
 use Rattle.weather_reports.proofs.Progress.{Comes}
 use Rattle.weather_reports.proofs.by_row.rows_between.Given as goal
 
@@ -23,6 +24,9 @@ invariant-loop-at g l = record {
   lines : (rows : List Row) → StandsToReadOn g.D.Disk.medium l.book l.initial.disk rows
       → WhereTold (g.D.Disk.medium.seen l.initial.disk) (λ _. Comes (g.K.Sink.outlet.taken l.initial.out) (g.K.Sink.outlet.taken l.out)
       (map row_line (take (l.end - l.fn.from) (drop l.fn.from rows))) (map row_line (take (l.end - l.at) (drop l.at rows))) l.pending.items);
+  wrote : Wrote g.K.Sink.outlet g.D.Disk.medium l.book l.initial.disk (λ rows written. Comes (Some []) (Some written)
+      (map row_line (take (l.end - l.fn.from) (drop l.fn.from rows))) (map row_line (take (l.end - l.at) (drop l.at rows))) l.pending.items)
+      l.initial.out l.out;
 }
 
 abbrev pub decreases-loop-at : goal.decreases-loop-at

@@ -1,8 +1,9 @@
-use Rattle.std.proofs.Common.{◌≡◌, ◌<◌, ◌+◌, ◌++◌, ◌∙◌, All, length, drop, get_or, map, rules, sym, subst, arith}
+use Rattle.std.proofs.Common.{◌≡◌, ◌<◌, ◌+◌, ◌++◌, ◌∙◌, [], All, length, drop, get_or, map, rules, sym, subst, arith}
 use Rattle.station_base.specs.FieldSet.{AreMissing}
 use Rattle.station_base.specs.RowLine.{IsPrintable, row_line}
 use Rattle.station_base.specs.declared.row.Row.{Row}
 use Rattle.weather_reports.specs.Reported.{text_of}
+use Rattle.weather_reports.proofs.Behind.{prints_more, prints_part}
 use Rattle.weather_reports.proofs.Held.{held_grows, held_shrinks, held_fails}
 use Rattle.weather_reports.proofs.Lines.{rows_step}
 use Rattle.weather_reports.proofs.printing.print_rows.Goals as goal
@@ -30,6 +31,15 @@ returns-in-Failed-clause-failed g c e =
     held_fails _ _ _ _ (c.loop-row.pending.items ++ row_line row) ahead
     (held_grows _ _ _ c.loop-row.pending.items (row_line row) ahead left) (rw line at (c.print_line.ensures.failed c.in-Failed.is))
 
+pub returns-in-Failed-clause-wrote : goal.returns-in-Failed-clause-wrote
+returns-in-Failed-clause-wrote g c =
+    let rows = c.args.rows.now in let k = c.loop-row.row-index in let row = get_or rows k c.row-item.result in
+    let line : c.deref.result.now ≡ row_line row = search rules in
+    let ahead = text_of (map row_line (drop (k + 1) rows)) in
+    prints_part g.K.Sink.outlet _ c.loop-row.pending.items (row_line row) ahead [] [] _ _ _
+    (rw (rows_step rows k c.row-item.result (omega arith)) at c.loop-row.invariant.wrote)
+    (rw (line, c.in-Failed.is) at c.print_line.ensures.wrote)
+
 pub loop-row-preserved : goal.loop-row-preserved
 loop-row-preserved g c =
     let rows = c.args.rows.now in let k = c.loop-row.row-index in let row = get_or rows k c.row-item.result in
@@ -41,4 +51,7 @@ loop-row-preserved g c =
       faults = c.print_line.ensures.still c.in_default.not-Failed ∙ c.loop-row.invariant.faults;
       left = held_shrinks _ _ _ _ (c.loop-row.pending.items ++ row_line row) ahead _
           (held_grows _ _ _ c.loop-row.pending.items (row_line row) ahead left) (rw line at (c.print_line.ensures.done c.in_default.is));
+      wrote = prints_more g.K.Sink.outlet _ c.loop-row.pending.items (row_line row) ahead _ _ _ _
+          (rw (rows_step rows k c.row-item.result (omega arith)) at c.loop-row.invariant.wrote)
+          (rw (line, c.in_default.is) at c.print_line.ensures.wrote);
     }

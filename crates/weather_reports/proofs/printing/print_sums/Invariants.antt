@@ -3,7 +3,9 @@ use Rattle.arrayvec.specs.ArrayVec.{array_vec_len}
 use Rattle.causes.specs.Written.{Leaves}
 use Rattle.weather_reports.specs.declared.printing.TheConstants.{PIECE}
 use Rattle.weather_reports.specs.Line.{lines_from}
+use Rattle.station_io.specs.declared.sink.Put.TheVariants.{Done}
 use Rattle.weather_reports.specs.Reported.{text_of}
+use Rattle.weather_reports.specs.Wrote.{Prints}
 use Rattle.weather_reports.proofs.printing.print_sums.Given as goal
 
 -- of the text what waits is left, and what the fields ahead give
@@ -14,4 +16,6 @@ invariant-loop-index g l = record {
   left : Leaves (g.K.Sink.outlet.taken l.initial.out) (g.K.Sink.outlet.taken l.out)
       (l.initial.pending.items ++ text_of (lines_from l.head 0 l.sums))
       (l.pending.items ++ text_of (lines_from l.head l.index (drop l.index l.sums)));
+  wrote : Prints g.K.Sink.outlet Done (l.initial.pending.items ++ text_of (lines_from l.head 0 l.sums))
+      (l.pending.items ++ text_of (lines_from l.head l.index (drop l.index l.sums))) l.initial.out l.out;
 }
