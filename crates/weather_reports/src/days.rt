@@ -26,7 +26,7 @@ pub fn is_among(first: DayNumber, last: DayNumber, day: DayNumber) -> bool
     first <= day && day <= last
 }
 
-// What the rows of a day come to. None where a call of the disk failed.
+/// What the rows of a day come to, which is nothing where the book has none of it. None where a call of the disk failed.
 pub fn summary_of<D: Disk>(book: &Book, disk: &mut D, day: DayNumber) -> Option<DaySummary>
     ensures summary { IfSome result (λ s. (rows : List Row) → StandsToReadOn D.medium book.now disk.old rows
         → WhereTold (D.medium.seen disk.old) (λ _. s ≡ summary_of (rows_of_day day.0 rows))) }

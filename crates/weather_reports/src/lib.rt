@@ -14,5 +14,8 @@ mod printing;
 pub use by_day::{all_days, day_table};
 pub use by_month::month_table;
 pub use by_row::{listing, rows_from};
+pub use days::summary_of;
 pub use end::ReportEnd;
 pub use laws::days_are_recomputed;
+pub use line::{DIGITS, Line, push_count, push_signed};
+pub use printing::{PIECE, Pending, finish, print_line};

@@ -9,11 +9,11 @@ use daily_summary::FieldSum;
 use itoa::Buffer;
 use station_base::{FieldId, LINE_ROOM, Stamp, push_bytes};
 
-// The line of a report.
+/// The line of a report.
 pub type Line = ArrayVec<u8, LINE_ROOM>;
 
-// The most digits of a number of 64 bits, with its sign.
-const DIGITS: usize = 20;
+/// The most digits of a number of 64 bits, with its sign.
+pub const DIGITS: usize = 20;
 
 // The bytes of a stamp's text.
 const STAMP: usize = 16;
@@ -66,8 +66,8 @@ fn push_extreme(line: &mut Line, name: &[u8], value: i32, at: Stamp)
     push_bytes(line, &at.text());
 }
 
-// Appends a number behind its name.
-fn push_signed(line: &mut Line, name: &[u8], number: i64)
+/// Appends a number behind its name.
+pub fn push_signed(line: &mut Line, name: &[u8], number: i64)
     requires { array_vec_len line.old + length name.now + DIGITS ≤ LINE_ROOM }
     ensures text { line.new.items ≡ line.old.items ++ name.now ++ signed_decimal number }
     ensures length { array_vec_len line.new ≤ array_vec_len line.old + length name.now + DIGITS }
@@ -77,8 +77,8 @@ fn push_signed(line: &mut Line, name: &[u8], number: i64)
     push_bytes(line, digits.format(number).as_bytes());
 }
 
-// The same of a number that is not negative.
-fn push_count(line: &mut Line, name: &[u8], number: u64)
+/// The same of a number that is not negative.
+pub fn push_count(line: &mut Line, name: &[u8], number: u64)
     requires { array_vec_len line.old + length name.now + DIGITS ≤ LINE_ROOM }
     ensures text { line.new.items ≡ line.old.items ++ name.now ++ decimal number }
     ensures length { array_vec_len line.new ≤ array_vec_len line.old + length name.now + DIGITS }

@@ -16,16 +16,16 @@ use daily_summary::FieldSum;
 use station_base::{FIELD_COUNT, FieldId, LINE_ROOM, Row, push_bytes};
 use station_io::{Put, Sink};
 
-// From how many bytes on what is held back is written.
+/// From how many bytes on what is held back is written.
 pub const PIECE: usize = 8192;
 
 // Room for that, and for one more line.
 const ROOM: usize = PIECE + LINE_ROOM;
 
-// Lines that wait to be written.
+/// Lines that wait to be written.
 pub type Pending = ArrayVec<u8, ROOM>;
 
-// Writes what waits at the end, where there is any.
+/// Writes what waits at the end, where there is any. The report ended so, unless this write fails.
 pub fn finish<K: Sink>(pending: &[u8], end: ReportEnd, out: &mut K) -> ReportEnd
     ensures done { result ≢ ReportEnd.WriteFault → Appends (K.outlet.taken out.old) (K.outlet.taken out.new) pending.now }
     ensures failed { result ≡ ReportEnd.WriteFault → end ≢ ReportEnd.WriteFault
@@ -44,7 +44,7 @@ pub fn finish<K: Sink>(pending: &[u8], end: ReportEnd, out: &mut K) -> ReportEnd
     }
 }
 
-// Appends a line to those that wait, and writes them where they are enough.
+/// Appends a line to those that wait, and writes them where they are enough.
 pub fn print_line<K: Sink>(pending: &mut Pending, line: &[u8], out: &mut K) -> Put
     requires room { array_vec_len pending.old < PIECE }
     requires short { length line.now ≤ LINE_ROOM }
