@@ -1,0 +1,14 @@
+//! Climate tables of a year: the degree days of each day, and what the days come to by months and in the year. Nothing in
+//! this crate takes memory.
+#![tactic(auto)]
+
+mod climate_summary;
+mod degree_days;
+mod line;
+mod span;
+mod table;
+mod totals;
+mod year_table;
+
+pub use totals::total;
+pub use year_table::climate;
