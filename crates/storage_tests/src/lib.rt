@@ -4,6 +4,8 @@
 #[cfg(test)]
 mod archive_copy_tests;
 #[cfg(test)]
+mod climate_table_tests;
+#[cfg(test)]
 mod daily_summary_tests;
 #[cfg(test)]
 mod dated_rows;

@@ -57,7 +57,12 @@ fn recorded(mut row: Row) -> Row
 }
 
 // The book of an archive that gets these rows, opened again to be read.
-fn archive(rt: &impl Abort, alloc: Global, disk: &mut MemDisk, rows: &[Row]) -> Result<Book, Fail>
+pub fn archive(
+    rt: &impl Abort,
+    alloc: Global,
+    disk: &mut MemDisk,
+    rows: &[Row],
+) -> Result<Book, Fail>
     requires printable { ArePrintable rows.now }
     requires limited { AreLimited rows.now }
 {
