@@ -132,4 +132,3 @@ module _ {F K L D : Type 0} (m : Meanings F K L D) (words : Option CommandLine) 
 
     pub keeps : Promises m command old new result
     keeps = promised command performed
-
