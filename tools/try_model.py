@@ -16,15 +16,15 @@ from pathlib import Path
 sys.dont_write_bytecode = True  # nothing is left beside the model
 
 from model.cases import model_side, program_side
-from model.random_archives import random_copy_case, random_report_case
+from model.random_archives import random_climate_case, random_copy_case, random_report_case
 from model.random_packets import random_soft_case
 from model.random_pages import random_pages_case
 from model.random_schedules import random_replay_case
 
 SECONDS = 20
 SEED = "1"
-KINDS = {"replay": random_replay_case, "report": random_report_case, "copy": random_copy_case,
-         "pages": random_pages_case, "soft": random_soft_case}
+KINDS = {"replay": random_replay_case, "report": random_report_case, "climate": random_climate_case,
+         "copy": random_copy_case, "pages": random_pages_case, "soft": random_soft_case}
 
 
 def keep(program, kind, case, sides):

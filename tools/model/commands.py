@@ -3,6 +3,7 @@
 import re
 
 from .archive import read_archive
+from .climate import FIRST_YEAR, LAST_YEAR, climate_lines
 from .copies import copy
 from .made import MOST_MADE, MOST_SEED, make
 from .outcomes import BAD_WORDS, DISK_FAULT, DONE, FILE_TOO_LONG, READ_FAULT, Refusal, outcome
@@ -37,6 +38,8 @@ def answer_of(command, words, files):
         return soft(*words, files)
     if command == "report" and len(words) == 4:
         return report(*words, files)
+    if command == "climate" and len(words) == 2:
+        return climate(*words, files)
     if command == "copy" and len(words) == 2 and words[0] != words[1]:
         return copied(*words, files)
     raise usage()
@@ -101,6 +104,13 @@ def report(name, kind, first_text, last_text, files):
     if kind not in KINDS or first is None or last is None or first > last:
         raise usage()
     return outcome(DONE, report_lines(read_archive(archive_content(name, files)).rows, kind, first, last))
+
+
+def climate(name, year_text, files):
+    """What the climate table of a year ends with."""
+    if not re.fullmatch("[0-9]{4}", year_text) or not FIRST_YEAR <= int(year_text) <= LAST_YEAR:
+        raise usage()
+    return outcome(DONE, climate_lines(read_archive(archive_content(name, files)).rows, int(year_text)))
 
 
 def copied(old, new, files):

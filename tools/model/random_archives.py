@@ -21,6 +21,7 @@ SIZES = ("tiny", "byte", "word", "edge", "wide")
 ODD_WORDS = ("", "Rows", "row", "day", "2024-7-01", "2024-02-30", "2023-02-29", "1999-12-30", "2128-01-01",
              "2024-13-01", "2024-00-10", "2024-01-00", "20240-1-01", "2024/01/01", " 2024-01-01", "2024-01-01 ",
              "+024-01-01", "2024-01--1", "0000-01-01", "9999-12-31", "2024-1a-01", "reports", "REPORT", "2000-02-29")
+ODD_YEARS = ("", "24", "1998", "2128", "02024", "20240", "+2024", "-2024", "2O24", " 2024", "2024 ", "2024-01", "year")
 # How often each kind of file is copied to.
 TARGETS = {"none": 10, "short": 5, "raw": 4, "whole": 8, "part": 30, "more": 6, "different": 14, "damaged": 12,
            "version 1": 4, "other": 4}
@@ -173,16 +174,39 @@ def report_words(chance, rows):
     return words
 
 
-def random_report_case(chance):
-    """A run of `report`."""
-    rows = random_rows(chance, 120)
+def files_to_read(chance, rows, whole):
+    """A file of some rows, which is whole for so great a part of the cases; a few have none."""
     plan = random_plan(chance, rows, chance.choice([1, 2, 2]))
     how = chance.random()
     if how < 0.06:
         image = random_bytes(chance)
     else:
-        image = bytes_of(chance, damaged(chance, plan) if how < 0.6 else plan)
-    return Case(report_words(chance, rows), {} if chance.random() < 0.01 else {"old": image})
+        image = bytes_of(chance, damaged(chance, plan) if how < 1 - whole else plan)
+    return {} if chance.random() < 0.01 else {"old": image}
+
+
+def random_report_case(chance):
+    """A run of `report`."""
+    rows = random_rows(chance, 120)
+    return Case(report_words(chance, rows), files_to_read(chance, rows, 0.4))
+
+
+def climate_words(chance, rows):
+    """The words of a climate table of a year that has rows, or of one beside it; a few have a fault."""
+    days = [archive_day(row.stamp) for row in rows] or [0]
+    year = date_of(chance.choice(days)).year + chance.choice([0] * 12 + [1, -1])
+    words = ["climate", "old", str(year)]
+    if chance.random() < 0.06:
+        words[chance.choice([0, 2])] = chance.choice(ODD_YEARS)
+    if chance.random() < 0.02:
+        words = chance.choice([words[:2], words + ["2024"]])
+    return words
+
+
+def random_climate_case(chance):
+    """A run of `climate`."""
+    rows = random_rows(chance, 200)
+    return Case(climate_words(chance, rows), files_to_read(chance, rows, 0.85))
 
 
 def changed_row(chance, row):

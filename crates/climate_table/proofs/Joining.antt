@@ -1,4 +1,4 @@
--- What days come to, and one day more.
+-- The totals of days, and one day more.
 use Rattle.std.proofs.Common.{◌≡◌, ℕ, ◌+◌, ℤ, Bool, true, false, List, [], ◌∷◌, ◌++◌, Option, Some, None, length, map, cond, refl, sym, ap, ◌∙◌, arith, length-append}
 use mir.Val.{bool_byte}
 use Rattle.std.specs.Prelude.{filter, option_map}
@@ -70,7 +70,7 @@ pub record GrowsBy (day : DaySummary) (old new : ClimateSummary) : Type 0 where
   pub heating : new.heating ≡ old.heating + total_of (map heating (some_of (outside day)))
   pub cooling : new.cooling ≡ old.cooling + total_of (map cooling (some_of (outside day)))
 
--- what days come to, and one more
+-- the totals of days, and one more
 pub climate_join : (rows : List Row) (days : List ℤ) (next : ℤ) (day : DaySummary) (old new : ClimateSummary)
     → old ≡ climate_of rows days → day ≡ day_summary rows next → GrowsBy day old new
     → new.sums ≡ summary_of (rows_of_days rows days ++ rows_of_day next rows) → new ≡ climate_of rows (days ++ next ∷ [])

@@ -142,7 +142,7 @@ days_on rows n day old new up at range grows ahead k next le at_k =
               (grows.few so_far here.few);
         }
 
--- a day was added to what a span has come to, or to nothing
+-- a day was added to the totals of a span, or to nothing
 pub span_with : (rows : List Row) (days : List ℤ) (old : Option Span) (day : DayNumber) (grown : Span) (added : ClimateSummary) → IsSpan rows days old
     → (old ≡ Some grown) ⊎ ((old ≡ None) × (grown.first ≡ day) × (grown.summary ≡ climate_of rows []))
     → (grown.summary ≡ climate_of rows days → added ≡ climate_of rows (days ++ day.0 ∷ []))

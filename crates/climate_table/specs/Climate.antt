@@ -1,4 +1,4 @@
--- What the days of a month or of a year come to. (These are this project's own.)
+-- The totals of a month or of a year. (These are this project's own.)
 use Rattle.std.specs.Prelude.{ℕ, ℤ, ◌≤◌, ◌*◌, ◌^◌, List, [], ◌∷◌, length, map, filter, flat_map, Some, None}
 use Rattle.std.specs.declared.option.Option.{Option}
 use Rattle.station_base.specs.declared.row.Row.{Row}
@@ -14,7 +14,7 @@ abbrev pub some_of : Option FieldSum → List FieldSum
 some_of None = []
 some_of (Some s) = s ∷ []
 
--- what the outside temperatures of each day come to that has one
+-- the sums of the outside temperatures of each day that has one
 abbrev pub outsides : List Row → List ℤ → List FieldSum
 outsides rows days = flat_map (λ day. some_of (outside (day_summary rows day))) days
 

@@ -15,7 +15,7 @@ heating s = (unsigned_abs (int_max (pos 650 *ℤ pos s.sumtime -ℤ s.wsum) (pos
 abbrev pub cooling : FieldSum → ℕ × ℕ
 cooling s = (unsigned_abs (int_max (s.wsum -ℤ pos 650 *ℤ pos s.sumtime) (pos 0)), s.sumtime)
 
--- what the outside temperatures come to, and what rain does
+-- the sums of the outside temperatures, and of rain
 abbrev pub outside : DaySummary → Option FieldSum
 outside s = slice_index_or s.fields 0 None
 
@@ -26,7 +26,7 @@ rain s = slice_index_or s.fields 3 None
 abbrev pub day_summary : List Row → ℤ → DaySummary
 day_summary rows day = summary_of (rows_of_day day rows)
 
--- it comes to a click at least
+-- it is a click at least
 abbrev pub is_wet : Option FieldSum → Bool
 is_wet None = false
 is_wet (Some s) = int_le (pos 1) s.sum

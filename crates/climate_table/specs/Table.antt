@@ -21,12 +21,12 @@ line_of_degrees day (Some s) = degree_line day (degrees_of s) ∷ []
 abbrev pub degree_lines : ℤ → DaySummary → List (List ℕ)
 degree_lines day summary = line_of_degrees day (outside summary)
 
--- what days come to, if there are any; so many bytes of the text of the first name them
+-- the totals of days, if there are any; so many bytes of the text of the first name them
 abbrev pub climate_lines : ℕ → List Row → List ℤ → List (List ℕ)
 climate_lines size rows [] = []
 climate_lines size rows (first ∷ more) = climate_line (take size (day_text first)) (climate_of rows (first ∷ more)) ∷ []
 
--- the degree days of the days of a month, and then what these days come to
+-- the degree days of the days of a month, and then their totals
 abbrev pub month_lines : List Row → List ℤ → List (List ℕ)
 month_lines rows days = flat_map (λ day. degree_lines day (day_summary rows day)) days ++ climate_lines 7 rows days
 
@@ -38,7 +38,7 @@ is_of_year year day = bytes_eq (take 4 (day_text day)) (decimal year)
 abbrev pub days_of_year : ℕ → List Row → List ℤ
 days_of_year year rows = filter (is_of_year year) (days_of rows)
 
--- the lines of each month of the year that has a row, and then what its days come to
+-- the lines of each month of the year that has a row, and then the totals of its days
 abbrev pub table_lines : ℕ → List Row → List (List ℕ)
 table_lines year rows =
     flat_map (month_lines rows) (months_of (days_of_year year rows)) ++ climate_lines 4 rows (days_of_year year rows)

@@ -12,10 +12,10 @@ use daily_summary::DaySummary;
 // The field of rain, by its number.
 pub const RAIN: usize = 3;
 
-// What the days of a month or of a year come to.
+// The totals of a month or of a year.
 #[derive(Clone, Copy)]
 pub struct ClimateSummary {
-    // What their rows come to in each field.
+    // The summary of their rows in each field.
     pub sums: DaySummary,
     // How many days have an outside temperature.
     pub days: u32,
@@ -27,7 +27,7 @@ pub struct ClimateSummary {
 }
 
 impl ClimateSummary {
-    // What no days come to.
+    // The totals of no days.
     pub fn new() -> ClimateSummary
         ensures climate { (rows : List Row) → result ≡ climate_of rows [] }
         ensures sums { IsInBounds result.sums }
@@ -42,7 +42,7 @@ impl ClimateSummary {
         }
     }
 
-    // Adds a day behind those that were added, by what its rows come to.
+    // Adds a day behind those that were added, by the summary of its rows.
     pub fn add(&mut self, day: &DaySummary)
         requires sums { IsInBounds self.old.sums }
         requires few { IsOfDays 365 self.old }
@@ -63,7 +63,7 @@ impl ClimateSummary {
     }
 }
 
-// Whether the rain of a day comes to a click at least.
+// Whether the rain of a day is a click at least.
 fn is_wet(day: &DaySummary) -> bool
     ensures { result ≡ is_wet (rain day.now) }
 {

@@ -36,7 +36,7 @@ pub fn degrees_in(day: &DaySummary) -> Option<DegreeDays>
     Some(degrees_of(sum))
 }
 
-// The degree days of what outside temperatures come to.
+// The degree days of a sum of outside temperatures.
 fn degrees_of(sum: &FieldSum) -> DegreeDays
     requires sum { IsSum sum.now }
     requires few { sum.now.count ≤ 1441 }

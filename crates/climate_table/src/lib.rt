@@ -1,4 +1,4 @@
-//! Climate tables of a year: the degree days of each day, and what the days come to by months and in the year. Nothing in
+//! Climate tables of a year: the degree days of each day, and the totals by months and of the year. Nothing in
 //! this crate takes memory.
 #![tactic(auto)]
 

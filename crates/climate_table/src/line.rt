@@ -42,7 +42,7 @@ pub fn degree_line(day: DayNumber, degrees: &DegreeDays) -> Line
     line
 }
 
-// `climate`, the name of a month or of a year, and what its days come to.
+// `climate`, the name of a month or of a year, and the totals of its days.
 #[tactic(auto, unfolding(crate::specs::Line::climate_line))]
 pub fn climate_line(name: &[u8], summary: &ClimateSummary) -> Line
     requires name { length name.now ≤ NAME }

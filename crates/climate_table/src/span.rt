@@ -28,7 +28,7 @@ pub const MONTH: usize = 7;
 pub struct Span {
     // The first of them.
     pub first: DayNumber,
-    // What they come to.
+    // Their totals.
     pub summary: ClimateSummary,
 }
 

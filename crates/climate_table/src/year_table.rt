@@ -20,7 +20,7 @@ use weather_book::Book;
 use weather_reports::{Pending, ReportEnd, finish, summary_of};
 
 /// Writes the table of a year from 1999 to 2127: the degree days of each of its days that has an outside temperature, after
-/// the days of each month what they come to, and after all months what the year comes to. A day takes one read.
+/// the days of each month its totals, and after all months those of the year. A day takes one read.
 ///
 /// `DiskFault` is reported where a read failed, and `WriteFault` where a write did.
 pub fn climate<D: Disk, K: Sink>(book: &Book, disk: &mut D, out: &mut K, year: u16) -> ReportEnd

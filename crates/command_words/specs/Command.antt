@@ -2,7 +2,7 @@
 use Rattle.std.specs.Prelude.{ℕ, ◌-◌, ◌^◌, if◌then◌else◌, List, [], ◌∷◌, map, bytes_eq, codes, Some, None, option_map}
 use Rattle.std.specs.Borrow.{Bor}
 use Rattle.std.specs.declared.option.Option.{Option}
-use Rattle.command_words.specs.Numbers.{number_within}
+use Rattle.command_words.specs.Numbers.{number_within, year_within}
 use Rattle.command_words.specs.ReportWords.{wanted_in}
 use Rattle.command_words.specs.TaskWords.{task_of}
 use Rattle.numerals.specs.Then.{◌>>=◌}
@@ -33,6 +33,7 @@ pub data CommandLine : Type 0 where
   soft : List ℕ → List ℕ → CommandLine
   task : List ℕ → Task → CommandLine
   report : List ℕ → Wanted → CommandLine
+  climate : List ℕ → ℕ → CommandLine
   replay : List ℕ → List ℕ → CommandLine
   copy : List ℕ → List ℕ → CommandLine
   station : StationNames → CommandLine
@@ -63,6 +64,11 @@ task_in (address ∷ words) = option_map (task address) (task_of words)
 abbrev pub report_in : List (List ℕ) → Option CommandLine
 report_in (archive ∷ kind ∷ first ∷ last ∷ []) = option_map (report archive) (wanted_in kind first last)
 report_in words = None
+
+-- `ARCHIVE YEAR`, a year from 1999 to 2127 in four digits
+abbrev pub climate_in : List (List ℕ) → Option CommandLine
+climate_in (archive ∷ year ∷ []) = option_map (climate archive) (year_within 1999 2127 year)
+climate_in words = None
 
 -- `SETTINGS SCHEDULE`
 abbrev pub replay_in : List (List ℕ) → Option CommandLine
@@ -104,6 +110,7 @@ command_of (command ∷ words) =
     else if bytes_eq command (codes "soft") then soft_in words
     else if bytes_eq command (codes "task") then task_in words
     else if bytes_eq command (codes "report") then report_in words
+    else if bytes_eq command (codes "climate") then climate_in words
     else if bytes_eq command (codes "replay") then replay_in words
     else if bytes_eq command (codes "copy") then copy_in words
     else if bytes_eq command (codes "station") then station_in words
@@ -132,6 +139,7 @@ command_read (read.CorrectedPages settings file) = corrected_pages settings.now 
 command_read (read.Soft settings file) = soft settings.now file.now
 command_read (read.Task address asked) = task address.now asked
 command_read (read.Report archive wanted) = report archive.now wanted
+command_read (read.Climate archive year) = climate archive.now year
 command_read (read.Replay settings schedule) = replay settings.now schedule.now
 command_read (read.Copy from to) = copy from.now to.now
 command_read (read.Station words) = station (station_names words)

@@ -8,6 +8,10 @@ use Rattle.numerals.specs.Pairs.{bytes_within}
 abbrev pub number_within : ℕ → ℕ → List ℕ → Option ℕ
 number_within least greatest word = decimal_within 10 least greatest word
 
+-- at most four decimal digits that write a number in a range; four, where the range begins at 1,000 or above
+abbrev pub year_within : ℕ → ℕ → List ℕ → Option ℕ
+year_within least greatest word = decimal_within 4 least greatest word
+
 -- one to 255 bytes, each in two hexadecimal digits
 abbrev pub bytes_of : List ℕ → Option (List ℕ)
 bytes_of word = bytes_within 255 word

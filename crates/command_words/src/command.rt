@@ -1,6 +1,6 @@
 ghost use Rattle.std.specs.Prelude.{◌≡◌, IfSome};
 
-use crate::numbers::read_within;
+use crate::numbers::{read_within, read_year};
 use crate::report_words::read_wanted;
 use crate::task::Task;
 use crate::task_words::read_task;
@@ -12,6 +12,11 @@ const MOST_SEED: u64 = (1 << 31) - 1;
 
 // The most records that are made.
 const MOST_MADE: u64 = 5_000;
+
+// The years of the archive days that stamps have.
+const FIRST_YEAR: u64 = 1999;
+
+const LAST_YEAR: u64 = 2127;
 
 /// What the words of the command line ask for.
 #[derive(Debug, Drop)]
@@ -45,6 +50,13 @@ pub enum Command<'a> {
         archive: &'a str,
         /// Which lines, and of which days.
         wanted: Wanted,
+    },
+    /// `climate ARCHIVE YEAR`: the climate table of a year.
+    Climate {
+        /// The name of the archive's file.
+        archive: &'a str,
+        /// The year, from 1999 to 2127.
+        year: u16,
     },
     /// `replay SETTINGS SCHEDULE`: the run of a schedule over a modelled console, its line and its archive.
     Replay {
@@ -88,6 +100,7 @@ impl<'a> Command<'a> {
             "soft" => read_soft(more),
             "task" => read_call(more),
             "report" => read_report(more),
+            "climate" => read_climate(more),
             "replay" => read_replay(more),
             "copy" => read_copy(more),
             "station" => read_station(more),
@@ -98,7 +111,7 @@ impl<'a> Command<'a> {
     }
 }
 
-ghost use Rattle.command_words.specs.Command.{command_read, console_in, copy_in, line_of, make_in, pages_in, replay_in, report_in, soft_in, station_in, task_in, texts};
+ghost use Rattle.command_words.specs.Command.{climate_in, command_read, console_in, copy_in, line_of, make_in, pages_in, replay_in, report_in, soft_in, station_in, task_in, texts};
 ghost use Rattle.command_words.specs.Possible.{IsPossible};
 
 // `FILE`, or `SETTINGS FILE`.
@@ -148,6 +161,18 @@ fn read_report<'a>(words: &[&'a str]) -> Option<Command<'a>>
         archive,
         wanted: read_wanted(kind, first, last)?,
     })
+}
+
+// `ARCHIVE YEAR`.
+fn read_climate<'a>(words: &[&'a str]) -> Option<Command<'a>>
+    ensures command { line_of result ≡ climate_in (texts words.now) }
+    ensures possible { IfSome result (λ command. IsPossible (command_read command)) }
+{
+    let [archive, year] = *words else {
+        return None;
+    };
+    let year = read_year(year, FIRST_YEAR, LAST_YEAR)? as u16;
+    Some(Command::Climate { archive, year })
 }
 
 // `SETTINGS SCHEDULE`.

@@ -1,5 +1,6 @@
 pub mod Answering
 pub mod CaughtUp
+pub mod ClimateLaws
 pub mod CopyLaws
 pub mod Listings
 pub mod PacketLines

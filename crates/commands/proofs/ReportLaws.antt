@@ -28,7 +28,7 @@ use Rattle.run_output.proofs.CallCauses.{attaches_causes}
 use Rattle.run_output.proofs.Causes.{Causes, none_well, same_cause, same_count, then_causes}
 use Rattle.run_output.proofs.Statuses.{attach_ends, ends_so, has_status}
 use Rattle.commands.specs.Recovery.{book_found}
-use Rattle.commands.specs.ReportRun.{HoldsRows, TellsArchive, report_given, reports, reports_on}
+use Rattle.commands.specs.ReportRun.{HoldsRows, TellsArchive, lines_wanted, report_given, reports, reports_lines, reports_on}
 use Rattle.commands.proofs.RecoveryLaws.{recovers_causes}
 
 -- written, unless a disk fault, a write fault or want of memory kept the command from that
@@ -65,8 +65,8 @@ all_read medium rows report_end.Done old new disk write reads = record {
 all_read medium rows report_end.DiskFault old new disk write reads = absurd (disk refl)
 all_read medium rows report_end.WriteFault old new disk write reads = absurd (write refl)
 
-pub reports_causes : {F K L D : Type 0} (m : Meanings F K L D) (wanted : Wanted) (book : Book) → Causes m (reports m wanted book)
-reports_causes {F} {K} {L} {D} m wanted book old new result did =
+pub reports_causes : {F K L D : Type 0} (m : Meanings F K L D) (lines : List Row → List (List ℕ)) (book : Book) → Causes m (reports m lines book)
+reports_causes {F} {K} {L} {D} m lines book old new result did =
     subst (λ (w : Outside F K L D). HasCauses m old result w) (sym did.alone) (record {
       files = same_count (m.shelf.faults old.files) (λ by. (no_other did.end).0 (has_status _ result _ did.given by));
       sink = record {
@@ -87,10 +87,15 @@ reports_causes {F} {K} {L} {D} m wanted book old new result did =
       };
     })
 
+-- so has one of any lines
+pub reports_lines_causes : {F K L D : Type 0} (m : Meanings F K L D) (archive : List ℕ) (lines : List Row → List (List ℕ))
+    → Causes m (reports_lines m archive lines)
+reports_lines_causes m archive lines =
+    then_causes m _ _ (attaches_causes m archive false) (λ _. then_causes m _ _ (recovers_causes m 1048576 Read) (λ book. reports_causes m lines book))
+
 -- a report has causes
 pub reports_on_causes : {F K L D : Type 0} (m : Meanings F K L D) (archive : List ℕ) (wanted : Wanted) → Causes m (reports_on m archive wanted)
-reports_on_causes m archive wanted =
-    then_causes m _ _ (attaches_causes m archive false) (λ _. then_causes m _ _ (recovers_causes m 1048576 Read) (λ book. reports_causes m wanted book))
+reports_on_causes m archive wanted = reports_lines_causes m archive (lines_wanted wanted)
 
 -- a recovery of an archive ends a command by a disk fault or for want of memory
 found_ends : (file : List ℕ) (start : BookStart) (output : Output) → HoldsRows file → Finds Read start file
@@ -112,10 +117,11 @@ report_ends report_end.Done = inl refl
 report_ends report_end.DiskFault = inr (inl refl)
 report_ends report_end.WriteFault = inr (inr (inl refl))
 
--- over an archive the report is written, unless a disk fault, a write fault or want of memory keeps it from that
-pub reports_on_complete : {F K L D : Type 0} (m : Meanings F K L D) (archive : List ℕ) (wanted : Wanted) (old new : Outside F K L D)
-    (ended : Result Lines Output) → TellsArchive m.medium old.disk → reports_on m archive wanted old ended new → IsReported (output_of ended).status
-reports_on_complete m archive wanted old new ended tells did =
+-- over an archive the lines are written, unless a disk fault, a write fault or want of memory keeps them from that
+pub reports_lines_complete : {F K L D : Type 0} (m : Meanings F K L D) (archive : List ℕ) (lines : List Row → List (List ℕ))
+    (old new : Outside F K L D) (ended : Result Lines Output) → TellsArchive m.medium old.disk → reports_lines m archive lines old ended new
+    → IsReported (output_of ended).status
+reports_lines_complete m archive lines old new ended tells did =
     let Q : Result Lines Output → Type 0 = λ result. IsReported (output_of result).status in
     then_has Q _ _ old new ended
     (λ output mid one. inr (inl (attach_ends _ _ _ _ _ output one.0)))
@@ -124,3 +130,8 @@ reports_on_complete m archive wanted old new ended tells did =
     (subst (λ (told : Option (List ℕ)). IsSomeAnd told HoldsRows) (sym one.0.did.stays.reads) tells) two.0.finds two.0.given)
     (λ book at two three. subst (λ (output : Output). IsReported output.status) (sym three.given) (report_ends three.end)))
     did
+
+-- so is the report
+pub reports_on_complete : {F K L D : Type 0} (m : Meanings F K L D) (archive : List ℕ) (wanted : Wanted) (old new : Outside F K L D)
+    (ended : Result Lines Output) → TellsArchive m.medium old.disk → reports_on m archive wanted old ended new → IsReported (output_of ended).status
+reports_on_complete m archive wanted = reports_lines_complete m archive (lines_wanted wanted)

@@ -45,8 +45,8 @@ report_given report_end.DiskFault = disk_fault
 report_given report_end.WriteFault = write_fault
 
 -- The book stands for the rows of the archive. They were read within their slots, nothing was changed, and where the
--- disk tells its bytes the lines that are asked for were written: all, or, up to a fault, some in front.
-pub record reports {F K L D : Type 0} (m : Meanings F K L D) (wanted : Wanted) (book : Book)
+-- disk tells its bytes the lines of these rows were written: all, or, up to a fault, some in front.
+pub record reports {F K L D : Type 0} (m : Meanings F K L D) (lines : List Row → List (List ℕ)) (book : Book)
     (old : Outside F K L D) (result : Result Lines Output) (new : Outside F K L D) : Type 0 where
   pub rows : List Row
   pub stands : StandsFor book rows
@@ -58,16 +58,20 @@ pub record reports {F K L D : Type 0} (m : Meanings F K L D) (wanted : Wanted) (
   pub sink_cause : Cause (m.outlet.faults old.out) (m.outlet.faults new.out) (end ≡ report_end.WriteFault)
   pub sink_still : end ≢ report_end.WriteFault → m.outlet.faults new.out ≡ m.outlet.faults old.out
   pub written : WhereTold (m.medium.seen old.disk) (λ _. Reports (m.outlet.taken old.out) (m.outlet.taken new.out)
-      (lines_wanted wanted rows) end)
+      (lines rows) end)
   pub given : output_of result ≡ report_given end
   pub alone : new ≡ record old { disk = new.disk; out = new.out }
 
--- The file of this name is attached, without making it, its archive is recovered to be read, and reported on.
-abbrev pub reports_on : {F K L D : Type 0} → Meanings F K L D → List ℕ → Wanted → Step (Outside F K L D) Lines
-reports_on m archive wanted =
+-- The file of this name is attached, without making it, its archive is recovered to be read, and these lines are written.
+abbrev pub reports_lines : {F K L D : Type 0} → Meanings F K L D → List ℕ → (List Row → List (List ℕ)) → Step (Outside F K L D) Lines
+reports_lines m archive lines =
     then (over_disk (attaches m.medium archive false)) (λ _.
     then (over_disk (recovers m.medium 1048576 Read)) (λ book.
-    reports m wanted book))
+    reports m lines book))
+
+-- so are the lines that are asked for
+abbrev pub reports_on : {F K L D : Type 0} → Meanings F K L D → List ℕ → Wanted → Step (Outside F K L D) Lines
+reports_on m archive wanted = reports_lines m archive (lines_wanted wanted)
 
 -- the bytes are an archive with rows, or with none
 abbrev pub HoldsRows : List ℕ → Type 0

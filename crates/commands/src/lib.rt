@@ -4,6 +4,7 @@
 mod asking;
 mod calling;
 mod catching_up;
+mod climate;
 mod copying;
 mod entries;
 mod pages;
@@ -17,6 +18,7 @@ mod waiting;
 
 pub use calling::call_for;
 pub use catching_up::catch_up;
+pub use climate::print_climate;
 pub use copying::copy_files;
 pub use entries::soft_rows;
 pub use printing::{corrected_pages, print_file};

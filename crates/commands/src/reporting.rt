@@ -21,7 +21,7 @@ use weather_book::{Book, Purpose};
 use weather_reports::{ReportEnd, day_table, listing, month_table};
 
 // The most rows that an archive may have.
-const MOST_ROWS: u32 = 1_048_576;
+pub const MOST_ROWS: u32 = 1_048_576;
 
 /// Attaches the file of this name, which is not made where there is none, and writes the report that is asked for.
 pub fn report<F: Files, K: Sink, L: Link, D: Disk>(
@@ -39,7 +39,7 @@ pub fn report<F: Files, K: Sink, L: Link, D: Disk>(
 }
 
 // How the command goes on after a report that ended so.
-fn given(end: ReportEnd) -> Result<Text, Ending>
+pub fn given(end: ReportEnd) -> Result<Text, Ending>
     ensures { output_of result ≡ report_given end }
 {
     match end {

@@ -1,4 +1,4 @@
--- Turns of stations one after another, and what they come to.
+-- Turns of stations one after another, and their answers and texts.
 use Rattle.std.specs.Prelude.{ℕ, ◌≡◌, ◌≢◌, ◌+◌, ◌-◌, ◌==◌, not, Bool, true, false, if◌then◌else◌, List, [], ◌∷◌, slice_get, slice_index_or, Option, Some, None}
 use Rattle.std.proofs.Common.{set}
 use Rattle.station_io.specs.Sink.{Outlet}

@@ -2,7 +2,7 @@ ghost use Rattle.fleet.specs.MemberTurns.{TakesTurn, Turning};
 
 use station_io::Sink;
 
-/// What a turn of a member came to.
+/// How a turn of a member ended.
 #[derive(Clone, Copy, Debug, PartialEq, Eq)]
 pub enum MemberTurn {
     /// One turn was taken, and more is to come.

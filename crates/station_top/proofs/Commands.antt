@@ -1,6 +1,7 @@
 -- The faults by which a command ends have causes.
-use Rattle.command_words.specs.Command.{CommandLine, pages, corrected_pages, soft, task, report, replay, copy, station, console, make}
+use Rattle.command_words.specs.Command.{CommandLine, pages, corrected_pages, soft, task, report, climate, replay, copy, station, console, make}
 use Rattle.commands.specs.Style.{short}
+use Rattle.commands.proofs.ClimateLaws.{tells_climate_causes}
 use Rattle.commands.proofs.CopyLaws.{copies_on_causes}
 use Rattle.commands.proofs.PageLaws.{prints_corrected_causes, prints_file_causes}
 use Rattle.commands.proofs.ReportLaws.{reports_on_causes}
@@ -20,6 +21,7 @@ performs_causes m (corrected_pages settings file) = prints_corrected_causes m se
 performs_causes m (soft settings file) = prints_soft_causes m settings file
 performs_causes m (task address asked) = calls_for_causes m address asked
 performs_causes m (report archive wanted) = reports_on_causes m archive wanted
+performs_causes m (climate archive year) = tells_climate_causes m archive year
 performs_causes m (replay settings schedule) = replays_files_causes m settings schedule
 performs_causes m (copy from to) = copies_on_causes m from to
 performs_causes m (station names) = catches_up_causes m names

@@ -4,11 +4,12 @@ use Rattle.std.specs.Prelude.{IfNone, IfSome}
 use Rattle.std.specs.declared.option.Option.{Option}
 use Rattle.std.specs.declared.result.Result.{Result}
 use Rattle.causes.specs.Cause.{Cause}
-use Rattle.command_words.specs.Command.{CommandLine, pages, corrected_pages, soft, task, report, replay, copy, station, console, make}
+use Rattle.command_words.specs.Command.{CommandLine, pages, corrected_pages, soft, task, report, climate, replay, copy, station, console, make}
 use Rattle.commands.specs.StationRun.{ShowsCaughtUp}
 use Rattle.commands.specs.Style.{short}
 use Rattle.commands.specs.TaskRun.{ShowsDone}
 use Rattle.commands.proofs.CaughtUp.{settled}
+use Rattle.commands.proofs.ClimateLaws.{tells_climate_complete}
 use Rattle.commands.proofs.CopyLaws.{copies_on_complete}
 use Rattle.commands.proofs.PageLaws.{done_or_hindered, prints_corrected_complete, prints_file_complete}
 use Rattle.commands.proofs.ReportLaws.{reported, reports_on_complete}
@@ -111,6 +112,8 @@ module _ {F K L D : Type 0} (m : Meanings F K L D) (words : Option CommandLine) 
       }
   promised (report archive wanted) did = λ good.
       within reported (inr (inr (inl refl))) (reports_on_complete m archive wanted old ran.mid ran.ended good did)
+  promised (climate archive year) did = λ good.
+      within reported (inr (inr (inl refl))) (tells_climate_complete m archive year old ran.mid ran.ended good did)
   promised (replay settings schedule) did = λ good.
       within replayed (inr (inr (inr (inl refl)))) (replays_files_complete m settings schedule old ran.mid ran.ended good did)
   promised (copy from to) did = λ good. within reported (inr (inr (inl refl))) (copies_on_complete m from to old ran.mid ran.ended good did)

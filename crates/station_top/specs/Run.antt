@@ -6,8 +6,9 @@ use Rattle.causes.specs.Cause.{Cause}
 use Rattle.serial_link.specs.Traffic.{Traffic}
 use Rattle.station_io.specs.Sink.{Outlet}
 use Rattle.command_words.specs.declared.task.Task.{Task}
-use Rattle.command_words.specs.Command.{CommandLine, ConsoleNames, pages, corrected_pages, soft, task, report, replay, copy, station}
+use Rattle.command_words.specs.Command.{CommandLine, ConsoleNames, pages, corrected_pages, soft, task, report, climate, replay, copy, station}
 use Rattle.command_words.specs.Command.{console, make}
+use Rattle.commands.specs.ClimateRun.{tells_climate}
 use Rattle.commands.specs.CopyRun.{TellArchives, copies_on}
 use Rattle.commands.specs.GoodFile.{IsGoodFile}
 use Rattle.commands.specs.PageRun.{prints_corrected, prints_file}
@@ -43,6 +44,7 @@ performs m (corrected_pages settings file) = prints_corrected m settings file
 performs m (soft settings file) = prints_soft m settings file
 performs m (task address asked) = calls_for m address asked
 performs m (report archive wanted) = reports_on m archive wanted
+performs m (climate archive year) = tells_climate m archive year
 performs m (replay settings schedule) = replays_files m settings schedule
 performs m (copy from to) = copies_on m from to
 performs m (station names) = catches_up m names
@@ -88,6 +90,8 @@ Promises m (soft settings file) old new result =
     HasEntries m.shelf settings file old.files → IsOneOf (0 ∷ 8 ∷ 9 ∷ 12 ∷ []) result
 Promises m (task address asked) old new result = TaskPromises m.traffic asked old.link new.link result
 Promises m (report archive wanted) old new result =
+    TellsArchive m.medium old.disk → IsOneOf (0 ∷ 7 ∷ 9 ∷ 12 ∷ []) result
+Promises m (climate archive year) old new result =
     TellsArchive m.medium old.disk → IsOneOf (0 ∷ 7 ∷ 9 ∷ 12 ∷ []) result
 Promises m (replay settings schedule) old new result =
     HasGoodFiles m.shelf settings schedule old.files → IsOneOf (0 ∷ 5 ∷ 8 ∷ 9 ∷ 12 ∷ []) result

@@ -7,7 +7,9 @@ ghost use Rattle.run_output.specs.Outside.{means};
 ghost use Rattle.station_top.specs.Run.{IsUsage, Performs, Promises, performs_words};
 
 use command_words::Command;
-use commands::{call_for, catch_up, copy_files, corrected_pages, print_file, report, soft_rows};
+use commands::{
+    call_for, catch_up, copy_files, corrected_pages, print_climate, print_file, report, soft_rows,
+};
 use disk_model::Disk;
 use model_commands::{make_run, replay_files, serve_files};
 use run_output::{Ending, Outside, Status, Text, finish};
@@ -78,6 +80,7 @@ fn perform<F: Files, K: Sink, L: Link, D: Disk>(
         Some(Command::Soft { settings, file }) => soft_rows(alloc, settings, file, outside),
         Some(Command::Task { address, task }) => call_for(address, &task, outside),
         Some(Command::Report { archive, wanted }) => report(alloc, archive, &wanted, outside),
+        Some(Command::Climate { archive, year }) => print_climate(alloc, archive, year, outside),
         Some(Command::Replay { settings, schedule }) => {
             replay_files(alloc, settings, schedule, outside)
         }

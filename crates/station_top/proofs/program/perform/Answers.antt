@@ -26,3 +26,6 @@ returns-in-Some-Console g c = rw c.in-Some-Console.is (rw c.in-Some-Console.fiel
 
 pub returns-in-Some-Soft : goal.returns-in-Some-Soft
 returns-in-Some-Soft g c = rw c.in-Some-Soft.is (rw c.in-Some-Soft.field-0-is c.soft_rows.ensures)
+
+pub returns-in-Some-Climate : goal.returns-in-Some-Climate
+returns-in-Some-Climate g c = rw c.in-Some-Climate.is (rw c.in-Some-Climate.field-0-is c.print_climate.ensures)
