@@ -6,4 +6,5 @@ pub mod LogText
 pub mod NewCrew
 pub mod OneStation
 pub mod PutPieces
+pub mod StationText
 pub mod Stations

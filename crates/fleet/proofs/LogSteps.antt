@@ -10,6 +10,7 @@ use Rattle.fleet.specs.Crew.{Crew, IsReady, OneTurn}
 use Rattle.fleet.specs.Log.{Along, AreDrawn, IsUncut, is_switch, last_after, last_station, reached, switches_after, switches_in, turns_left}
 use Rattle.fleet.specs.MemberTurns.{Turning}
 use Rattle.fleet.specs.OpenStations.{chosen, is_more, open_from, least_unseen}
+use Rattle.fleet.specs.StationLines.{AreUncut}
 use Rattle.fleet.specs.TurnText.{Entry}
 
 -- one more turn behind others
@@ -27,6 +28,11 @@ pub drawn_more : {K : Type 0} (x : ℕ) (last : List MemberTurn) (log : List (En
 drawn_more x last [] e drawn at = (at, tt)
 drawn_more x last (f ∷ log) e drawn at =
     (drawn.0, drawn_more (next x) (set last (f.station - 1) f.answer) log e drawn.1 at)
+
+pub uncut_more : {K : Type 0} (log : List (Entry K)) (e : Entry K) → AreUncut log → e.answer ≢ WriteFault
+    → e.answer ≢ OutOfMemory → AreUncut (log ++ e ∷ [])
+uncut_more [] e uncut fits found = (fits, found, tt)
+uncut_more (f ∷ log) e uncut fits found = (uncut.0, uncut.1, uncut_more log e uncut.2 fits found)
 
 pub reached_more : {K : Type 0} (x : ℕ) (log : List (Entry K)) (e : Entry K) → reached x (log ++ e ∷ []) ≡ next (reached x log)
 reached_more x [] e = refl
@@ -130,6 +136,7 @@ pub record SoFar {M K : Type 0} (turning : Turning M) (outlet : Outlet K) (seed 
   pub station_is : station ≡ last_station log
   pub ready : IsReady turning now
   pub uncut : IsUncut now.last
+  pub whole : AreUncut log
   pub few : turns + turns_left turning now.members now.last ≤ turns_left turning old.members old.last
 
 -- where nothing is open no answer is More
@@ -221,5 +228,6 @@ so_far_more turning outlet seed old before number turns switches station now out
       station_is = sym (last_more so.log e);
       ready = ready;
       uncut = λ k. uncut_by turning outlet now new e one so.uncut fits found k _ refl;
+      whole = uncut_more so.log e so.whole fits found;
       few = omega (arith, so.few, less);
     }

@@ -10,6 +10,7 @@ use Rattle.fleet.specs.Crew.{Crew}
 use Rattle.fleet.specs.Log.{Along, AreDrawn, IsUncut, switches_in}
 use Rattle.fleet.specs.MemberTurns.{Turning}
 use Rattle.fleet.specs.OpenStations.{least_unseen, open_from}
+use Rattle.fleet.specs.StationLines.{AreUncut}
 use Rattle.fleet.specs.TurnText.{AreTextsOf, Entry}
 
 -- the last turn gave this answer
@@ -22,9 +23,10 @@ AllEnded last = (k : ℕ) → slice_index_or last k member.Ended ≡ member.Ende
 
 -- what the end says of the turns, and of the last answers
 abbrev pub EndsAs : {K : Type 0} → FleetEnd → List (Entry K) → List MemberTurn → Type 0
-EndsAs (fleet.Done turns switches) log last = (turns ≡ length log) × (switches ≡ switches_in log) × AllEnded last
+EndsAs (fleet.Done turns switches) log last =
+    (turns ≡ length log) × (switches ≡ switches_in log) × AllEnded last × AreUncut log
 EndsAs (fleet.Unseen station) log last =
-    (open_from 1 last ≡ []) × (least_unseen 1 last ≡ Some station) × IsUncut last
+    (open_from 1 last ≡ []) × (least_unseen 1 last ≡ Some station) × IsUncut last × AreUncut log
 EndsAs fleet.WriteFault log last = EndsWith member.WriteFault log
 EndsAs fleet.OutOfMemory log last = EndsWith member.OutOfMemory log
 

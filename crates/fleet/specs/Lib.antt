@@ -6,4 +6,5 @@ pub mod MemberTurns
 pub mod NumberedSink
 pub mod OpenStations
 pub mod PenLaws
+pub mod StationLines
 pub mod TurnText

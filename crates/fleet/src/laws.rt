@@ -1,6 +1,7 @@
-ghost use Rattle.std.specs.Prelude.{ℕ, List, ◌≤◌};
+ghost use Rattle.std.specs.Prelude.{ℕ, List, ◌≡◌, ◌≤◌};
 ghost use Rattle.fleet.specs.Crew.{Crew};
-ghost use Rattle.fleet.specs.Log.{Along, IsAlone};
+ghost use Rattle.fleet.specs.Log.{Along, IsAlone, WrittenBy};
+ghost use Rattle.fleet.specs.StationLines.{AreUncut, lines_of};
 ghost use Rattle.fleet.specs.TurnText.{AreTextsOf, Entry};
 
 use crate::member::Member;
@@ -20,4 +21,14 @@ pub fn what_turns_write_is_written<M: Member, K: Sink>()
     ensures { (old new : Crew M) (before after : K) (log : List (Entry K)) (text : List ℕ)
         → Along M.turning K.outlet old before log new after → AreTextsOf K.outlet log text
         → K.outlet.wrote before text after }
+{}
+
+/// Whatever each of the stations wrote, its text is the lines with its number, without it, in one text of all of them that
+/// the sink took. This is so where no turn was cut off.
+pub fn each_station_has_its_lines<M: Member, K: Sink>()
+    ensures { (old new : Crew M) (before after : K) (log : List (Entry K)) (texts : ℕ → List ℕ)
+        → Along M.turning K.outlet old before log new after → AreUncut log
+        → ((station : ℕ) → WrittenBy K.outlet station log (texts station))
+        → (text : List ℕ) × AreTextsOf K.outlet log text × K.outlet.wrote before text after
+        × ((station : ℕ) → lines_of station text ≡ texts station) }
 {}
