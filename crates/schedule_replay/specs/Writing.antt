@@ -1,9 +1,10 @@
 -- What is written of a run, and what the reads for it leave.
 use Rattle.std.specs.Prelude.{ℕ, ◌≡◌, List, Ok, Err}
-use Rattle.std.specs.declared.option.Option.{Option}
 use Rattle.std.specs.declared.result.Result.{Result}
 use Rattle.std.specs.Io.KnownBytes.{Appends}
+use Rattle.causes.specs.Lists.{IsFrontOf}
 use Rattle.causes.specs.Written.{WritesPart}
+use Rattle.station_io.specs.Sink.{Outlet}
 use Rattle.station_base.specs.declared.row.Row.{Row}
 use Rattle.settings_file.specs.StationSettings.{StationSettings}
 use Rattle.disk_model.specs.Disk.{Stays}
@@ -16,11 +17,23 @@ use Rattle.schedule_replay.specs.declared.cut.Cut.{Cut}
 use Rattle.schedule_replay.specs.declared.cut.Cut.TheVariants.{WriteFault, OutOfMemory}
 use Rattle.schedule_replay.specs.Resting.{AtRest, GoesOn}
 
+-- The text was written: to the bytes of the sink, where it tells them, and by its calls.
+pub record IsWritten {K : Type 0} (outlet : Outlet K) (old new : K) (text : List ℕ) : Type 0 where
+  pub appended : Appends (outlet.taken old) (outlet.taken new) text
+  pub wrote : outlet.wrote old text new
+
+-- A front of the text was written, likewise.
+pub record IsFrontWritten {K : Type 0} (outlet : Outlet K) (old new : K) (text : List ℕ) : Type 0 where
+  pub part : WritesPart (outlet.taken old) (outlet.taken new) text
+  pub written : List ℕ
+  pub front : IsFrontOf written text
+  pub wrote : outlet.wrote old written new
+
 -- All of the text is written, or, where a write failed, a front of it. No memory is asked for.
-abbrev pub Writes : Option (List ℕ) → Option (List ℕ) → List ℕ → Result (Unit {0}) Cut → Type 0
-Writes old new text (Ok done) = Appends old new text
-Writes old new text (Err WriteFault) = WritesPart old new text
-Writes old new text (Err OutOfMemory) = ⊥
+abbrev pub Writes : {K : Type 0} → Outlet K → K → K → List ℕ → Result (Unit {0}) Cut → Type 0
+Writes outlet old new text (Ok done) = IsWritten outlet old new text
+Writes outlet old new text (Err WriteFault) = IsFrontWritten outlet old new text
+Writes outlet old new text (Err OutOfMemory) = ⊥
 
 -- The disk is at rest, and a session goes on over it.
 pub record IsReadable (session : Session) (disk : Stopping MemDisk) : Type 0 where

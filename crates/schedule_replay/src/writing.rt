@@ -27,7 +27,7 @@ pub fn write_opening<K: Sink>(
 ) -> Result<(), Cut>
     requires { IsReadable session.now disk.old }
     ensures text { (settings : StationSettings) (rows : List Row) → GoesOn settings rows session.now disk.old
-        → Writes (K.outlet.taken out.old) (K.outlet.taken out.new) (text_of (Item.Opened rows written)) result }
+        → Writes K.outlet out.old out.new (text_of (Item.Opened rows written)) result }
     ensures disk { IsOnlyRead disk.old disk.new }
     ensures cause { Cause (K.outlet.faults out.old) (K.outlet.faults out.new) (result ≡ Err Cut.WriteFault) }
     ensures still { result ≢ Err Cut.WriteFault → K.outlet.faults out.new ≡ K.outlet.faults out.old }
@@ -39,7 +39,7 @@ pub fn write_opening<K: Sink>(
 /// Writes `open stop K`, of an opening within whose change K the disk stopped.
 #[tactic(auto, unfolding(station_replay::specs::Texts::text_of))]
 pub fn write_stopped_opening<K: Sink>(out: &mut K, change: u64) -> Result<(), Cut>
-    ensures text { (rows : List Row) → Writes (K.outlet.taken out.old) (K.outlet.taken out.new)
+    ensures text { (rows : List Row) → Writes K.outlet out.old out.new
         (text_of (Item.OpenStopped change rows)) result }
     ensures cause { Cause (K.outlet.faults out.old) (K.outlet.faults out.new) (result ≡ Err Cut.WriteFault) }
     ensures still { result ≢ Err Cut.WriteFault → K.outlet.faults out.new ≡ K.outlet.faults out.old }
@@ -60,7 +60,7 @@ pub fn write_round<K: Sink>(
     requires { is_stop (ending_of line.now.end) ≡ false → IsReadable session.now disk.old }
     ensures text { (x : Rounded) → Tells line.now written x
         → (is_stop x.end ≡ false → (settings : StationSettings) × GoesOn settings x.rows session.now disk.old)
-        → Writes (K.outlet.taken out.old) (K.outlet.taken out.new) (text_of (Item.Ran x)) result }
+        → Writes K.outlet out.old out.new (text_of (Item.Ran x)) result }
     ensures disk { IsOnlyRead disk.old disk.new }
     ensures stopped { is_stop (ending_of line.now.end) ≡ true → disk.new ≡ disk.old }
     ensures cause { Cause (K.outlet.faults out.old) (K.outlet.faults out.new) (result ≡ Err Cut.WriteFault) }
@@ -76,7 +76,7 @@ pub fn write_round<K: Sink>(
 /// Writes `unseen round R host D`, or `reply D`.
 #[tactic(auto, unfolding(station_replay::specs::Texts::text_of))]
 pub fn write_unseen<K: Sink>(out: &mut K, number: u32, which: Unseen) -> Result<(), Cut>
-    ensures text { Writes (K.outlet.taken out.old) (K.outlet.taken out.new)
+    ensures text { Writes K.outlet out.old out.new
         (text_of (Item.Unsaid number which)) result }
     ensures cause { Cause (K.outlet.faults out.old) (K.outlet.faults out.new) (result ≡ Err Cut.WriteFault) }
     ensures still { result ≢ Err Cut.WriteFault → K.outlet.faults out.new ≡ K.outlet.faults out.old }
@@ -93,7 +93,7 @@ pub fn write_end<K: Sink>(
 ) -> Result<(), Cut>
     requires { IsReadable session.now disk.old }
     ensures text { (settings : StationSettings) (rows : List Row) → GoesOn settings rows session.now disk.old
-        → Writes (K.outlet.taken out.old) (K.outlet.taken out.new) (text_of (Item.Ended rows)) result }
+        → Writes K.outlet out.old out.new (text_of (Item.Ended rows)) result }
     ensures disk { IsOnlyRead disk.old disk.new }
     ensures cause { Cause (K.outlet.faults out.old) (K.outlet.faults out.new) (result ≡ Err Cut.WriteFault) }
     ensures still { result ≢ Err Cut.WriteFault → K.outlet.faults out.new ≡ K.outlet.faults out.old }
@@ -104,9 +104,10 @@ pub fn write_end<K: Sink>(
 }
 
 // Writes bytes.
+#[tactic(auto, using(crate::proofs::Parts::put_done, crate::proofs::Parts::put_failed))]
 fn write<K: Sink>(out: &mut K, bytes: &[u8]) -> Result<(), Cut>
     requires { 0 < length bytes.now }
-    ensures text { Writes (K.outlet.taken out.old) (K.outlet.taken out.new) bytes.now result }
+    ensures text { Writes K.outlet out.old out.new bytes.now result }
     ensures cause { Cause (K.outlet.faults out.old) (K.outlet.faults out.new) (result ≡ Err Cut.WriteFault) }
     ensures still { result ≢ Err Cut.WriteFault → K.outlet.faults out.new ≡ K.outlet.faults out.old }
 {
@@ -125,7 +126,7 @@ fn write_rows<K: Sink>(
 ) -> Result<(), Cut>
     requires { IsReadable session.now disk.old }
     ensures text { (settings : StationSettings) (rows : List Row) → GoesOn settings rows session.now disk.old
-        → Writes (K.outlet.taken out.old) (K.outlet.taken out.new) (rows_text from rows) result }
+        → Writes K.outlet out.old out.new (rows_text from rows) result }
     ensures disk { IsOnlyRead disk.old disk.new }
     ensures cause { Cause (K.outlet.faults out.old) (K.outlet.faults out.new) (result ≡ Err Cut.WriteFault) }
     ensures still { result ≢ Err Cut.WriteFault → K.outlet.faults out.new ≡ K.outlet.faults out.old }
@@ -145,7 +146,7 @@ fn write_days<K: Sink>(
 ) -> Result<(), Cut>
     requires { IsReadable session.now disk.old }
     ensures text { (settings : StationSettings) (rows : List Row) → GoesOn settings rows session.now disk.old
-        → Writes (K.outlet.taken out.old) (K.outlet.taken out.new) (days_text rows) result }
+        → Writes K.outlet out.old out.new (days_text rows) result }
     ensures disk { IsOnlyRead disk.old disk.new }
     ensures cause { Cause (K.outlet.faults out.old) (K.outlet.faults out.new) (result ≡ Err Cut.WriteFault) }
     ensures still { result ≢ Err Cut.WriteFault → K.outlet.faults out.new ≡ K.outlet.faults out.old }

@@ -1,3 +1,5 @@
+use Rattle.weather_reports.specs.Report.{all_day_lines}
+use Rattle.schedule_replay.proofs.Parts.{report_done, report_failed}
 use Rattle.schedule_replay.proofs.Reading.{report_reads, rows_readable}
 use Rattle.schedule_replay.proofs.writing.write_days.Goals as goal
 
@@ -15,8 +17,16 @@ unreachable-requires g c =
 
 pub returns-in-Done-clause-text : goal.returns-in-Done-clause-text
 returns-in-Done-clause-text g c settings rows goes =
-    c.in-Done.ensures.lines rows (rows_readable c.args.disk.now c.args.session.now c.book.result.now settings rows c.book.ensures goes) c.requires.rests.image c.requires.rests.seen
+    let stands = rows_readable c.args.disk.now c.args.session.now c.book.result.now settings rows c.book.ensures goes in
+    let wrote = c.in-Done.ensures.wrote in
+    report_done g.K.Sink.outlet c.args.out.now c.all_days.new.out (all_day_lines rows) wrote.0
+    (c.in-Done.ensures.lines rows stands c.requires.rests.image c.requires.rests.seen) wrote.1
+    (wrote.2 rows stands c.requires.rests.image c.requires.rests.seen)
 
 pub returns-in-WriteFault-clause-text : goal.returns-in-WriteFault-clause-text
 returns-in-WriteFault-clause-text g c settings rows goes =
-    c.in-WriteFault.ensures.lines rows (rows_readable c.args.disk.now c.args.session.now c.book.result.now settings rows c.book.ensures goes) c.requires.rests.image c.requires.rests.seen
+    let stands = rows_readable c.args.disk.now c.args.session.now c.book.result.now settings rows c.book.ensures goes in
+    let wrote = c.in-WriteFault.ensures.wrote in
+    report_failed g.K.Sink.outlet c.args.out.now c.all_days.new.out (all_day_lines rows) wrote.0
+    (c.in-WriteFault.ensures.lines rows stands c.requires.rests.image c.requires.rests.seen) wrote.1
+    (wrote.2 rows stands c.requires.rests.image c.requires.rests.seen)

@@ -11,16 +11,16 @@ pub returns-in_err-write_days-clause-text : goal.returns-in_err-write_days-claus
 unfolding text_of
 returns-in_err-write_days-clause-text g c settings rows goes =
     let given : c.from_residual.result ≡ Err c.in_err-write_days.field-0.0 = search rules in
-    rw given (writes_first (g.K.Sink.outlet.taken c.args.out.now) (g.K.Sink.outlet.taken c.write_days.new.out) (days_text rows) (end_line (length rows) (length (days_of rows))) c.in_err-write_days.field-0.0
+    rw given (writes_first g.K.Sink.outlet c.args.out.now c.write_days.new.out (days_text rows) (end_line (length rows) (length (days_of rows))) c.in_err-write_days.field-0.0
     (c.in_err-write_days.ensures.text settings rows goes))
 
 pub returns-clause-text : goal.returns-clause-text
 unfolding text_of
 returns-clause-text g c settings rows goes =
-    let now = g.K.Sink.outlet.taken c.write_days.new.out in let new = g.K.Sink.outlet.taken c.write.new.out in
+    let now = c.write_days.new.out in let new = c.write.new.out in
     let stands : StandsFor c.book-book.result.now rows = subst (λ (b : Book). StandsFor b rows) (sym c.book-book.ensures) goes.stands.stands_for in
     let line : c.deref.result.now ≡ end_line (length rows) (length (days_of rows)) =
     c.deref.ensures.0 ∙ c.end_line.ensures ∙ ap (λ (n : ℕ). end_line n c.days.result) (c.len.ensures.rows rows stands)
     ∙ ap (end_line (length rows)) (c.days.ensures.rows rows stands) in
-    writes_second (g.K.Sink.outlet.taken c.args.out.now) now new (days_text rows) (end_line (length rows) (length (days_of rows))) c.write.result
-    (c.in_ok-write_days.ensures.text settings rows goes) (subst (λ (text : List ℕ). Writes now new text c.write.result) line c.write.ensures.text)
+    writes_second g.K.Sink.outlet c.args.out.now now new (days_text rows) (end_line (length rows) (length (days_of rows))) c.write.result
+    (c.in_ok-write_days.ensures.text settings rows goes) (subst (λ (text : List ℕ). Writes g.K.Sink.outlet now new text c.write.result) line c.write.ensures.text)

@@ -7,5 +7,5 @@ pub returns-clause-text : goal.returns-clause-text
 unfolding text_of
 returns-clause-text g c =
     let line : c.deref.result.now ≡ unseen_line c.args.number c.args.which = c.deref.ensures.0 ∙ c.unseen_line.ensures in
-    let P : List ℕ → Type 0 = λ text. Writes (g.K.Sink.outlet.taken c.args.out.now) (g.K.Sink.outlet.taken c.write.new.out) text c.write.result in
+    let P : List ℕ → Type 0 = λ text. Writes g.K.Sink.outlet c.args.out.now c.write.new.out text c.write.result in
     subst P line c.write.ensures.text
