@@ -7,6 +7,7 @@ cd "$(dirname "$0")/.."
 ./station pages examples/first.pages >/dev/null
 mkdir -p out/bench
 PYTHONPATH=bench:tools python3 - crates/station_program/out/station_program out/bench <<'MEASURE'
+import math
 import random
 import statistics
 import sys
@@ -50,7 +51,7 @@ for count, many in taken.items():
     seconds = statistics.median(of.seconds for of in many)
     processor = statistics.median(of.user + of.system for of in many)
     rows = many[0].said.count('\n')
-    assert rows == SECONDS * count // 300 + 1, rows
+    assert rows == 1 + math.ceil(SECONDS * (count - 1) / 300), rows  # the first packet ends an interval
     print(f'{count} packets ({count * ENTRY_BYTES / 2**20:.1f} MiB), {rows} rows: {seconds:.3f} s,',
           f'{seconds / count * 1e6:.2f} us for a packet, of the processor {processor:.3f} s,',
           f'resident at most {max(of.mebibytes for of in many):.1f} MiB')

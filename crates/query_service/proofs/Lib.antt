@@ -1,0 +1,8 @@
+pub mod DayTexts
+pub mod Piece
+pub mod HeardLines
+pub mod Answered
+pub mod Joined
+pub mod WrittenAnswer
+pub mod SaidAnswer
+pub mod Turn

@@ -1,0 +1,10 @@
+pub mod Answers
+pub mod Asked
+pub mod Ends
+pub mod Lines
+pub mod Said
+pub mod SaidOver
+pub mod Refused
+pub mod Service
+pub mod Talk
+pub mod Turns

@@ -1,0 +1,33 @@
+-- A talk in which bytes are only said.
+use Rattle.std.specs.Prelude.{ℕ, ◌≡◌, ◌+◌, List, [], ◌∷◌, ◌++◌, length}
+use Rattle.std.proofs.Common.{refl, ap, ◌∙◌, arith}
+use Rattle.serial_link.specs.Talk.{count_quiets}
+use Rattle.serial_link.specs.declared.talk.TalkItem.{TalkItem}
+use Rattle.serial_link.specs.declared.talk.TalkItem.TheVariants.{Said, Heard, Quiet}
+use Rattle.serial_link.proofs.Growing.{count_quiets-append}
+use Rattle.wake_retry.specs.Bounds.{said}
+use Rattle.wake_retry.specs.Parts.{heard}
+use Rattle.wake_retry.proofs.Endings.{heard-append}
+
+-- how many bytes were heard and waits passed
+abbrev pub count_met : List TalkItem → ℕ
+count_met t = length (heard t) + count_quiets t
+
+-- nothing is heard in it, and no wait passes
+abbrev pub OnlySays : List TalkItem → Type 0
+OnlySays t = (heard t ≡ []) × (count_quiets t ≡ 0)
+
+pub only_none : OnlySays []
+only_none = (refl, refl)
+
+pub only_joins : (s t : List TalkItem) → OnlySays s → OnlySays t → OnlySays (s ++ t)
+only_joins s t one two = (
+  heard-append s t ∙ (ap (λ (x : List ℕ). x ++ heard t) one.0 ∙ two.0),
+  omega (arith, count_quiets-append s t, one.1, two.1),
+)
+
+pub said_joins : (s t : List TalkItem) → said (s ++ t) ≡ said s ++ said t
+said_joins [] t = refl
+said_joins (Said b ends ∷ s) t = ap (λ (x : List ℕ). b ∷ x) (said_joins s t)
+said_joins (Heard b ∷ s) t = said_joins s t
+said_joins (Quiet ∷ s) t = said_joins s t
