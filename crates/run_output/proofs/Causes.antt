@@ -1,23 +1,29 @@
 -- Each fault that ends a run has a cause, whatever steps it was made of.
-use Rattle.std.proofs.Common.{ℕ, ◌≤◌, Bool, [], ◌++◌, Ok, Err, inl, inr, refl, sym, ap, subst, ◌∙◌, arith}
+use Rattle.std.proofs.Common.{ℕ, ◌≤◌, Bool, List, [], ◌++◌, Ok, Err, inl, inr, refl, sym, ap, subst, ◌∙◌, arith}
 use Rattle.std.specs.Prelude.{◌||◌}
 use Rattle.std.specs.declared.result.Result.{Result}
 use Rattle.causes.specs.Cause.{Cause, Rose}
 use Rattle.disk_model.specs.Medium.{Medium}
 use Rattle.gated_log.specs.Calls.{any_failed}
 use Rattle.gated_log.proofs.CallsMade.{any_join}
-use Rattle.run_output.specs.Causes.{Counts, CountsDisks, HasCauses, WentWell}
-use Rattle.run_output.specs.Ended.{EndsBy}
+use Rattle.run_output.specs.Causes.{Counts, CountsDisks, HasCauses, HasCausesBut, WentWell}
+use Rattle.run_output.specs.Ended.{EndsAmong, EndsBy, IsOneOf}
 use Rattle.run_output.specs.Output.{Output}
 use Rattle.run_output.specs.Outside.{Meanings}
 use Rattle.run_output.specs.Steps.{Behind, Step, then}
 use Rattle.run_output.specs.declared.outside.Outside.{Outside}
+use Rattle.run_output.specs.declared.status.Status.{Status}
 use Rattle.run_output.specs.declared.status.Status.TheVariants.{DiskFault, LinkFault, ReadFault, WriteFault}
 
 -- each fault that this step answers has a cause
 abbrev pub Causes : {F K L D A : Type 0} → Meanings F K L D → Step (Outside F K L D) A → Type 0
 Causes {F} {K} {L} {D} {A} m step =
     (old new : Outside F K L D) (result : Result A Output) → step old result new → HasCauses m old result new
+
+-- so has it where this cuts the run off
+abbrev pub CausesBut : {F K L D A : Type 0} → Meanings F K L D → (Result A Output → Type 0) → Step (Outside F K L D) A → Type 0
+CausesBut {F} {K} {L} {D} {A} m Cut step =
+    (old new : Outside F K L D) (result : Result A Output) → step old result new → HasCausesBut m (Cut result) old result new
 
 -- no call
 pub none_well : {D : Type 0} (medium : Medium D) (disk : D) → WentWell medium disk disk
@@ -89,9 +95,25 @@ join_disks medium d0 s0 d1 s1 d2 s2 never none before behind = record {
   second_well = λ disk write. went_well medium s0 s1 s2 (before.second_well never none) (behind.second_well disk write);
 }
 
+-- so it is where more cuts a step off
+pub wider : {F K L D A : Type 0} {cut wide : Type 0} (m : Meanings F K L D) (old new : Outside F K L D) (result : Result A Output) → (cut → wide)
+    → HasCausesBut m cut old result new → HasCausesBut m wide old result new
+wider m old new result more has = record {
+  files = has.files;
+  sink = has.sink;
+  link = has.link;
+  disks = record {
+    rose = has.disks.rose;
+    disk_never_falls = has.disks.disk_never_falls;
+    second_never_falls = has.disks.second_never_falls;
+    disk_well = λ fault never. has.disks.disk_well fault (λ is. never (more is));
+    second_well = λ fault never. has.disks.second_well fault (λ is. never (more is));
+  };
+}
+
 -- what was done before a step that has causes had them too
-pub joined : {F K L D A B : Type 0} (m : Meanings F K L D) (old mid new : Outside F K L D) (a : A) (result : Result B Output)
-    → HasCauses m old (let r : Result A Output = Ok a in r) mid → HasCauses m mid result new → HasCauses m old result new
+joined : {F K L D A B cut : Type 0} (m : Meanings F K L D) (old mid new : Outside F K L D) (a : A) (result : Result B Output)
+    → HasCauses m old (let r : Result A Output = Ok a in r) mid → HasCausesBut m cut mid result new → HasCausesBut m cut old result new
 joined m old mid new a result one two = record {
   files = join_counts _ _ _ (λ no. no) (λ no. no) one.files two.files;
   sink = join_counts _ _ _ (λ no. no) (λ no. no) one.sink two.sink;
@@ -99,16 +121,28 @@ joined m old mid new a result one two = record {
   disks = join_disks m.medium _ _ _ _ _ _ (λ no. no) (λ no. no) one.disks two.disks;
 }
 
-behind_causes : {F K L D A B : Type 0} (m : Meanings F K L D) (next : A → Step (Outside F K L D) B) (old mid new : Outside F K L D)
-    (answer : Result A Output) (result : Result B Output) → ((a : A) → Causes m (next a)) → HasCauses m old answer mid
-    → Behind answer next mid result new → HasCauses m old result new
-behind_causes m next old mid new (Ok a) result each one behind = joined m old mid new a result one (each a mid new result behind)
-behind_causes {F} {K} {L} {D} {A} {B} m next old mid new (Err output) result each one behind =
-    subst (λ (r : Result B Output). HasCauses m old r new) (sym behind.0)
-    (subst (λ (w : Outside F K L D). HasCauses m old (let r : Result B Output = Err output in r) w) (sym behind.1) one)
+module _ {F K L D A B : Type 0} (m : Meanings F K L D) (Cut : Result B Output → Type 0) (one : Step (Outside F K L D) A)
+    (next : A → Step (Outside F K L D) B) (first : Causes m one) (each : (a : A) → CausesBut m Cut (next a))
+    (cuts : (output : Output) → EndsBy WriteFault (let r : Result B Output = Err output in r) → Cut (Err output)) where
+  behind_causes : (old mid new : Outside F K L D) (answer : Result A Output) (result : Result B Output) → HasCauses m old answer mid
+      → Behind answer next mid result new → HasCausesBut m (Cut result) old result new
+  behind_causes old mid new (Ok a) result has behind = joined m old mid new a result has (each a mid new result behind)
+  behind_causes old mid new (Err output) result has behind =
+      subst (λ (r : Result B Output). HasCausesBut m (Cut r) old r new) (sym behind.0)
+      (subst (λ (w : Outside F K L D). HasCausesBut m (Cut (Err output)) old (let r : Result B Output = Err output in r) w) (sym behind.1)
+      (wider m old mid (let r : Result B Output = Err output in r) (cuts output) has))
 
--- where the one step has causes, and each that may follow it, so have both
+  -- where the one step has causes, and each that may follow it, so have both
+  pub then_causes_but : CausesBut m Cut (then one next)
+  then_causes_but old new result both = behind_causes old both.mid new both.answer result (first old both.mid both.answer both.first) both.behind
+
 pub then_causes : {F K L D A B : Type 0} (m : Meanings F K L D) (one : Step (Outside F K L D) A) (next : A → Step (Outside F K L D) B)
     → Causes m one → ((a : A) → Causes m (next a)) → Causes m (then one next)
-then_causes m one next first each old new result both =
-    behind_causes m next old both.mid new both.answer result each (first old both.mid both.answer both.first) both.behind
+then_causes m one next first each = then_causes_but m (EndsBy WriteFault) one next first each (λ output is. is)
+
+-- a write that failed is one of these statuses
+pub among : {F K L D A : Type 0} (m : Meanings F K L D) (statuses : List Status) (step : Step (Outside F K L D) A)
+    → IsOneOf statuses WriteFault → Causes m step → CausesBut m (EndsAmong statuses) step
+among {F} {K} {L} {D} {A} m statuses step has causes old new (Ok a) did = wider m old new (let r : Result A Output = Ok a in r) (λ is. is) (causes old new (Ok a) did)
+among {F} {K} {L} {D} {A} m statuses step has causes old new (Err output) did =
+    wider m old new (let r : Result A Output = Err output in r) (λ is. subst (IsOneOf statuses) (sym is) has) (causes old new (Err output) did)

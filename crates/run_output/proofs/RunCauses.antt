@@ -1,10 +1,10 @@
 -- The causes of a run: those of its command, and of the write of its last lines.
-use Rattle.std.proofs.Common.{◌≡◌, ◌≢◌, ◌⊎◌, ℕ, inl, inr, refl, sym, ap, subst, ◌∙◌, arith}
+use Rattle.std.proofs.Common.{◌≡◌, ◌≢◌, ◌⊎◌, ℕ, List, [], ◌∷◌, map, Ok, Err, inl, inr, refl, sym, ap, subst, ◌∙◌, arith}
 use Rattle.std.specs.Prelude.{◌==◌, if◌then◌else◌}
 use Rattle.std.specs.declared.result.Result.{Result}
 use Rattle.causes.specs.Cause.{Cause, Rose}
-use Rattle.run_output.specs.Causes.{FaultCauses, HasCauses}
-use Rattle.run_output.specs.Ended.{EndsBy, Lines, output_of}
+use Rattle.run_output.specs.Causes.{FaultCauses, HasCausesBut}
+use Rattle.run_output.specs.Ended.{EndsAmong, EndsBy, IsOneOf, Lines, output_of}
 use Rattle.run_output.specs.Output.{Finishes, Output, code}
 use Rattle.run_output.specs.Outside.{Meanings}
 use Rattle.station_io.specs.Sink.{Outlet}
@@ -14,9 +14,10 @@ use Rattle.run_output.specs.declared.status.Status.TheVariants as ends
 use Rattle.run_output.proofs.Causes.{rose_before, rose_later}
 use Rattle.run_output.proofs.Statuses.{ends_so, has_status}
 
--- What a run says of the outside, by the number that it ends with.
-abbrev pub RunCauses : {F K L D : Type 0} → Meanings F K L D → Outside F K L D → Outside F K L D → ℕ → Type 0
-RunCauses m old new result = FaultCauses m old new (result ≡ 8) (result ≡ 9) (result ≡ 6) (result ≡ 7)
+-- What a run says of the outside, by the number that it ends with, where these statuses cut it off.
+abbrev pub RunCauses : {F K L D : Type 0} → Meanings F K L D → List Status → Outside F K L D → Outside F K L D → ℕ → Type 0
+RunCauses m cuts old new result =
+    FaultCauses m old new (result ≡ 8) (result ≡ 9) (result ≡ 6) (result ≡ 7) (IsOneOf (map code cuts) result)
 
 -- the status of a number
 abbrev at : ℕ → Status
@@ -59,8 +60,25 @@ pub same_status : {S : Type 0} (outlet : Outlet S) (old new : S) (output : Outpu
 same_status outlet old new output status (inl whole) other = sym whole.0
 same_status outlet old new output status (inr part) other = absurd (other (ap code part.0))
 
+-- what holds of the number of an output's status, and of that of a write fault, holds of the number that a run ends with
+pub ends_within : {S : Type 0} (outlet : Outlet S) (old new : S) (output : Output) (status : Status) (P : ℕ → Type 0)
+    → Finishes (outlet.taken old) (outlet.taken new) output status → P (code output.status) → P 9 → P (code status)
+ends_within outlet old new output status P (inl whole) is nine = subst P (ap code (sym whole.0)) is
+ends_within outlet old new output status P (inr part) is nine = subst P (ap code (sym part.0)) nine
+
+-- so have the numbers of statuses
+pub numbered : (statuses : List Status) (status : Status) → IsOneOf statuses status → IsOneOf (map code statuses) (code status)
+numbered [] status is = is
+numbered (one ∷ []) status is = ap code is
+numbered (one ∷ next ∷ more) status (inl is) = inl (ap code is)
+numbered (one ∷ next ∷ more) status (inr is) = inr (numbered (next ∷ more) status is)
+
+among_status : (statuses : List Status) (ended : Result Lines Output) → EndsAmong statuses ended → IsOneOf statuses (output_of ended).status
+among_status statuses (Ok text) is = absurd is
+among_status statuses (Err output) is = is
+
 module _ {F K L D : Type 0} (m : Meanings F K L D) (old mid new : Outside F K L D) (ended : Result Lines Output) (status : Status)
-    (has : HasCauses m old ended mid) (alone : new ≡ record mid { out = new.out })
+    (cuts : List Status) (nine : IsOneOf (map code cuts) 9) (has : HasCausesBut m (EndsAmong cuts ended) old ended mid) (alone : new ≡ record mid { out = new.out })
     (finishes : Finishes (m.outlet.taken mid.out) (m.outlet.taken new.out) (output_of ended) status)
     (cause : Cause (m.outlet.faults mid.out) (m.outlet.faults new.out) (status ≢ (output_of ended).status))
     (still : status ≢ ends.WriteFault → m.outlet.faults new.out ≡ m.outlet.faults mid.out) where
@@ -80,7 +98,14 @@ module _ {F K L D : Type 0} (m : Meanings F K L D) (old mid new : Outside F K L 
     | inr other ↦ rose_later _ _ _ has.sink.cause.never_falls (cause.rose (λ same. other (sym same ∙ is)))
   ]
 
-  run_causes_mid : RunCauses m old (record mid { out = new.out }) (code status)
+  uncut : ¬ (IsOneOf (map code cuts) (code status)) → ¬ (EndsAmong cuts ended)
+  uncut never is = never (ends_within m.outlet mid.out new.out (output_of ended) status (IsOneOf (map code cuts)) finishes
+      (numbered cuts (output_of ended).status (among_status cuts ended is)) nine)
+
+  not_nine : ¬ (IsOneOf (map code cuts) (code status)) → code status ≢ 9
+  not_nine never is = never (subst (IsOneOf (map code cuts)) (sym is) nine)
+
+  run_causes_mid : RunCauses m cuts old (record mid { out = new.out }) (code status)
   run_causes_mid = record {
     files = record {
       cause = record { never_falls = has.files.cause.never_falls; rose = λ is. has.files.cause.rose (by ends.ReadFault (λ e. cc) (λ e. cc) is) };
@@ -98,17 +123,11 @@ module _ {F K L D : Type 0} (m : Meanings F K L D) (old mid new : Outside F K L 
       rose = λ is. has.disks.rose (by ends.DiskFault (λ e. cc) (λ e. cc) is);
       disk_never_falls = has.disks.disk_never_falls;
       second_never_falls = has.disks.second_never_falls;
-      disk_well = λ fault write. has.disks.disk_well (not_by ends.DiskFault fault write) (not_by ends.WriteFault write write);
-      second_well = λ fault write. has.disks.second_well (not_by ends.DiskFault fault write) (not_by ends.WriteFault write write);
+      disk_well = λ fault never. has.disks.disk_well (not_by ends.DiskFault fault (not_nine never)) (uncut never);
+      second_well = λ fault never. has.disks.second_well (not_by ends.DiskFault fault (not_nine never)) (uncut never);
     };
   }
 
   -- the causes of a run whose command has causes
-  pub run_causes : RunCauses m old new (code status)
-  run_causes = subst (λ (w : Outside F K L D). RunCauses m old w (code status)) (sym alone) run_causes_mid
-
--- what holds of the number of an output's status, and of that of a write fault, holds of the number that a run ends with
-pub ends_within : {S : Type 0} (outlet : Outlet S) (old new : S) (output : Output) (status : Status) (P : ℕ → Type 0)
-    → Finishes (outlet.taken old) (outlet.taken new) output status → P (code output.status) → P 9 → P (code status)
-ends_within outlet old new output status P (inl whole) is nine = subst P (ap code (sym whole.0)) is
-ends_within outlet old new output status P (inr part) is nine = subst P (ap code (sym part.0)) nine
+  pub run_causes : RunCauses m cuts old new (code status)
+  run_causes = subst (λ (w : Outside F K L D). RunCauses m cuts old w (code status)) (sym alone) run_causes_mid

@@ -36,15 +36,19 @@ pub record CountsDisks {D : Type 0} (medium : Medium D) (disk second disk' secon
   pub disk_well : ¬ fault → ¬ cut → WentWell medium disk disk'
   pub second_well : ¬ fault → ¬ cut → WentWell medium second second'
 
--- Each of the four faults ends a run only where its own count rose.
+-- Each of the four faults ends a run only where its own count rose. A call of a disk may have failed in a run that was cut off.
 pub record FaultCauses {F K L D : Type 0} (m : Meanings F K L D) (old new : Outside F K L D)
-    (by_read by_write by_link by_disk : Type 0) : Type 0 where
+    (by_read by_write by_link by_disk cut : Type 0) : Type 0 where
   pub files : Counts (m.shelf.faults old.files) (m.shelf.faults new.files) by_read by_write
   pub sink : Counts (m.outlet.faults old.out) (m.outlet.faults new.out) by_write by_write
   pub link : Cause (m.traffic.faults old.link) (m.traffic.faults new.link) by_link
-  pub disks : CountsDisks m.medium old.disk old.second new.disk new.second by_disk by_write
+  pub disks : CountsDisks m.medium old.disk old.second new.disk new.second by_disk cut
 
--- The faults by which a step ends the run have causes.
+-- The faults by which a step ends the run have causes, where this cuts it off.
+abbrev pub HasCausesBut : {F K L D A : Type 0} → Meanings F K L D → Type 0 → Outside F K L D → Result A Output → Outside F K L D → Type 0
+HasCausesBut m cut old result new =
+    FaultCauses m old new (EndsBy ReadFault result) (EndsBy WriteFault result) (EndsBy LinkFault result) (EndsBy DiskFault result) cut
+
+-- A write that failed cuts it off.
 abbrev pub HasCauses : {F K L D A : Type 0} → Meanings F K L D → Outside F K L D → Result A Output → Outside F K L D → Type 0
-HasCauses m old result new =
-    FaultCauses m old new (EndsBy ReadFault result) (EndsBy WriteFault result) (EndsBy LinkFault result) (EndsBy DiskFault result)
+HasCauses m old result new = HasCausesBut m (EndsBy WriteFault result) old result new

@@ -25,3 +25,8 @@ abbrev pub IsOneOf : {A : Type 0} → List A → A → Type 0
 IsOneOf [] it = ⊥
 IsOneOf (one ∷ []) it = it ≡ one
 IsOneOf (one ∷ next ∷ more) it = (it ≡ one) ⊎ IsOneOf (next ∷ more) it
+
+-- a step ended the run with one of these statuses
+abbrev pub EndsAmong : {A : Type 0} → List Status → Result A Output → Type 0
+EndsAmong statuses (Ok a) = ⊥
+EndsAmong statuses (Err output) = IsOneOf statuses output.status
