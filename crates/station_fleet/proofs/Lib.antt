@@ -1,0 +1,4 @@
+pub mod NewStation
+pub mod OneTurn
+pub mod OwnRuns
+pub mod WholeTexts

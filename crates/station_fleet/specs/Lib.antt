@@ -1,0 +1,4 @@
+pub mod Fleets
+pub mod Outcomes
+pub mod StationTurns
+pub mod TurnLaws

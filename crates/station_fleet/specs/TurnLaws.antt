@@ -1,0 +1,175 @@
+-- Laws of what the turns of a station come to.
+use Rattle.std.specs.Prelude.{ℕ, ◌≡◌, ◌≢◌, ◌⊎◌, List, [], ◌∷◌, ◌++◌, Some, None}
+use Rattle.std.proofs.Common.{refl, sym, ap, subst, ◌∙◌, append-nil, append_assoc}
+use Rattle.std.specs.declared.option.Option.{Option}
+use Rattle.settings_file.specs.StationSettings.{StationSettings}
+use Rattle.fleet.specs.declared.member.MemberTurn.{MemberTurn}
+use Rattle.fleet.specs.declared.member.MemberTurn.TheVariants.{More, Ended, Unseen, WriteFault, OutOfMemory}
+use Rattle.fleet.specs.MemberTurns.{Both}
+use Rattle.station_replay.specs.Kept.{Kept}
+use Rattle.station_replay.specs.Schedule.{records}
+use Rattle.station_replay.specs.Replay.{IsBegun, IsReplay, IsUnseen, Item}
+use Rattle.station_replay.specs.Texts.{text}
+use Rattle.schedule_replay.specs.Replayed.{TookPart}
+use Rattle.schedule_replay.specs.Replaying.{Course}
+use Rattle.schedule_replay.specs.TextTelling.{text_join}
+use Rattle.station_fleet.specs.declared.station.Station.{Station}
+use Rattle.station_fleet.specs.Outcomes.{Comes, Cuts, Stands, StationTurned, end_of, only, start_of, steps_of}
+
+pub turned_none : (s : Station) → StationTurned s [] (λ bytes. bytes ≡ []) s
+turned_none s = (refl, refl)
+
+-- what is known of the text may be said less exactly
+pub comes_wider : (end : Option MemberTurn) (settings : StationSettings) (c : Course) (items : List Item)
+    (P Q : List ℕ → Type 0) (s : Station) → ((bytes : List ℕ) → P bytes → Q bytes) → Comes end settings c items P s
+    → Comes end settings c items Q s
+comes_wider None settings c items P Q s wider came = tt
+comes_wider (Some More) settings c items P Q s wider came =
+    record { given = came.given; writes = wider (text came.given) came.writes; stands = came.stands }
+comes_wider (Some Ended) settings c items P Q s wider came = record {
+  given = came.given;
+  writes = wider (text came.given) came.writes;
+  kept = came.kept;
+  took_part = came.took_part;
+}
+comes_wider (Some Unseen) settings c items P Q s wider came = record {
+  given = came.given;
+  writes = wider (text came.given) came.writes;
+  is_unseen = came.is_unseen;
+  kept = came.kept;
+}
+comes_wider (Some WriteFault) settings c items P Q s wider came = record {
+  given = came.given;
+  written = came.written;
+  front = came.front;
+  writes = wider came.written came.writes;
+  is_begun = came.is_begun;
+  kept = came.kept;
+}
+comes_wider (Some OutOfMemory) settings c items P Q s wider came = record {
+  given = came.given;
+  written = came.written;
+  front = came.front;
+  writes = wider came.written came.writes;
+  is_begun = came.is_begun;
+  kept = came.kept;
+}
+
+pub turned_wider : (l m : Station) (answers : List MemberTurn) (P Q : List ℕ → Type 0)
+    → ((bytes : List ℕ) → P bytes → Q bytes) → StationTurned l answers P m → StationTurned l answers Q m
+turned_wider l m [] P Q wider turned = (turned.0, wider [] turned.1)
+turned_wider l m (answer ∷ later) P Q wider turned = λ settings c items stands.
+    comes_wider (end_of (answer ∷ later)) settings c items P Q m wider (turned settings c items stands)
+
+-- a text of items behind others
+both_texts : (P Q : List ℕ → Type 0) (first later : List Item) → P (text first) → Q (text later)
+    → Both P Q (text (first ++ later))
+both_texts P Q first later p q = (text first, text later, text_join first later, p, q)
+
+cuts_behind : (settings : StationSettings) (c : Course) (items given : List Item) (P Q : List ℕ → Type 0)
+    → P (text given) → Cuts settings c (items ++ given) Q → Cuts settings c items (Both P Q)
+cuts_behind settings c items given P Q p cut = record {
+  given = given ++ cut.given;
+  written = text given ++ cut.written;
+  front = (
+    cut.front.0,
+    append_assoc (text given) cut.written cut.front.0
+        ∙ (ap (λ (bytes : List ℕ). text given ++ bytes) cut.front.1 ∙ sym (text_join given cut.given)),
+  );
+  writes = (text given, cut.written, refl, p, cut.writes);
+  is_begun = subst (λ (xs : List Item). IsBegun settings (start_of c) (steps_of settings c) xs
+      ⊎ IsReplay settings (start_of c) (steps_of settings c) xs) (append_assoc items given cut.given) cut.is_begun;
+  kept = subst (λ (xs : List Item). Kept settings (records (steps_of settings c)) xs) (append_assoc items given cut.given) cut.kept;
+}
+
+-- what turns come to that stand behind items which were given
+comes_behind : (end : Option MemberTurn) (settings : StationSettings) (c : Course) (items given : List Item)
+    (P Q : List ℕ → Type 0) (s : Station) → P (text given) → Comes end settings c (items ++ given) Q s
+    → Comes end settings c items (Both P Q) s
+comes_behind None settings c items given P Q s p came = tt
+comes_behind (Some More) settings c items given P Q s p came = record {
+  given = given ++ came.given;
+  writes = both_texts P Q given came.given p came.writes;
+  stands = subst (λ (xs : List Item). Stands settings c xs s) (append_assoc items given came.given) came.stands;
+}
+comes_behind (Some Ended) settings c items given P Q s p came = record {
+  given = given ++ came.given;
+  writes = both_texts P Q given came.given p came.writes;
+  kept = subst (λ (xs : List Item). Kept settings (records (steps_of settings c)) xs) (append_assoc items given came.given) came.kept;
+  took_part = subst (λ (xs : List Item). TookPart settings (start_of c) (steps_of settings c) xs c.before s.line s.disk)
+      (append_assoc items given came.given) came.took_part;
+}
+comes_behind (Some Unseen) settings c items given P Q s p came = record {
+  given = given ++ came.given;
+  writes = both_texts P Q given came.given p came.writes;
+  is_unseen = subst (λ (xs : List Item). IsUnseen settings (start_of c) (steps_of settings c) xs)
+      (append_assoc items given came.given) came.is_unseen;
+  kept = subst (λ (xs : List Item). Kept settings (records (steps_of settings c)) xs) (append_assoc items given came.given) came.kept;
+}
+comes_behind (Some WriteFault) settings c items given P Q s p came = cuts_behind settings c items given P Q p came
+comes_behind (Some OutOfMemory) settings c items given P Q s p came = cuts_behind settings c items given P Q p came
+
+-- behind turns that go on the end is that of those behind them; behind an end there is none
+abbrev pub end_behind : Option MemberTurn → Option MemberTurn → Option MemberTurn
+end_behind (Some More) later = later
+end_behind (Some Ended) later = None
+end_behind (Some Unseen) later = None
+end_behind (Some WriteFault) later = None
+end_behind (Some OutOfMemory) later = None
+end_behind None later = None
+
+none_behind : (answer : MemberTurn) (first : List MemberTurn) (next : MemberTurn) (later : List MemberTurn) → answer ≢ More
+    → only answer (first ++ next ∷ later) ≡ end_behind (only answer first) (end_of (next ∷ later))
+none_behind More first next later goes = absurd (goes refl)
+none_behind Ended [] next later goes = refl
+none_behind Ended (a ∷ first) next later goes = refl
+none_behind Unseen [] next later goes = refl
+none_behind Unseen (a ∷ first) next later goes = refl
+none_behind WriteFault [] next later goes = refl
+none_behind WriteFault (a ∷ first) next later goes = refl
+none_behind OutOfMemory [] next later goes = refl
+none_behind OutOfMemory (a ∷ first) next later goes = refl
+
+end_joins : (first : List MemberTurn) (next : MemberTurn) (later : List MemberTurn)
+    → end_of (first ++ next ∷ later) ≡ end_behind (end_of first) (end_of (next ∷ later))
+end_joins [] next later = refl
+end_joins (More ∷ first) next later = end_joins first next later
+end_joins (Ended ∷ first) next later = none_behind Ended first next later (λ e. absurd (let no : Ended ≡ More = e in cc))
+end_joins (Unseen ∷ first) next later = none_behind Unseen first next later (λ e. absurd (let no : Unseen ≡ More = e in cc))
+end_joins (WriteFault ∷ first) next later =
+    none_behind WriteFault first next later (λ e. absurd (let no : WriteFault ≡ More = e in cc))
+end_joins (OutOfMemory ∷ first) next later =
+    none_behind OutOfMemory first next later (λ e. absurd (let no : OutOfMemory ≡ More = e in cc))
+
+-- what turns come to, and then others, by how the first ended
+comes_joins : (end : Option MemberTurn) (next : MemberTurn) (later : List MemberTurn) (settings : StationSettings)
+    (c : Course) (items : List Item) (P Q : List ℕ → Type 0) (m n : Station) → Comes end settings c items P m
+    → StationTurned m (next ∷ later) Q n
+    → Comes (end_behind end (end_of (next ∷ later))) settings c items (Both P Q) n
+comes_joins (Some More) next later settings c items P Q m n came turned =
+    comes_behind (end_of (next ∷ later)) settings c items came.given P Q n came.writes
+    (turned settings c (items ++ came.given) came.stands)
+comes_joins (Some Ended) next later settings c items P Q m n came turned = tt
+comes_joins (Some Unseen) next later settings c items P Q m n came turned = tt
+comes_joins (Some WriteFault) next later settings c items P Q m n came turned = tt
+comes_joins (Some OutOfMemory) next later settings c items P Q m n came turned = tt
+comes_joins None next later settings c items P Q m n came turned = tt
+
+pub turned_joins : (l m n : Station) (first later : List MemberTurn) (P Q : List ℕ → Type 0) → StationTurned l first P m
+    → StationTurned m later Q n → StationTurned l (first ++ later) (Both P Q) n
+turned_joins l m n [] [] P Q one two = (two.0 ∙ one.0, ([], [], refl, one.1, two.1))
+turned_joins l m n [] (next ∷ later) P Q one two =
+    let from : StationTurned l (next ∷ later) Q n =
+    subst (λ (s : Station). StationTurned s (next ∷ later) Q n) one.0 two in
+    turned_wider l n (next ∷ later) Q (Both P Q) (λ bytes q. ([], bytes, refl, one.1, q)) from
+turned_joins l m n (answer ∷ first) [] P Q one two =
+    let to : StationTurned l (answer ∷ first) P n =
+    subst (λ (s : Station). StationTurned l (answer ∷ first) P s) (sym two.0) one in
+    let whole : StationTurned l (answer ∷ first) (Both P Q) n =
+    turned_wider l n (answer ∷ first) P (Both P Q)
+    (λ bytes p. (bytes, [], sym (append-nil bytes), p, two.1)) to in
+    subst (λ (answers : List MemberTurn). StationTurned l answers (Both P Q) n) (sym (append-nil (answer ∷ first))) whole
+turned_joins l m n (answer ∷ first) (next ∷ later) P Q one two = λ settings c items stands.
+    subst (λ (end : Option MemberTurn). Comes end settings c items (Both P Q) n)
+    (sym (end_joins (answer ∷ first) next later))
+    (comes_joins (end_of (answer ∷ first)) next later settings c items P Q m n (one settings c items stands) two)

@@ -1,0 +1,8 @@
+//! A station of a fleet is the replay of a schedule, with a line and a disk of its own, turn by turn.
+#![tactic(auto)]
+
+mod laws;
+mod station;
+
+pub use laws::each_station_runs_its_schedule;
+pub use station::Station;
