@@ -1,3 +1,4 @@
+pub mod FewSteps
 pub mod NewStation
 pub mod OneTurn
 pub mod OwnRuns

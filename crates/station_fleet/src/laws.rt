@@ -1,10 +1,13 @@
-ghost use Rattle.std.specs.Prelude.{ℕ, List};
+ghost use Rattle.std.specs.Prelude.{ℕ, ◌≤◌, List, Ok, length};
 ghost use Rattle.settings_file.specs.StationSettings.{StationSettings};
 ghost use Rattle.fleet.specs.Crew.{Crew};
 ghost use Rattle.fleet.specs.Log.{Along};
 ghost use Rattle.fleet.specs.StationLines.{AreUncut};
 ghost use Rattle.fleet.specs.TurnText.{Entry};
 ghost use Rattle.schedule_replay.specs.Replaying.{Course};
+ghost use Rattle.schedule_file.specs.Answer.{ReadsAs};
+ghost use Rattle.schedule_file.specs.Reading.{steps_of};
+ghost use Rattle.schedule_file.specs.declared.schedule.Schedule.{Schedule};
 ghost use Rattle.station_fleet.specs.Fleets.{Begin, EachRan};
 ghost use Rattle.station_fleet.specs.StationTurns.{station_turning};
 ghost use Rattle.station_fleet.specs.declared.station.Station.{Station};
@@ -17,4 +20,10 @@ pub fn each_station_runs_its_schedule<K: Sink>()
     ensures { (old new : Crew Station) (before after : K) (log : List (Entry K)) (settings : ℕ → StationSettings) (course : ℕ → Course)
         → Along station_turning K.outlet old before log new after → AreUncut log → Begin settings course old
         → (text : List ℕ) × K.outlet.wrote before text after × EachRan settings course log new text }
+{}
+
+/// A schedule that was read has at most 10,000 steps, so a station of it has fewer than 2^48 turns left.
+pub fn a_schedule_has_few_steps()
+    ensures { (bytes : List ℕ) (period : ℕ) (schedule : Schedule) → ReadsAs (steps_of bytes period) (Ok schedule)
+        → length schedule.steps.items ≤ 10000 }
 {}

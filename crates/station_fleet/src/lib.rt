@@ -4,5 +4,5 @@
 mod laws;
 mod station;
 
-pub use laws::each_station_runs_its_schedule;
+pub use laws::{a_schedule_has_few_steps, each_station_runs_its_schedule};
 pub use station::Station;
