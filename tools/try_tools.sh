@@ -80,12 +80,35 @@ picture = chart.Picture(rows.read_rows(sys.stdin, '0.01in'), chart.AS_IT_IS)
 print(*picture.series('outTemp'), *(height for height, _ in picture.rain_bars()[0].values()))
 PYTHON
 
+# Of 50,000 rows a picture shows few, and among them the extremes, a value by itself, and the gaps beside it.
+cat >thinned.py <<'PYTHON'
+import datetime
+import math
+import chart
+import rows
+five, first = datetime.timedelta(minutes=5), datetime.datetime(2024, 1, 1)
+values = [{'outTemp': number * 37 % 101} for number in range(50_000)]
+values[31_234], values[20_000:20_400], values[20_200] = {'outTemp': 999}, [{}] * 400, {'outTemp': 50}
+picture = chart.Picture([rows.Row(first + number * five, five, one) for number, one in enumerate(values)], chart.AS_IT_IS)
+series = picture.series('outTemp')
+seen = picture.seen(series)
+shown = [series[place] for place in seen]
+lone = seen.index(20_200)
+print(len(seen) < 4_000, {0, 31_234, 49_999} <= {*seen}, math.isnan(shown[lone - 1]), math.isnan(shown[lone + 1]), 100 in shown)
+PYTHON
+
 if /usr/bin/python3 -c 'import matplotlib' 2>/dev/null; then
+    expect 'what a picture shows of many rows' 0 'True True True True True' env PYTHONPATH="$tools" /usr/bin/python3 thinned.py
     expect 'a gap for a value, one for rows, and bars' 0 '65.1 nan nan 64.0 0.02 0.0 0.01' \
         env PYTHONPATH="$tools" /usr/bin/python3 series.py <rows
     expect 'a chart' 0 '' on replay "$tools/chart.py" --metric chart.svg
     expect 'the title of a chart' 0 1 grep -c -- '<!-- 2024-07-01 00:05 to 2024-07-01 00:25 -->' chart.svg
     expect 'the units of a chart' 0 1 grep -c -- '<!-- °C -->' chart.svg
+    expect 'a chart of two panels with a title' 0 '' \
+        on rows "$tools/chart.py" --title "Roof \$x\$" --panels temperature,rain two.svg
+    expect 'that title' 0 1 grep -cF -- "<!-- Roof \$x\$ -->" two.svg
+    expect 'its panels' 0 $'Rain\nTemperature' eval "grep -oE '<!-- (Rain|Temperature|Wind) ' two.svg | tr -d '<!\- ' | sort"
+    expect 'a panel that is none' 2 "*there is no panel 'snow', *" on rows "$tools/chart.py" --panels snow two.svg
     expect 'a chart of pixels' 0 '' on rows "$tools/chart.py" chart.png
     expect 'its kind' 0 1 grep -ac PNG chart.png
     expect 'a chart of a refusal' 1 'chart: the program said: disk fault' on refusal "$tools/chart.py" chart.png

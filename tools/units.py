@@ -1,0 +1,77 @@
+"""The units in which values are shown: as the fields have them, or metric ones."""
+import rows as row_lines
+
+# How the values of a unit are shown: with its sign, or by another unit with `--metric`.
+AS_IT_IS = {
+    'degree_F': ('°F', lambda value: value),
+    'percent': ('%', lambda value: value),
+    'inHg': ('inHg', lambda value: value),
+    'mile_per_hour': ('mph', lambda value: value),
+    'inch': ('in', lambda value: value),
+    'watt_per_meter_squared': ('W/m²', lambda value: value),
+    'uv_index': ('', lambda value: value),
+}
+METRIC = AS_IT_IS | {
+    'degree_F': ('°C', lambda value: (value - 32) / 1.8),
+    'inHg': ('hPa', lambda value: value * 33.86389),
+    'mile_per_hour': ('m/s', lambda value: value * 0.44704),
+    'inch': ('mm', lambda value: value * 25.4),
+}
+DIGITS = {'°F': 1, '°C': 1, '%': 0, 'inHg': 3, 'hPa': 1, 'mph': 0, 'm/s': 1, 'in': 2, 'mm': 1, 'W/m²': 0, '': 1}
+MISSING = '–'
+MINUS = '−'
+COMPASS = ('N', 'NNE', 'NE', 'ENE', 'E', 'ESE', 'SE', 'SSE', 'S', 'SSW', 'SW', 'WSW', 'W', 'WNW', 'NW', 'NNW')
+DEGREES_A_CODE = 360 / len(COMPASS)
+BASE_FAHRENHEIT = 65  # of degree days
+
+
+def direction(degrees):
+    """The name of a direction, which the console has as one of sixteen."""
+    return COMPASS[round(degrees / DEGREES_A_CODE) % len(COMPASS)]
+
+
+class Units:
+    """The units of an observer's choice, and what a click of the rain bucket is."""
+
+    def __init__(self, metric, bucket):
+        self.shown = METRIC if metric else AS_IT_IS
+        self.bucket = bucket
+
+    def sign(self, name):
+        """The sign of the unit of a field."""
+        return self.shown[row_lines.unit_of(name)][0]
+
+    def value(self, name, number):
+        """A field's value, counted as in lines of the program, in the field's unit."""
+        return row_lines.value_of(name, number, self.bucket)
+
+    def text(self, name, value):
+        """The digits of a value that is in the field's unit, or a dash if there is none."""
+        if value is None:
+            return MISSING
+        sign, convert = self.shown[row_lines.unit_of(name)]
+        return f'{convert(value):z.{DIGITS[sign]}f}'.replace('-', MINUS)
+
+    def counted(self, name, number):
+        """The digits of a value that is counted as in lines of the program."""
+        return self.text(name, None if number is None else self.value(name, number))
+
+    def change(self, name, value, before):
+        """The digits of what was added to a value, with their sign."""
+        if value is None or before is None:
+            return MISSING
+        sign, convert = self.shown[row_lines.unit_of(name)]
+        return f'{convert(value) - convert(before):+z.{DIGITS[sign]}f}'.replace('-', MINUS)
+
+    def with_sign(self, name, value):
+        """A value and the sign of its unit."""
+        return f'{self.text(name, value)} {self.sign(name)}'.rstrip()
+
+    def degree_days(self, fahrenheit):
+        """The digits of degree days, which are counted in degrees Fahrenheit."""
+        sign, convert = self.shown['degree_F']
+        return f'{convert(fahrenheit) - convert(0):.{DIGITS[sign]}f}'
+
+    def base(self):
+        """The temperature from which degree days are counted."""
+        return self.with_sign('outTemp', BASE_FAHRENHEIT)
