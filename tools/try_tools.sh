@@ -52,6 +52,7 @@ begin setup "$tools/setup.py" --program "$program" --set-clock --settings talk -
 odd_console back --clock '2024-10-27 02:30' --run '2024-10-27 01:00' 24 --run '2024-10-27 02:00' 24
 begin check round_and_check "127.0.0.1:$port"
 begin salvage "$tools/try_salvage.py" "$program"
+begin page "$tools/try_page.py" "$program"
 mkdir shown path
 ln -s "$program" path/jofitrana
 begin demo env TMPDIR="$folder/shown" PATH="$folder/path:$PATH" "$tools/demo.sh"
@@ -453,6 +454,11 @@ expect 'a setup that is installed' 2 '*no name of a station*' prefix/bin/jofitra
 expect 'a check that is installed' 3 'JOFITRANA UNKNOWN - rows holds text, *' prefix/bin/jofitrana-check rows
 expect 'a salvage that is installed' 0 '*new.archive has its first 15 rows, *' \
     prefix/bin/jofitrana-salvage --program "$program" cut.archive new.archive
+if /usr/bin/python3 -c 'import jinja2, matplotlib' 2>/dev/null; then
+    expect 'a page that is installed' 1 'page: a: disk fault' prefix/bin/jofitrana-page --program "$program" a folder
+else
+    expect 'a page that is installed' 1 'page: *python3-jinja2' prefix/bin/jofitrana-page a folder
+fi
 expect 'a taker of packets that is installed' 6 'link fault' prefix/bin/jofitrana-packets 127.0.0.1:1 5 live.packets
 expect 'a demo that is installed' 1 '*demo: the console does not serve; *' \
     env TMPDIR="$folder/shown" prefix/bin/jofitrana-demo ./program
@@ -483,7 +489,7 @@ if command -v systemd-analyze >/dev/null; then
     mkdir units && cp "$tools"/../systemd/*@.* units
     sed -i "s|^ExecStart=jofitrana[-a-z]* |ExecStart=$folder/program |" units/*
     expect 'the units' 0 '' systemd-analyze verify --man=no --recursive-errors=no "$folder"/units/*
-    for name in jofitrana jofitrana-check; do
+    for name in jofitrana jofitrana-check jofitrana-page; do
         expect "how far $name is shut in" 0 '*exposure level*' \
             systemd-analyze security --offline=true --threshold=20 "$folder/units/$name@.service"
     done
@@ -502,6 +508,11 @@ expect 'the schedule of the stormy week' 0 '' cmp <(python3 "$tools/make_week.py
 expect_end setup 0 "*Its clock was set to this machine's time*Its clock shows *, as this machine's does*Now make *"
 expect_end check 2 $'round ok attempts 1 pages 10 skipped 0 acked 36 rows 36\nJOFITRANA CRITICAL *, before the last row: *'
 expect_end salvage 0 '* passed, 0 failed'
+if /usr/bin/python3 -c 'import jinja2, matplotlib' 2>/dev/null; then
+    expect_end page 0 '*[1-9]* passed, 0 failed'
+else
+    expect_end page 0 '*is missing*'
+fi
 expect_end demo 0 $'*
 \$ jofitrana console week.toml week.schedule 127.0.0.1:* 1000000 &
 *

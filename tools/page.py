@@ -1,0 +1,176 @@
+#!/usr/bin/python3
+"""Makes a web page of an archive: the last row and its day, charts, and climate tables.
+
+    jofitrana-page --metric --name 'Roof, Bern' roof.archive /var/www/html/roof
+
+FOLDER gets index.html, its charts, and a page of climate tables for each year with each table as CSV beside it. A page asks
+no other host and has no script. Each file is replaced as a whole, and a new chart has a new name, so a reader of the folder
+never sees half a page. Times are the console's: this machine's clock has to show them, so set TZ if it does not.
+Statuses: 0, 1 if the report is refused or the folder cannot be written, 2 if the words are out of form.
+"""
+import argparse
+import hashlib
+import json
+import os
+import sys
+import tempfile
+import time
+from datetime import date, datetime, timedelta
+from pathlib import Path
+
+sys.dont_write_bytecode = True  # nothing is left beside an installed script
+
+try:
+    import jinja2
+except ImportError:
+    sys.exit('page: jinja2 is missing; on Debian: apt install python3-jinja2')
+
+import page_now
+import rows as row_lines
+from climate_tables import YearOfRows, tables_of
+from reports import Archive, Refused
+from units import Units
+
+TEMPLATES = Path(os.path.realpath(__file__)).parent / 'page'
+NOTE = '.made.json'  # what each year's tables were made of
+MODE = 0o644
+OLD_SECONDS = 3600  # as long a chart of an earlier page is kept, for who has that page open
+DAY, MONTH = timedelta(days=1), timedelta(days=31)
+YEAR_DAYS = page_now.SPANS['Year']
+
+
+class Folder:
+    """The folder of a page."""
+
+    def __init__(self, name):
+        self.path = Path(name)
+        self.path.mkdir(mode=0o755, parents=True, exist_ok=True)
+
+    def write(self, name, text):
+        """Replaces a file as a whole."""
+        with tempfile.NamedTemporaryFile('w', encoding='utf-8', dir=self.path, prefix='.new-', delete=False) as file:
+            try:
+                file.write(text)
+                file.flush()
+                os.fchmod(file.fileno(), MODE)
+                os.replace(file.name, self.path / name)
+            except BaseException:
+                os.unlink(file.name)
+                raise
+
+    def note(self):
+        """The note of what was made."""
+        try:
+            return dict(json.loads((self.path / NOTE).read_text(encoding='utf-8')))
+        except (OSError, ValueError, TypeError):
+            return {}
+
+    def has(self, name):
+        """Whether a file is there."""
+        return (self.path / name).exists()
+
+    def clear(self, kept):
+        """Takes away charts of earlier pages, and what a run that was killed left."""
+        for file in [*self.path.glob('*-*.svg'), *self.path.glob('.new-*')]:
+            if file.name not in kept and time.time() - file.stat().st_mtime > OLD_SECONDS:
+                file.unlink(missing_ok=True)
+
+
+def days_within(year, first, last):
+    """The part of a time that lies in a year, by its first day and its last."""
+    return max(first, date(year, 1, 1)), min(last, date(year, 12, 31))
+
+
+class Page:
+    """The page of an archive."""
+
+    def __init__(self, archive, folder, units, name):
+        self.archive, self.folder, self.units, self.name = archive, folder, units, name
+        self.templates = jinja2.Environment(loader=jinja2.FileSystemLoader(TEMPLATES), autoescape=True, trim_blocks=True,
+                                            lstrip_blocks=True, undefined=jinja2.StrictUndefined)
+
+    def render(self, template, **words):
+        """The text of a template."""
+        return self.templates.get_template(template).render(name=self.name, **words)
+
+    def digest(self, days, months):
+        """What the tables of a year are made of, in few digits: of these days and the summaries of its months."""
+        source = ''.join(file.read_text(encoding='utf-8') for file in sorted(TEMPLATES.glob('*.html')))
+        made_of = self.name, self.units.sign('outTemp'), self.units.bucket, days, months, source
+        return hashlib.sha256(repr(made_of).encode()).hexdigest()
+
+    def write_year(self, year, days_of_archive, months):
+        """Writes the tables of a year. Gives whether the program has them."""
+        climate = self.archive.climate(year)
+        if climate is None:
+            return False
+        days = self.archive.days(date(year, 1, 1), date(year, 12, 31))
+        tables = tables_of(YearOfRows(year, days, months, climate, *days_of_archive, self.units))
+        for table in tables:
+            self.folder.write(f'{table.name}.csv', table.csv())
+        self.folder.write(f'climate-{year}.html', self.render('climate.html', year=year, tables=tables, base=self.units.base()))
+        return True
+
+    def write_years(self, days_of_archive, months):
+        """Writes the tables of each year whose rows have changed. Gives the years, the last one first."""
+        note, years = self.folder.note(), sorted({int(title[:4]) for title in months}, reverse=True)
+        for year in years:
+            of_year = {title: fields for title, fields in months.items() if title.startswith(f'{year}-')}
+            digest = self.digest(days_within(year, *days_of_archive), of_year)
+            if note.get(str(year)) == digest and self.folder.has(f'climate-{year}.html'):
+                continue
+            if not self.write_year(year, days_of_archive, months):
+                return []
+            note[str(year)] = digest
+        self.folder.write(NOTE, json.dumps(note))
+        return years
+
+    def first_day(self, months):
+        """The first day of the archive that has rows."""
+        first = date.fromisoformat(next(iter(months)) + '-01')
+        return date.fromisoformat(next(iter(self.archive.days(first, first + MONTH))))
+
+    def last_day(self, months):
+        """The last day of the archive that has rows."""
+        first = date.fromisoformat(next(reversed(months)) + '-01')
+        return date.fromisoformat(next(reversed(self.archive.days(first, first + MONTH))))
+
+    def write_index(self, made, now, charts, years):
+        """Writes the page itself, behind the charts that it names, and takes away those of earlier pages."""
+        for chart in charts:
+            self.folder.write(chart.file, chart.svg)
+        self.folder.write('index.html', self.render('index.html', now=now, made=made, charts=charts, years=years))
+        self.folder.clear({chart.file for chart in charts})
+
+    def write(self, made):
+        """Writes the page as of a moment."""
+        months = self.archive.months()
+        if not months:
+            self.write_index(made, None, [], [])
+            return
+        last = self.last_day(months)
+        rows = self.archive.rows(last - page_now.MOST_DAYS_OF_ROWS * DAY, last, self.units.bucket)
+        days = self.archive.days(last - (YEAR_DAYS - 1) * DAY, last)
+        now = page_now.now_of(rows, days, months, self.units, made)
+        years = self.write_years((self.first_day(months), last), months)
+        self.write_index(made, now, page_now.charts_of(rows, days, self.units), years)
+
+
+def main():
+    words = argparse.ArgumentParser(prog='page', description='Makes a web page of an archive.')
+    words.add_argument('archive', help='the archive')
+    words.add_argument('folder', help='the folder of the page, which is made if it is not there')
+    words.add_argument('--metric', action='store_true', help='degrees Celsius, hPa, m/s and mm')
+    words.add_argument('--bucket', choices=row_lines.BUCKETS, default='0.01in', help='a click of the rain bucket')
+    words.add_argument('--name', default='Weather station', help='the name of the station')
+    words.add_argument('--program', default='jofitrana', help='the program, if it is another one')
+    chosen = words.parse_args()
+    try:
+        units = Units(chosen.metric, chosen.bucket)
+        Page(Archive(chosen.program, chosen.archive), Folder(chosen.folder), units, chosen.name).write(datetime.now())
+    except (Refused, row_lines.NotRows, OSError) as trouble:
+        sys.exit(f'page: {trouble}')
+
+
+if __name__ == '__main__':
+    main()

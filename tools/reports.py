@@ -1,0 +1,161 @@
+"""What the program reports of an archive, as values (docs/FORMATS.md)."""
+import re
+import subprocess
+from datetime import date, datetime
+from typing import NamedTuple
+
+import rows as row_lines
+
+FIRST_DAY, LAST_DAY = date(1999, 12, 31), date(2127, 12, 31)
+USAGE = 1  # the status of words that are no command
+SUMMARY = re.compile(r'(?:day|month) (\S+) (\w+) min (-?\d+) at (\S+ \S+) max (-?\d+) at (\S+ \S+)'
+                     r' sum (-?\d+) count (\d+) wsum (-?\d+) sumtime (\d+)')
+DEGREE = re.compile(r'degree (\S+) hdd (\d+)/(\d+) cdd (\d+)/(\d+)')
+CLIMATE = re.compile(r'climate (\S+) days (\d+) mean (\S+) high (\S+) at (\S+) low (\S+) at (\S+) rain (\S+) wet (\d+)'
+                     r' hdd (\d+) cdd (\d+)')
+NONE = '-'
+DEGREE_TENTHS, MEAN_HUNDREDTHS, TOTAL_THOUSANDTHS = 10, 100, 1000  # of a degree Fahrenheit
+
+
+class Refused(Exception):
+    """What the program printed in place of a report."""
+
+
+class Summary(NamedTuple):
+    """What the values of a field come to, counted as the field is."""
+    least: int
+    least_at: datetime
+    greatest: int
+    greatest_at: datetime
+    sum: int
+    weighted: int  # the sum of the values, each times the seconds of its row
+    seconds: int
+
+    def mean(self):
+        """The mean value over the time."""
+        return self.weighted / self.seconds
+
+
+class DegreeDays(NamedTuple):
+    """How far a time was below and above the base, in degrees Fahrenheit times days."""
+    heating: float
+    cooling: float
+
+
+class Climate(NamedTuple):
+    """What the temperature and the rain of a month or a year come to. A number that is not there is None."""
+    days: int  # that have a temperature
+    mean: float | None  # in degrees Fahrenheit
+    high: int | None
+    high_day: date | None
+    low: int | None
+    low_day: date | None
+    rain: int | None
+    wet: int  # days that have rain
+    degree_days: DegreeDays
+
+
+class ClimateYear(NamedTuple):
+    """The degree days of the days of a year, and its climate by months and as a whole."""
+    days: dict
+    months: dict
+    year: Climate | None
+
+
+def matched(pattern, line):
+    """The parts of a line."""
+    match = pattern.fullmatch(line)
+    if not match:
+        raise Refused(f'this is no line of a report: {line[:80]}')
+    return match.groups()
+
+
+def stamp_of(text):
+    """The stamp of a text."""
+    return datetime.strptime(text, '%Y-%m-%d %H:%M')
+
+
+def summaries(lines):
+    """The summaries of day lines or month lines, by the text of the day or month and by field."""
+    found = {}
+    for line in lines:
+        title, name, least, least_at, greatest, greatest_at, total, _, weighted, seconds = matched(SUMMARY, line)
+        found.setdefault(title, {})[name] = Summary(int(least), stamp_of(least_at), int(greatest), stamp_of(greatest_at),
+                                                    int(total), int(weighted), int(seconds))
+    return found
+
+
+def number(text):
+    """The number of a text, if it has one."""
+    return None if text == NONE else int(text)
+
+
+def day_of(text):
+    """The day of a text, if it has one."""
+    return None if text == NONE else date.fromisoformat(text)
+
+
+def climate_of(texts):
+    """The climate of the parts of a line behind its title."""
+    days, mean, high, high_day, low, low_day, rain, wet, heating, cooling = texts
+    return Climate(int(days), None if mean == NONE else int(mean) / MEAN_HUNDREDTHS, number(high), day_of(high_day),
+                   number(low), day_of(low_day), number(rain), int(wet),
+                   DegreeDays(int(heating) / TOTAL_THOUSANDTHS, int(cooling) / TOTAL_THOUSANDTHS))
+
+
+def climate_year(lines, year):
+    """The climate of the lines of a year."""
+    days, spans = {}, {}
+    for line in lines:
+        if line.startswith('degree '):
+            day, heating, heating_time, cooling, cooling_time = matched(DEGREE, line)
+            days[day] = DegreeDays(int(heating) / int(heating_time) / DEGREE_TENTHS,
+                                   int(cooling) / int(cooling_time) / DEGREE_TENTHS)
+        else:
+            title, *texts = matched(CLIMATE, line)
+            spans[title] = climate_of(texts)
+    return ClimateYear(days, spans, spans.pop(str(year), None))
+
+
+class Archive:
+    """An archive, of which the program reports."""
+
+    def __init__(self, program, name):
+        self.program, self.name = program, name
+
+    def lines(self, *words):
+        """The lines that the program prints, and its status."""
+        try:
+            ran = subprocess.run([self.program, *words], stdout=subprocess.PIPE, text=True, check=False)
+        except OSError as fault:
+            raise Refused(f'the program is missing: {self.program}') from fault
+        return ran.stdout.splitlines(), ran.returncode
+
+    def report(self, kind, first=FIRST_DAY, last=LAST_DAY):
+        """The lines of a report."""
+        first, last = max(first, FIRST_DAY), min(last, LAST_DAY)
+        lines, status = self.lines('report', self.name, kind, first.isoformat(), last.isoformat())
+        if status:
+            raise Refused(f'{self.name}: {lines[-1] if lines else f"status {status}"}')
+        return lines
+
+    def rows(self, first, last, bucket):
+        """The rows of some days, of which there is one at least."""
+        return row_lines.read_rows(self.report('rows', first, last), bucket)
+
+    def days(self, first, last):
+        """The summaries of some days."""
+        return summaries(self.report('days', first, last))
+
+    def months(self):
+        """The summaries of all months."""
+        return summaries(self.report('months'))
+
+    def climate(self, year):
+        """The climate of a year, or None if the program does not know the command."""
+        lines, status = self.lines('climate', self.name, str(year))
+        if status == USAGE:
+            return None
+        if status:
+            raise Refused(f'{self.name}: {lines[-1] if lines else f"status {status}"}')
+        return climate_year(lines, year)
