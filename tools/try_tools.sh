@@ -53,6 +53,7 @@ odd_console back --clock '2024-10-27 02:30' --run '2024-10-27 01:00' 24 --run '2
 begin check round_and_check "127.0.0.1:$port"
 begin salvage "$tools/try_salvage.py" "$program"
 begin page "$tools/try_page.py" "$program"
+begin sql "$tools/try_sql.py"
 mkdir shown path
 ln -s "$program" path/jofitrana
 begin demo env TMPDIR="$folder/shown" PATH="$folder/path:$PATH" "$tools/demo.sh"
@@ -459,6 +460,11 @@ if /usr/bin/python3 -c 'import jinja2, matplotlib' 2>/dev/null; then
 else
     expect 'a page that is installed' 1 'page: *python3-jinja2' prefix/bin/jofitrana-page a folder
 fi
+if /usr/bin/python3 -c 'import psycopg2' 2>/dev/null; then
+    expect 'a writer of tables that is installed' 2 '*required: database, --zone' prefix/bin/jofitrana-sql
+else
+    expect 'a writer of tables that is installed' 1 'sql: *python3-psycopg2' prefix/bin/jofitrana-sql
+fi
 expect 'a taker of packets that is installed' 6 'link fault' prefix/bin/jofitrana-packets 127.0.0.1:1 5 live.packets
 expect 'a demo that is installed' 1 '*demo: the console does not serve; *' \
     env TMPDIR="$folder/shown" prefix/bin/jofitrana-demo ./program
@@ -512,6 +518,11 @@ if /usr/bin/python3 -c 'import jinja2, matplotlib' 2>/dev/null; then
     expect_end page 0 '*[1-9]* passed, 0 failed'
 else
     expect_end page 0 '*is missing*'
+fi
+if /usr/bin/python3 -c 'import psycopg2' 2>/dev/null && compgen -G '/usr/lib/postgresql/*/bin/initdb' >/dev/null; then
+    expect_end sql 0 '*[1-9]* passed, 0 failed'
+else
+    expect_end sql 0 '*is missing*'
 fi
 expect_end demo 0 $'*
 \$ jofitrana console week.toml week.schedule 127.0.0.1:* 1000000 &

@@ -1,0 +1,155 @@
+#!/usr/bin/python3
+"""Brings the tables of a database of PostgreSQL up to date from row lines. Run again, it changes nothing.
+
+    jofitrana report roof.archive rows 2024-07-01 2024-07-31 | jofitrana-sql --station roof --zone Europe/Zurich dbname=weather
+    jofitrana-sql --since --station roof --zone Europe/Zurich dbname=weather    # the days to report from, as two words
+
+Tables that are not there are made. Just the rows that differ are written, those of a station in one transaction. Without
+`--station` the input has rows of many stations, those of each behind a line `station NAME`. A row in the hour that the end of
+summer time doubles could be of either time, and one in the hour that its beginning leaves out of none: such rows are named on
+standard error and left out.
+Statuses: 0, 1 if the input has no rows or the database fails, 2 if the words are out of form, 3 if rows were left out.
+"""
+import argparse
+import io
+import sys
+from datetime import timedelta, timezone
+from itertools import groupby
+
+sys.dont_write_bytecode = True  # nothing is left beside an installed script
+
+try:
+    import psycopg2
+except ImportError:
+    sys.exit('sql: psycopg2 is missing; on Debian: apt install python3-psycopg2')
+
+import export
+import rows as row_lines
+from reports import FIRST_DAY, LAST_DAY
+from sql_tables import INCOMING, NAMES, has_table, make_tables
+
+MINUTE = timedelta(minutes=1)
+NULL = '\\N'
+BEGIN = 'station '  # of a line that names the station of the rows behind it
+COLUMNS = ', '.join(['minutes', *NAMES])
+NEW_COLUMNS = ', '.join(f'excluded.{name}' for name in ['minutes', *NAMES])
+OLD_COLUMNS = ', '.join(f'old.{name}' for name in ['minutes', *NAMES])
+COPY = f'COPY incoming (station, time, {COLUMNS}) FROM STDIN'
+NAME_STATION = 'INSERT INTO station (name, zone) VALUES (%s, %s) ON CONFLICT (name) DO NOTHING'
+FIND_STATION = 'SELECT number, zone FROM station WHERE name = %s'
+COUNT_OLD = 'SELECT count(*) FROM incoming JOIN weather USING (station, time)'
+LAST_TIME = 'SELECT time FROM weather WHERE station = %s ORDER BY time DESC LIMIT 1'
+# A row that is there with the same values is not written again, so the log of the database and its triggers stay quiet.
+MERGE = f"""\
+INSERT INTO weather AS old (station, time, {COLUMNS}) SELECT station, time, {COLUMNS} FROM incoming
+ON CONFLICT (station, time) DO UPDATE SET ({COLUMNS}) = ROW ({NEW_COLUMNS})
+WHERE ({OLD_COLUMNS}) IS DISTINCT FROM ({NEW_COLUMNS})"""
+
+
+class Trouble(Exception):
+    """Why the rows of a station are not written."""
+
+
+def line_of(number, time, row):
+    """A row as a line of COPY."""
+    values = (row.values.get(name) for name in NAMES)
+    cells = [number, time.isoformat(), row.interval // MINUTE, *(NULL if value is None else value for value in values)]
+    return '\t'.join(map(str, cells)) + '\n'
+
+
+def number_of(cursor, name, zone):
+    """The number of a station, which is locked until the end of the transaction."""
+    cursor.execute(NAME_STATION, [name, zone.key])
+    cursor.execute(FIND_STATION + ' FOR UPDATE', [name])
+    number, old_zone = cursor.fetchone()
+    if old_zone != zone.key:
+        raise Trouble(f'its zone is {old_zone} in this database: the rows would be there twice')
+    return number
+
+
+def merge(cursor, name, zone, timed):
+    """Writes the rows of a station that differ; gives how many were added and how many were changed."""
+    number = number_of(cursor, name, zone)
+    cursor.execute(INCOMING)
+    cursor.copy_expert(COPY, io.StringIO(''.join(line_of(number, time, row) for time, row in timed.items())))
+    cursor.execute(COUNT_OLD)
+    old = cursor.fetchone()[0]
+    cursor.execute(MERGE)
+    added = len(timed) - old
+    return added, cursor.rowcount - added
+
+
+def write_station(link, name, zone, rows):
+    """Brings a station up to date and prints the counts; gives whether all rows name one time."""
+    kept = export.told(rows, zone)
+    timed = {row.stamp.replace(tzinfo=zone).astimezone(timezone.utc): row for row in kept}
+    make_tables(link, sorted({time.year for time in timed}))
+    with link, link.cursor() as cursor:
+        added, changed = merge(cursor, name, zone, timed)
+    print(f'station {name} rows {len(kept)} added {added} changed {changed} left out {len(rows) - len(kept)}', flush=True)
+    return len(kept) == len(rows)
+
+
+def stations_of(lines, name):
+    """The lines of each station with its name."""
+    if name is not None:
+        yield name, lines
+        return
+    for is_name, group in groupby(lines, lambda line: line.startswith(BEGIN)):
+        if is_name:
+            *without_lines, line = group
+            name = line.removeprefix(BEGIN).rstrip('\n')
+        elif name is None:
+            raise Trouble("the rows have no station: give --station, or a line 'station NAME' before them")
+        else:
+            yield name, group
+
+
+def write_all(link, lines, chosen):
+    """Brings the stations of the input up to date; gives the status. A station with a trouble does not stop the others."""
+    status = 0
+    for name, group in stations_of(lines, chosen.station):
+        try:
+            rows = row_lines.read_rows(group, chosen.bucket)
+            if not write_station(link, name, chosen.zone, rows):
+                status = status or export.LEFT_OUT
+        except (row_lines.NotRows, Trouble) as trouble:
+            print(f'sql: station {name}: {trouble}', file=sys.stderr)
+            status = 1
+    return status
+
+
+def days_to_report(link, name, zone):
+    """The first and the last day of which rows may be new: the row of midnight is of the day before."""
+    first = FIRST_DAY
+    with link, link.cursor() as cursor:
+        if has_table(cursor, 'weather'):
+            cursor.execute(FIND_STATION, [name])
+            cursor.execute(LAST_TIME, [(cursor.fetchone() or [None])[0]])
+            found = cursor.fetchone()
+            first = (found[0].astimezone(zone) - MINUTE).date() if found else first
+    return first, LAST_DAY
+
+
+def main():
+    words = argparse.ArgumentParser(prog='sql', description='Brings tables of PostgreSQL up to date from row lines.')
+    words.add_argument('database', help="the database as libpq takes it, for example 'dbname=weather'")
+    words.add_argument('--station', help='the name of the station; without it lines of the input name stations')
+    words.add_argument('--zone', type=export.zone_named, required=True, help="the console's time zone, as Europe/Berlin")
+    words.add_argument('--bucket', choices=row_lines.BUCKETS, default='0.01in', help='a click of the rain bucket')
+    words.add_argument('--since', action='store_true', help='print the days to report from, and write nothing')
+    chosen = words.parse_args()
+    if chosen.since and chosen.station is None:
+        words.error('--since takes --station')
+    try:
+        link = psycopg2.connect(chosen.database)
+        if chosen.since:
+            print(*days_to_report(link, chosen.station, chosen.zone))
+            return
+        sys.exit(write_all(link, sys.stdin, chosen))
+    except (Trouble, psycopg2.Error) as trouble:
+        sys.exit('sql: ' + ' '.join(str(trouble).split()))
+
+
+if __name__ == '__main__':
+    main()

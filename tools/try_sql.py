@@ -1,0 +1,300 @@
+#!/usr/bin/python3
+"""Tries sql.py over a PostgreSQL of its own, which listens at a socket in a folder and ends with the trial.
+
+    tools/try_sql.py
+
+The last line is 'N passed, M failed', and the status is 1 if any failed. Without PostgreSQL or psycopg2 nothing is tried.
+"""
+import glob
+import os
+import pwd
+import re
+import shutil
+import signal
+import subprocess
+import sys
+import tempfile
+import time
+from datetime import datetime, timedelta, timezone
+from pathlib import Path
+
+sys.dont_write_bytecode = True  # nothing is left beside the scripts
+
+from trying import LONGEST, MOST_TEXT, NAP, Differs, hold
+
+try:
+    import psycopg2
+except ImportError:
+    print('python3-psycopg2 is missing: no sql was tried', file=sys.stderr)
+    sys.exit(0)
+
+TOOLS = Path(__file__).resolve().parent
+SERVERS = '/usr/lib/postgresql/*/bin'
+USERS = ('postgres', 'nobody')  # of these one runs the server if root tries it, since it does not run as root
+PERIOD = timedelta(minutes=5)
+STATIONS, ROWS = 1000, 300
+LEFT_OUT = 3
+FIRST = datetime(2024, 6, 30, 23, 0)
+BERLIN = 'Europe/Berlin'
+WRITER = "SELECT 1 FROM pg_stat_activity WHERE query LIKE 'INSERT INTO weather%'"
+SUMMER = """\
+row 2024-10-27 01:55 5 outTemp=502
+row 2024-10-27 02:30 5 outTemp=503
+row 2024-10-27 03:00 5 outTemp=504
+"""
+
+
+class Server:
+    """A server of PostgreSQL in a folder of its own."""
+
+    def __init__(self, commands, folder):
+        self.commands, self.folder = commands, folder
+        self.user = None
+        if os.geteuid() == 0:
+            known = {user.pw_name for user in pwd.getpwall()}
+            self.user = next(name for name in USERS if name in known)
+            shutil.chown(folder, self.user)
+        self.run('initdb', '-A', 'trust', '-U', 'trial', '-E', 'UTF8', '--locale=C', '-N', '-D', f'{folder}/data')
+        options = f"-k {folder} -c listen_addresses='' -c fsync=off -c max_connections=20 -c timezone=America/New_York"
+        self.run('pg_ctl', '-w', '-D', f'{folder}/data', '-l', f'{folder}/log', '-o', options, 'start')
+
+    def run(self, command, *words):
+        """Runs a command of the server as its user."""
+        ran = subprocess.run([f'{self.commands}/{command}', *words], user=self.user, cwd=self.folder,
+                             stdout=subprocess.DEVNULL, check=False)
+        hold(command, ran.returncode, 0)
+
+    def stop(self):
+        """Ends it."""
+        self.run('pg_ctl', '-w', '-m', 'immediate', '-D', f'{self.folder}/data', 'stop')
+
+
+class Database:
+    """A database of the server, which is new for each case."""
+
+    def __init__(self, server, name):
+        self.place = f'host={server.folder} user=trial dbname='
+        self.ask(f'CREATE DATABASE {name}', 'postgres')
+        self.name = name
+
+    def ask(self, question, name=None):
+        """The rows that a question is answered by."""
+        link = psycopg2.connect(self.place + (name or self.name))
+        link.autocommit = True
+        try:
+            with link.cursor() as cursor:
+                cursor.execute(question)
+                return cursor.fetchall() if cursor.description else []
+        finally:
+            link.close()
+
+    def words(self, *words, station='roof', zone=BERLIN):
+        """The words of a run."""
+        return [TOOLS / 'sql.py', *(['--station', station] if station else []), '--zone', zone, *words, self.place + self.name]
+
+    def run(self, lines, *words, **options):
+        """Brings it up to date from row lines; gives status, output and what was printed of trouble."""
+        ran = subprocess.run(self.words(*words, **options), input=lines, capture_output=True, text=True, check=False)
+        return ran.returncode, ran.stdout, ran.stderr
+
+
+def row_lines(count, first=FIRST):
+    """So many row lines from a stamp on."""
+    values = 'rain=2 barometer=29921 windDir=4'
+    return ''.join(f'row {first + number * PERIOD:%Y-%m-%d %H:%M} 5 outTemp={650 + number % 50} {values}\n'
+                   for number in range(count))
+
+
+def counts(rows, added, changed, left_out=0, station='roof'):
+    """What a run prints of these counts."""
+    return f'station {station} rows {rows} added {added} changed {changed} left out {left_out}\n'
+
+
+def wait_for(what, happens):
+    """Waits until something happens, for some seconds at most."""
+    until = time.monotonic() + LONGEST
+    while not happens():
+        if time.monotonic() > until:
+            raise Differs(f'{what} did not come within {LONGEST} s')
+        time.sleep(NAP)
+
+
+def same_rows_twice(database):
+    """A second run over the same rows writes nothing, and the values are those of the rows in their units."""
+    hold('a first run', database.run(row_lines(100)), (0, counts(100, 100, 0), ''))
+    before = database.ask('SELECT xmin, ctid, * FROM weather ORDER BY time')
+    hold('a second run', database.run(row_lines(100)), (0, counts(100, 0, 0), ''))
+    hold('its rows', database.ask('SELECT xmin, ctid, * FROM weather ORDER BY time') == before, True)
+    hold('a row', database.ask("SELECT to_char(time AT TIME ZONE 'UTC', 'YYYY-MM-DD HH24:MI'), minutes, outTemp::text, "
+                               'rain::text, barometer::text, windDir::text, UV FROM weather ORDER BY time LIMIT 1'),
+         [('2024-06-30 21:00', 5, '65', '0.02', '29.921', '90', None)])
+    hold('it in metric units', database.ask('SELECT station, round(outTemp::numeric, 2)::text, round(rain::numeric, 3)::text, '
+                                            'round(barometer::numeric, 1)::text FROM weather_metric ORDER BY time LIMIT 1'),
+         [('roof', '18.33', '0.508', '1013.2')])
+
+
+def rows_that_changed(database):
+    """Just the rows that differ are written: new ones, other values, and values that are gone."""
+    database.run(row_lines(20))
+    lines = row_lines(25).splitlines(keepends=True)
+    lines[3] = lines[3].replace('outTemp=653', 'outTemp=654')
+    lines[4] = lines[4].replace('outTemp=654', 'outTemp=limit')
+    lines[5] = lines[5].replace(' 5 outTemp', ' 10 outTemp')
+    before = dict(database.ask('SELECT time, xmin::text FROM weather'))
+    hold('a run', database.run(''.join(lines)), (0, counts(25, 5, 3), ''))
+    after = dict(database.ask('SELECT time, xmin::text FROM weather'))
+    hold('rows that stand', sum(after[moment] == transaction for moment, transaction in before.items()), 17)
+    hold('a value that is gone', database.ask('SELECT count(*) FROM weather WHERE outTemp IS NULL'), [(1,)])
+    hold('another size of the bucket', database.run(row_lines(25), '--bucket', '0.2mm')[1], counts(25, 0, 25))
+
+
+def hour_that_comes_twice(database):
+    """Rows whose stamps name no one time are named, counted and left out; the zone of a station stands."""
+    hold('a run', database.run(SUMMER),
+         (LEFT_OUT, counts(2, 2, 0, 1), 'export: left out: 2024-10-27 02:30 comes twice in Europe/Berlin\n'))
+    hold('its times', database.ask("SELECT to_char(time AT TIME ZONE 'UTC', 'DD HH24:MI') FROM weather ORDER BY time"),
+         [('26 23:55',), ('27 02:00',)])
+    hold('another zone', database.run(SUMMER, zone='Etc/GMT-1'),
+         (1, '', 'sql: station roof: its zone is Europe/Berlin in this database: the rows would be there twice\n'))
+    hold('rows', database.ask('SELECT count(*) FROM weather'), [(2,)])
+
+
+def days_to_report(database):
+    """The days to report from begin with the last row's, and the row of midnight is of the day before."""
+    hold('before any row', database.run('', '--since'), (0, '1999-12-31 2127-12-31\n', ''))
+    hold('what is made by that', database.ask("SELECT to_regclass('weather')"), [(None,)])
+    database.run(row_lines(13))  # up to midnight
+    hold('at midnight', database.run('', '--since'), (0, '2024-06-30 2127-12-31\n', ''))
+    database.run(row_lines(14))
+    hold('behind midnight', database.run('', '--since'), (0, '2024-07-01 2127-12-31\n', ''))
+    hold('of another station', database.run('', '--since', station='barn'), (0, '1999-12-31 2127-12-31\n', ''))
+
+
+def rows_of_two_years(database):
+    """Each year of UTC has a table of its own, and each column a comment with its unit."""
+    hold('a run', database.run(row_lines(4, datetime(2025, 1, 1, 0, 50))), (0, counts(4, 4, 0), ''))
+    hold('its tables', database.ask('SELECT tableoid::regclass::text, count(*) FROM weather GROUP BY 1 ORDER BY 1'),
+         [('weather_2024', 2), ('weather_2025', 2)])
+    hold('columns without a comment', database.ask(
+        "SELECT attrelid::regclass, attname FROM pg_attribute WHERE attrelid IN ('station'::regclass, 'weather'::regclass) "
+        'AND attnum > 0 AND col_description(attrelid, attnum) IS NULL'), [])
+    hold('a unit', database.ask("SELECT col_description('weather'::regclass, attnum) FROM pg_attribute "
+                                "WHERE attrelid = 'weather'::regclass AND attname = 'barometer'"), [('inHg',)])
+
+
+def run_that_is_killed(database):
+    """Of a run that is killed nothing is written, and the next run writes all."""
+    database.run(row_lines(1))
+    lock = psycopg2.connect(database.place + database.name)
+    lock.cursor().execute('LOCK TABLE weather_2024 IN SHARE MODE')  # who writes waits here
+    with subprocess.Popen(database.words(), stdin=subprocess.PIPE, stdout=subprocess.DEVNULL, text=True) as run:
+        run.stdin.write(row_lines(400))
+        run.stdin.close()
+        wait_for('a run that waits', lambda: database.ask(f"{WRITER} AND wait_event_type = 'Lock'"))
+        run.send_signal(signal.SIGKILL)
+    lock.rollback()
+    lock.close()
+    wait_for('the end of it', lambda: not database.ask(f"{WRITER} AND state <> 'idle'"))
+    hold('rows', database.ask('SELECT count(*) FROM weather'), [(1,)])
+    hold('the next run', database.run(row_lines(400))[1], counts(400, 399, 0))
+
+
+def refusals(database):
+    """What is refused writes nothing, not even the rows before it."""
+    hold('a report that failed', database.run(row_lines(2) + 'disk fault\n'),
+         (1, '', 'sql: station roof: the program said: disk fault\n'))
+    hold('no row', database.run(''), (1, '', 'sql: station roof: there is no row\n'))
+    hold('rows of no station', database.run(row_lines(1), station=None)[:2], (1, ''))
+    hold('a zone that is none', database.run(row_lines(1), zone='Nowhere')[0], 2)
+    hold('the days of no station', database.run('', '--since', station=None)[0], 2)
+    hold('its tables', database.ask("SELECT to_regclass('weather')"), [(None,)])
+    database.name = 'nowhere'
+    status, printed, trouble = database.run(row_lines(1))
+    hold('a database that is missing', (status, printed, 'database "nowhere" does not exist' in trouble), (1, '', True))
+
+
+def two_stations_at_once(database):
+    """Runs at once, of which each finds no table, make the tables once and write all rows."""
+    names = ['roof', 'barn', "well <'7'>", 'roof']
+    pipes = dict.fromkeys(('stdin', 'stdout', 'stderr'), subprocess.PIPE)
+    runs = [subprocess.Popen(database.words(station=name), text=True, **pipes) for name in names]
+    for run in runs:
+        run.stdin.write(row_lines(1000))
+        run.stdin.close()
+    for run in runs:
+        hold(f'a run: {run.stderr.read()}', run.wait(), 0)
+        run.stdout.close()
+        run.stderr.close()
+    hold('rows', database.ask('SELECT name, count(*) FROM weather JOIN station ON number = station GROUP BY 1 ORDER BY 1'),
+         [('barn', 1000), ('roof', 1000), ("well <'7'>", 1000)])
+
+
+def many_stations(database):
+    """The rows of 1,000 stations are written in one run, one station's trouble stops no other, and the key finds a month."""
+    lines = ''.join(f'station s{number}\n' + row_lines(ROWS, datetime(2024, 6, 1)) for number in range(STATIONS))
+    began = time.monotonic()
+    status, printed, trouble = database.run('station broken\ndisk fault\n' + lines, station=None)
+    seconds = time.monotonic() - began
+    hold('a run', (status, printed.count('added 300 changed 0'), trouble),
+         (1, STATIONS, 'sql: station broken: the program said: disk fault\n'))
+    print(f'{STATIONS} stations of {ROWS} rows: {seconds:.0f} s', file=sys.stderr)
+    database.ask('VACUUM ANALYZE')
+    plan = '\n'.join(line for line, in database.ask(
+        "EXPLAIN SELECT time, outTemp FROM weather WHERE station = 7 AND time >= '2024-06-01' AND time < '2024-07-01'"))
+    if 'weather_2024_pkey' not in plan or 'Seq Scan' in plan:
+        raise Differs(plan)
+    size, = database.ask("SELECT pg_total_relation_size('weather_2024')")[0]
+    print(f'{size / STATIONS / ROWS:.0f} bytes a row', file=sys.stderr)
+
+
+def queries_of_the_manual(database):
+    """The queries for Grafana give what they are for, with a span of time in the place of its own word."""
+    database.run(row_lines(20))
+    database.run(row_lines(1), station='barn')
+    text = (TOOLS.parent / 'docs' / 'NETWORK.md').read_text(encoding='utf-8')
+    queries = [query.replace('$__timeFilter(time)', "time BETWEEN '2024-06-30' AND '2024-07-02'")
+               for query in re.findall('```sql\n(.*?)```', text, re.DOTALL)]
+    series, days, ages = (database.ask(query) for query in queries)
+    hold('a series', (len(series), f'{series[0][1]:.1f}'), (20, '18.3'))
+    hold('days', [(str(day), f'{rain:.2f}', rows) for day, _, _, rain, rows in days],
+         [('2024-06-30', '0.26', 13), ('2024-07-01', '0.14', 7)])
+    hold('ages', [(name, f'{last.astimezone(timezone.utc):%H:%M}') for name, last, _ in ages],
+         [('barn', '21:00'), ('roof', '22:35')])
+
+
+CASES = (same_rows_twice, rows_that_changed, hour_that_comes_twice, days_to_report, rows_of_two_years, run_that_is_killed,
+         refusals, two_stations_at_once, queries_of_the_manual, many_stations)
+
+
+def try_all(server):
+    """Tries the cases; gives how many failed."""
+    failed = 0
+    for case in CASES:
+        try:
+            case(Database(server, case.__name__))
+        except Exception as reason:  # whatever it is, the other cases go on
+            failed += 1
+            print(f'{case.__name__} failed: {reason!r:.{MOST_TEXT}}', file=sys.stderr)
+    return failed
+
+
+def main(words):
+    """Tries sql.py; gives the status."""
+    if len(words) != 1:
+        sys.exit(__doc__)
+    found = sorted(glob.glob(SERVERS))
+    if not found:
+        print('postgresql is missing: no sql was tried', file=sys.stderr)
+        return 0
+    with tempfile.TemporaryDirectory() as folder:
+        server = Server(found[-1], folder)
+        try:
+            failed = try_all(server)
+        finally:
+            server.stop()
+    print(f'{len(CASES) - failed} passed, {failed} failed')
+    return 1 if failed else 0
+
+
+if __name__ == '__main__':
+    sys.exit(main(sys.argv))
