@@ -34,6 +34,7 @@ pub data CommandLine : Type 0 where
   task : List ℕ → Task → CommandLine
   report : List ℕ → Wanted → CommandLine
   climate : List ℕ → ℕ → CommandLine
+  serve : List ℕ → List ℕ → ℕ → CommandLine
   replay : List ℕ → List ℕ → CommandLine
   copy : List ℕ → List ℕ → CommandLine
   station : StationNames → CommandLine
@@ -69,6 +70,11 @@ report_in words = None
 abbrev pub climate_in : List (List ℕ) → Option CommandLine
 climate_in (archive ∷ year ∷ []) = option_map (climate archive) (year_within 1999 2127 year)
 climate_in words = None
+
+-- `ARCHIVE ADDRESS TURNS`, with 1 to 1,000,000 turns
+abbrev pub serve_in : List (List ℕ) → Option CommandLine
+serve_in (archive ∷ address ∷ turns ∷ []) = option_map (serve archive address) (number_within 1 1000000 turns)
+serve_in words = None
 
 -- `SETTINGS SCHEDULE`
 abbrev pub replay_in : List (List ℕ) → Option CommandLine
@@ -111,6 +117,7 @@ command_of (command ∷ words) =
     else if bytes_eq command (codes "task") then task_in words
     else if bytes_eq command (codes "report") then report_in words
     else if bytes_eq command (codes "climate") then climate_in words
+    else if bytes_eq command (codes "serve") then serve_in words
     else if bytes_eq command (codes "replay") then replay_in words
     else if bytes_eq command (codes "copy") then copy_in words
     else if bytes_eq command (codes "station") then station_in words
@@ -140,6 +147,7 @@ command_read (read.Soft settings file) = soft settings.now file.now
 command_read (read.Task address asked) = task address.now asked
 command_read (read.Report archive wanted) = report archive.now wanted
 command_read (read.Climate archive year) = climate archive.now year
+command_read (read.Serve archive address turns) = serve archive.now address.now turns
 command_read (read.Replay settings schedule) = replay settings.now schedule.now
 command_read (read.Copy from to) = copy from.now to.now
 command_read (read.Station words) = station (station_names words)

@@ -13,6 +13,9 @@ const MOST_SEED: u64 = (1 << 31) - 1;
 // The most records that are made.
 const MOST_MADE: u64 = 5_000;
 
+// The most turns for which a console, or an archive, is served.
+const MOST_TURNS: u64 = 1_000_000;
+
 // The years of the archive days that stamps have.
 const FIRST_YEAR: u64 = 1999;
 
@@ -58,6 +61,15 @@ pub enum Command<'a> {
         /// The year, from 1999 to 2127.
         year: u16,
     },
+    /// `serve ARCHIVE ADDRESS TURNS`: answers to requests for the rows of an archive.
+    Serve {
+        /// The name of the archive's file.
+        archive: &'a str,
+        /// The address at which a call is waited for.
+        address: &'a str,
+        /// For how many turns requests are answered, from 1 to 1,000,000.
+        turns: u32,
+    },
     /// `replay SETTINGS SCHEDULE`: the run of a schedule over a modelled console, its line and its archive.
     Replay {
         /// The name of the settings file.
@@ -101,6 +113,7 @@ impl<'a> Command<'a> {
             "task" => read_call(more),
             "report" => read_report(more),
             "climate" => read_climate(more),
+            "serve" => read_serve(more),
             "replay" => read_replay(more),
             "copy" => read_copy(more),
             "station" => read_station(more),
@@ -111,7 +124,7 @@ impl<'a> Command<'a> {
     }
 }
 
-ghost use Rattle.command_words.specs.Command.{climate_in, command_read, console_in, copy_in, line_of, make_in, pages_in, replay_in, report_in, soft_in, station_in, task_in, texts};
+ghost use Rattle.command_words.specs.Command.{climate_in, command_read, console_in, copy_in, line_of, make_in, pages_in, replay_in, report_in, serve_in, soft_in, station_in, task_in, texts};
 ghost use Rattle.command_words.specs.Possible.{IsPossible};
 
 // `FILE`, or `SETTINGS FILE`.
@@ -175,6 +188,22 @@ fn read_climate<'a>(words: &[&'a str]) -> Option<Command<'a>>
     Some(Command::Climate { archive, year })
 }
 
+// `ARCHIVE ADDRESS TURNS`.
+fn read_serve<'a>(words: &[&'a str]) -> Option<Command<'a>>
+    ensures command { line_of result ≡ serve_in (texts words.now) }
+    ensures possible { IfSome result (λ command. IsPossible (command_read command)) }
+{
+    let [archive, address, turns] = *words else {
+        return None;
+    };
+    let turns = read_within(turns, 1, MOST_TURNS)? as u32;
+    Some(Command::Serve {
+        archive,
+        address,
+        turns,
+    })
+}
+
 // `SETTINGS SCHEDULE`.
 fn read_replay<'a>(words: &[&'a str]) -> Option<Command<'a>>
     ensures command { line_of result ≡ replay_in (texts words.now) }
@@ -214,9 +243,6 @@ fn read_station<'a>(words: &[&'a str]) -> Option<Command<'a>>
         address,
     }))
 }
-
-// The most turns for which a console is served.
-const MOST_TURNS: u64 = 1_000_000;
 
 // `SETTINGS SCHEDULE ADDRESS TURNS`.
 fn read_console<'a>(words: &[&'a str]) -> Option<Command<'a>>

@@ -107,7 +107,7 @@ found_ends file (found.Damaged place) output rows finds is = absurd (let e : hol
 found_ends file found.DiskFault output rows finds is = inr (inl cc)
 found_ends file found.OutOfMemory output rows finds is = inr (inr (inr cc))
 
-told_ends : (told : Option (List ℕ)) (start : BookStart) (output : Output) → IsSomeAnd told HoldsRows → WhereTold told (Finds Read start)
+pub told_ends : (told : Option (List ℕ)) (start : BookStart) (output : Output) → IsSomeAnd told HoldsRows → WhereTold told (Finds Read start)
     → (let r : Result Book Output = Err output in r) ≡ book_found start → IsReported output.status
 told_ends None start output rows finds is = absurd rows
 told_ends (Some file) start output rows finds is = found_ends file start output rows (finds file refl) is

@@ -1,15 +1,12 @@
 -- Why `station` ends, and what good input comes to.
-use Rattle.std.proofs.Common.{◌≡◌, true, Err, ap, ◌∙◌, inl, inr}
+use Rattle.std.proofs.Common.{true, Err, ap, ◌∙◌, inl, inr}
 use Rattle.std.specs.Option.{IsSomeAnd}
 use Rattle.std.specs.declared.result.Result.{Result}
 use Rattle.gated_log.specs.declared.start.Purpose.TheVariants.{Write}
-use Rattle.serial_link.specs.declared.link.Connected.{Connected}
-use Rattle.serial_link.specs.declared.link.Connected.TheVariants as connected
 use Rattle.serial_link.specs.declared.link.Side.TheVariants.{Call}
 use Rattle.command_words.specs.Command.{StationNames}
-use Rattle.run_output.specs.Calls.{by_call}
 use Rattle.run_output.specs.Ended.{Lines, output_of}
-use Rattle.run_output.specs.Output.{Output, link_fault}
+use Rattle.run_output.specs.Output.{Output}
 use Rattle.run_output.specs.Outside.{Meanings}
 use Rattle.run_output.specs.Reading.{IsAccepted}
 use Rattle.run_output.specs.declared.outside.Outside.{Outside}
@@ -18,15 +15,11 @@ use Rattle.run_output.proofs.Behind.{then_has}
 use Rattle.run_output.proofs.CallCauses.{attaches_causes, calls_causes, memory_quiet, quiet_causes, settles_causes}
 use Rattle.run_output.proofs.Causes.{Causes, then_causes}
 use Rattle.run_output.proofs.GoodFiles.{IsHindrance, accepted-settles}
-use Rattle.run_output.proofs.Statuses.{attach_ends}
+use Rattle.run_output.proofs.Statuses.{attach_ends, call_ends}
 use Rattle.commands.specs.StationRun.{ShowsCaughtUp, catches_up, has_report}
 use Rattle.commands.proofs.CaughtUp.{IsSettled, recovers_rows, rounds_settled}
 use Rattle.commands.proofs.RecoveryLaws.{recovers_causes}
 use Rattle.commands.proofs.Rounds.{rounds_causes}
-
-call_ends : (answer : Connected) (output : Output) → ◌≡◌ {A = Result (Unit {0}) Output} (Err output) (by_call answer) → output ≡ link_fault
-call_ends connected.Done output is = absurd cc
-call_ends connected.Failed output is = cc
 
 report_causes : {F K L D : Type 0} (m : Meanings F K L D) → Causes m has_report
 report_causes m old new result did = quiet_causes m old new result (memory_quiet result did.1) did.2
@@ -62,7 +55,7 @@ catches_up_complete {F} {K} {L} {D} m names old new ended good shown did =
     (λ book opened three. then_has Q _ _ opened new ended
     (λ output w four. inr (inr (inr (inr (inr (ap (λ (o : Output). o.status) four.1))))))
     (λ _ ready four. then_has Q _ _ ready new ended
-    (λ output w five. inr (inl (ap (λ (o : Output). o.status) (call_ends five.0.answer output five.0.given))))
+    (λ output w five. inr (inl (call_ends _ _ _ _ _ output five.0)))
     (λ _ called five round.
     let talk = λ (w : Outside F K L D). m.traffic.talk w.link in
     rounds_settled (recovers_rows shown.rows (m.medium.seen old.disk) seen shown.archive three.0)

@@ -34,8 +34,11 @@ made_causes m task = by_link m (makes_task m.traffic task) (λ old new result di
     let shown = end_shown m.traffic task old new result did in
     record {
       fault = record { never_falls = did.talks.fault.never_falls; rose = λ is. did.talks.fault.rose (link_fault_of text did.end (shown LinkFault is)) };
-      others = (λ is. none_reads text did.end (shown ReadFault is), λ is. none_writes text did.end (shown WriteFault is),
-          λ is. none_stores text did.end (shown DiskFault is));
+      others = (
+        λ is. none_reads text did.end (shown ReadFault is),
+        λ is. none_writes text did.end (shown WriteFault is),
+        λ is. none_stores text did.end (shown DiskFault is),
+      );
     })
 
 pub calls_for_causes : {F K L D : Type 0} (m : Meanings F K L D) (address : List ℕ) (task : Task) → Causes m (calls_for m address task)

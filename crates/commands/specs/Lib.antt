@@ -1,3 +1,4 @@
+pub mod AnswerRun
 pub mod ClimateRun
 pub mod CopyRun
 pub mod GoodFile

@@ -1,6 +1,8 @@
 -- The faults by which a command ends have causes.
-use Rattle.command_words.specs.Command.{CommandLine, pages, corrected_pages, soft, task, report, climate, replay, copy, station, console, make}
+use Rattle.std.proofs.Common.{[], ◌∷◌, refl}
+use Rattle.command_words.specs.Command.{CommandLine, pages, corrected_pages, soft, task, report, climate, serve, replay, copy, station, console, make}
 use Rattle.commands.specs.Style.{short}
+use Rattle.commands.proofs.AnswerLaws.{answers_over_causes}
 use Rattle.commands.proofs.ClimateLaws.{tells_climate_causes}
 use Rattle.commands.proofs.CopyLaws.{copies_on_causes}
 use Rattle.commands.proofs.PageLaws.{prints_corrected_causes, prints_file_causes}
@@ -12,18 +14,21 @@ use Rattle.model_commands.proofs.ConsoleLaws.{serves_files_causes}
 use Rattle.model_commands.proofs.MakeLaws.{makes_run_causes}
 use Rattle.model_commands.proofs.ReplayLaws.{replays_files_causes}
 use Rattle.run_output.specs.Outside.{Meanings}
-use Rattle.run_output.proofs.Causes.{Causes}
-use Rattle.station_top.specs.Run.{performs}
+use Rattle.run_output.specs.Ended.{EndsAmong}
+use Rattle.run_output.specs.declared.status.Status.TheVariants.{WriteFault}
+use Rattle.run_output.proofs.Causes.{CausesBut, among}
+use Rattle.station_top.specs.Run.{may_hide, performs}
 
-pub performs_causes : {F K L D : Type 0} (m : Meanings F K L D) (command : CommandLine) → Causes m (performs m command)
-performs_causes m (pages file) = prints_file_causes m short file
-performs_causes m (corrected_pages settings file) = prints_corrected_causes m settings file
-performs_causes m (soft settings file) = prints_soft_causes m settings file
-performs_causes m (task address asked) = calls_for_causes m address asked
-performs_causes m (report archive wanted) = reports_on_causes m archive wanted
-performs_causes m (climate archive year) = tells_climate_causes m archive year
-performs_causes m (replay settings schedule) = replays_files_causes m settings schedule
-performs_causes m (copy from to) = copies_on_causes m from to
-performs_causes m (station names) = catches_up_causes m names
-performs_causes m (console names) = serves_files_causes m names
-performs_causes m (make seed records) = makes_run_causes m seed records
+pub performs_causes : {F K L D : Type 0} (m : Meanings F K L D) (command : CommandLine) → CausesBut m (EndsAmong (may_hide command)) (performs m command)
+performs_causes m (pages file) = among m (WriteFault ∷ []) _ refl (prints_file_causes m short file)
+performs_causes m (corrected_pages settings file) = among m (WriteFault ∷ []) _ refl (prints_corrected_causes m settings file)
+performs_causes m (soft settings file) = among m (WriteFault ∷ []) _ refl (prints_soft_causes m settings file)
+performs_causes m (task address asked) = among m (WriteFault ∷ []) _ refl (calls_for_causes m address asked)
+performs_causes m (report archive wanted) = among m (WriteFault ∷ []) _ refl (reports_on_causes m archive wanted)
+performs_causes m (climate archive year) = among m (WriteFault ∷ []) _ refl (tells_climate_causes m archive year)
+performs_causes m (serve archive address turns) = answers_over_causes m archive address turns
+performs_causes m (replay settings schedule) = among m (WriteFault ∷ []) _ refl (replays_files_causes m settings schedule)
+performs_causes m (copy from to) = among m (WriteFault ∷ []) _ refl (copies_on_causes m from to)
+performs_causes m (station names) = among m (WriteFault ∷ []) _ refl (catches_up_causes m names)
+performs_causes m (console names) = among m (WriteFault ∷ []) _ refl (serves_files_causes m names)
+performs_causes m (make seed records) = among m (WriteFault ∷ []) _ refl (makes_run_causes m seed records)

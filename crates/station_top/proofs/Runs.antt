@@ -4,11 +4,12 @@ use Rattle.std.specs.Prelude.{IfNone, IfSome}
 use Rattle.std.specs.declared.option.Option.{Option}
 use Rattle.std.specs.declared.result.Result.{Result}
 use Rattle.causes.specs.Cause.{Cause}
-use Rattle.command_words.specs.Command.{CommandLine, pages, corrected_pages, soft, task, report, climate, replay, copy, station, console, make}
+use Rattle.command_words.specs.Command.{CommandLine, pages, corrected_pages, soft, task, report, climate, serve, replay, copy, station, console, make}
 use Rattle.commands.specs.StationRun.{ShowsCaughtUp}
 use Rattle.commands.specs.Style.{short}
 use Rattle.commands.specs.TaskRun.{ShowsDone}
 use Rattle.commands.proofs.CaughtUp.{settled}
+use Rattle.commands.proofs.AnswerLaws.{answered_all, answers_over_complete}
 use Rattle.commands.proofs.ClimateLaws.{tells_climate_complete}
 use Rattle.commands.proofs.CopyLaws.{copies_on_complete}
 use Rattle.commands.proofs.PageLaws.{done_or_hindered, prints_corrected_complete, prints_file_complete}
@@ -20,16 +21,16 @@ use Rattle.model_commands.specs.ConsoleRun.{IsUntouchedOrShort}
 use Rattle.model_commands.proofs.ConsoleLaws.{served, serves_files_complete, serves_files_shortage}
 use Rattle.model_commands.proofs.MakeLaws.{made, makes_run_complete}
 use Rattle.model_commands.proofs.ReplayLaws.{replayed, replays_files_complete}
-use Rattle.run_output.specs.Causes.{HasCauses}
-use Rattle.run_output.specs.Ended.{EndsBy, IsOneOf, Lines, output_of}
+use Rattle.run_output.specs.Causes.{HasCauses, HasCausesBut}
+use Rattle.run_output.specs.Ended.{EndsAmong, EndsBy, IsOneOf, Lines, output_of}
 use Rattle.run_output.specs.Output.{EndsWith, Finishes, Output, code}
 use Rattle.run_output.specs.Outside.{Meanings}
 use Rattle.run_output.specs.declared.outside.Outside.{Outside}
 use Rattle.run_output.specs.declared.status.Status.{Status}
 use Rattle.run_output.specs.declared.status.Status.TheVariants as ends
-use Rattle.run_output.proofs.Causes.{Causes, still}
-use Rattle.run_output.proofs.RunCauses.{RunCauses, by, ends_within, run_causes}
-use Rattle.station_top.specs.Run.{IsUsage, Performs, Promises, performs, performs_words, usage}
+use Rattle.run_output.proofs.Causes.{Causes, CausesBut, among, still}
+use Rattle.run_output.proofs.RunCauses.{RunCauses, by, ends_within, numbered, run_causes}
+use Rattle.station_top.specs.Run.{IsUsage, Performs, Promises, may_be_hidden, performs, performs_words, usage}
 use Rattle.station_top.proofs.Commands.{performs_causes}
 
 -- what is so of the command that the words spell is so if they spell one
@@ -41,21 +42,21 @@ pub if_outside : (words : Option CommandLine) (P : Type 0) → (words ≡ None �
 if_outside None P none = none refl
 if_outside (Some command) P none = tt
 
-numbered : (statuses : List Status) (status : Status) → IsOneOf statuses status → IsOneOf (map code statuses) (code status)
-numbered [] status is = is
-numbered (one ∷ []) status is = ap code is
-numbered (one ∷ next ∷ more) status (inl is) = inl (ap code is)
-numbered (one ∷ next ∷ more) status (inr is) = inr (numbered (next ∷ more) status is)
-
 usage_causes : {F K L D : Type 0} (m : Meanings F K L D) → Causes m (performs_words m None)
 usage_causes {F} {K} {L} {D} m old new result did =
     subst (λ (r : Result Lines Output). HasCauses m old r new) (sym did.0)
     (subst (λ (w : Outside F K L D). HasCauses m old (let r : Result Lines Output = Err usage in r) w) (sym did.1)
     (still {A = Lines} m old (Err usage) (λ e. cc) (λ e. cc) (λ e. cc) (λ e. cc)))
 
-words_causes : {F K L D : Type 0} (m : Meanings F K L D) (words : Option CommandLine) → Causes m (performs_words m words)
-words_causes m None = usage_causes m
+words_causes : {F K L D : Type 0} (m : Meanings F K L D) (words : Option CommandLine) → CausesBut m (EndsAmong (may_be_hidden words)) (performs_words m words)
+words_causes m None = among m (ends.WriteFault ∷ []) _ refl (usage_causes m)
 words_causes m (Some command) = performs_causes m command
+
+-- a write fault may always hide one of a disk
+hides_nine : (words : Option CommandLine) → IsOneOf (map code (may_be_hidden words)) 9
+hides_nine None = refl
+hides_nine (Some (serve archive address turns)) = inr (inl refl)
+hides_nine (Some other) = refl
 
 -- What the words did, and how their last lines were written.
 pub record Ran {F K L D : Type 0} (m : Meanings F K L D) (words : Option CommandLine) (old new : Outside F K L D) (result : ℕ) : Type 0 where
@@ -71,11 +72,12 @@ pub record Ran {F K L D : Type 0} (m : Meanings F K L D) (words : Option Command
 
 module _ {F K L D : Type 0} (m : Meanings F K L D) (words : Option CommandLine) (old new : Outside F K L D) (result : ℕ)
     (ran : Ran m words old new result) where
-  has : HasCauses m old ran.ended ran.mid
+  has : HasCausesBut m (EndsAmong (may_be_hidden words) ran.ended) old ran.ended ran.mid
   has = words_causes m words old ran.mid ran.ended ran.did
 
-  pub causes : RunCauses m old new result
-  causes = subst (λ (n : ℕ). RunCauses m old new n) (sym ran.is) (run_causes m old ran.mid new ran.ended ran.status has ran.alone ran.finishes ran.cause ran.sink)
+  pub causes : RunCauses m (may_be_hidden words) old new result
+  causes = subst (λ (n : ℕ). RunCauses m (may_be_hidden words) old new n) (sym ran.is)
+      (run_causes m old ran.mid new ran.ended ran.status (may_be_hidden words) (hides_nine words) has ran.alone ran.finishes ran.cause ran.sink)
 
   link : new.link ≡ ran.mid.link
   link = ap (λ (w : Outside F K L D). w.link) ran.alone
@@ -85,7 +87,7 @@ module _ {F K L D : Type 0} (m : Meanings F K L D) (words : Option CommandLine) 
       (IsOneOf (map code statuses)) ran.finishes (numbered statuses (output_of ran.ended).status is) nine)
 
   short_of : result ≡ 12 → EndsBy ends.OutOfMemory ran.ended
-  short_of twelve = by m old ran.mid new ran.ended ran.status has ran.alone ran.finishes ran.cause ran.sink ends.OutOfMemory (λ e. cc) (λ e. cc) (sym ran.is ∙ twelve)
+  short_of twelve = by m old ran.mid new ran.ended ran.status (may_be_hidden words) (hides_nine words) has ran.alone ran.finishes ran.cause ran.sink ends.OutOfMemory (λ e. cc) (λ e. cc) (sym ran.is ∙ twelve)
 
   written : EndsWith m.outlet (output_of ran.ended) ran.mid.out new.out result
   written = record { status = ran.status; coded = sym ran.is; ends = ran.finishes }
@@ -114,6 +116,8 @@ module _ {F K L D : Type 0} (m : Meanings F K L D) (words : Option CommandLine) 
       within reported (inr (inr (inl refl))) (reports_on_complete m archive wanted old ran.mid ran.ended good did)
   promised (climate archive year) did = λ good.
       within reported (inr (inr (inl refl))) (tells_climate_complete m archive year old ran.mid ran.ended good did)
+  promised (serve archive address turns) did = λ good.
+      within answered_all (inr (inr (inr (inl refl)))) (answers_over_complete m archive address turns old ran.mid ran.ended good did)
   promised (replay settings schedule) did = λ good.
       within replayed (inr (inr (inr (inl refl)))) (replays_files_complete m settings schedule old ran.mid ran.ended good did)
   promised (copy from to) did = λ good. within reported (inr (inr (inl refl))) (copies_on_complete m from to old ran.mid ran.ended good did)

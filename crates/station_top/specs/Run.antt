@@ -1,13 +1,14 @@
 -- What a run of a command does: which calls it makes, what it writes, and how it ends.
-use Rattle.std.specs.Prelude.{ℕ, ◌≡◌, [], ◌∷◌, Some, None, Err, codes, IsSomeAnd}
+use Rattle.std.specs.Prelude.{ℕ, ◌≡◌, List, [], ◌∷◌, Some, None, Err, codes, IsSomeAnd}
 use Rattle.std.specs.declared.option.Option.{Option}
 use Rattle.std.specs.declared.result.Result.{Result}
 use Rattle.causes.specs.Cause.{Cause}
 use Rattle.serial_link.specs.Traffic.{Traffic}
 use Rattle.station_io.specs.Sink.{Outlet}
 use Rattle.command_words.specs.declared.task.Task.{Task}
-use Rattle.command_words.specs.Command.{CommandLine, ConsoleNames, pages, corrected_pages, soft, task, report, climate, replay, copy, station}
+use Rattle.command_words.specs.Command.{CommandLine, ConsoleNames, pages, corrected_pages, soft, task, report, climate, serve, replay, copy, station}
 use Rattle.command_words.specs.Command.{console, make}
+use Rattle.commands.specs.AnswerRun.{answers_over}
 use Rattle.commands.specs.ClimateRun.{tells_climate}
 use Rattle.commands.specs.CopyRun.{TellArchives, copies_on}
 use Rattle.commands.specs.GoodFile.{IsGoodFile}
@@ -26,6 +27,7 @@ use Rattle.run_output.specs.Outside.{Meanings}
 use Rattle.run_output.specs.Reading.{IsAccepted}
 use Rattle.run_output.specs.Steps.{Step}
 use Rattle.run_output.specs.declared.outside.Outside.{Outside}
+use Rattle.run_output.specs.declared.status.Status.{Status}
 use Rattle.run_output.specs.declared.status.Status.TheVariants as ends
 
 -- what is written of words outside the table
@@ -45,6 +47,7 @@ performs m (soft settings file) = prints_soft m settings file
 performs m (task address asked) = calls_for m address asked
 performs m (report archive wanted) = reports_on m archive wanted
 performs m (climate archive year) = tells_climate m archive year
+performs m (serve archive address turns) = answers_over m archive address turns
 performs m (replay settings schedule) = replays_files m settings schedule
 performs m (copy from to) = copies_on m from to
 performs m (station names) = catches_up m names
@@ -55,6 +58,16 @@ performs m (make seed records) = makes_run seed records
 abbrev pub performs_words : {F K L D : Type 0} → Meanings F K L D → Option CommandLine → Step (Outside F K L D) Lines
 performs_words m (Some command) = performs m command
 performs_words m None = λ old result new. (result ≡ Err usage) × (new ≡ old)
+
+-- the statuses of a run in which a call of a disk may have failed too: that of a write fault, and, of an archive that is served, those
+-- of the link
+abbrev pub may_hide : CommandLine → List Status
+may_hide (serve archive address turns) = ends.LinkFault ∷ ends.WriteFault ∷ ends.OutOfMemory ∷ []
+may_hide other = ends.WriteFault ∷ []
+
+abbrev pub may_be_hidden : Option CommandLine → List Status
+may_be_hidden (Some command) = may_hide command
+may_be_hidden None = ends.WriteFault ∷ []
 
 -- The command was done, or a step ended it, and then its last lines were written.
 pub record Performs {F K L D : Type 0} (m : Meanings F K L D) (command : CommandLine) (old new : Outside F K L D)
@@ -93,6 +106,8 @@ Promises m (report archive wanted) old new result =
     TellsArchive m.medium old.disk → IsOneOf (0 ∷ 7 ∷ 9 ∷ 12 ∷ []) result
 Promises m (climate archive year) old new result =
     TellsArchive m.medium old.disk → IsOneOf (0 ∷ 7 ∷ 9 ∷ 12 ∷ []) result
+Promises m (serve archive address turns) old new result =
+    TellsArchive m.medium old.disk → IsOneOf (0 ∷ 6 ∷ 7 ∷ 9 ∷ 12 ∷ []) result
 Promises m (replay settings schedule) old new result =
     HasGoodFiles m.shelf settings schedule old.files → IsOneOf (0 ∷ 5 ∷ 8 ∷ 9 ∷ 12 ∷ []) result
 Promises m (copy from to) old new result =

@@ -1,14 +1,17 @@
-ghost use Rattle.std.specs.Prelude.{◌≡◌, ◌≢◌, ◌<◌, ◌≤◌, ◌^◌, IfSome, IfNone};
+ghost use Rattle.std.specs.Prelude.{◌≡◌, ◌≢◌, ◌<◌, ◌≤◌, ◌^◌, map, IfSome, IfNone};
 ghost use Rattle.causes.specs.Cause.{Cause};
 ghost use Rattle.command_words.specs.Command.{command_of, command_read, line_of, texts};
 ghost use Rattle.command_words.specs.Possible.{IsPossible};
 ghost use Rattle.run_output.specs.Causes.{RoseOnOne, WentWell};
+ghost use Rattle.run_output.specs.Ended.{IsOneOf};
+ghost use Rattle.run_output.specs.Output.{code};
 ghost use Rattle.run_output.specs.Outside.{means};
-ghost use Rattle.station_top.specs.Run.{IsUsage, Performs, Promises, performs_words};
+ghost use Rattle.station_top.specs.Run.{IsUsage, Performs, Promises, may_be_hidden, performs_words};
 
 use command_words::Command;
 use commands::{
-    call_for, catch_up, copy_files, corrected_pages, print_climate, print_file, report, soft_rows,
+    answer_requests, call_for, catch_up, copy_files, corrected_pages, print_climate, print_file,
+    report, soft_rows,
 };
 use disk_model::Disk;
 use model_commands::{make_run, replay_files, serve_files};
@@ -49,9 +52,12 @@ pub fn run<F: Files, K: Sink, L: Link, D: Disk>(
     ensures files_still { result ≢ 8 → result ≢ 9 → F.shelf.faults outside.new.files ≡ F.shelf.faults outside.old.files }
     ensures sink_still { result ≢ 9 → K.outlet.faults outside.new.out ≡ K.outlet.faults outside.old.out }
 
-    // Nor did a call of a disk fail. A disk fault whose line could not be written ends with 9.
-    ensures disk_well { result ≢ 7 → result ≢ 9 → WentWell D.medium outside.old.disk outside.new.disk }
-    ensures second_well { result ≢ 7 → result ≢ 9 → WentWell D.medium outside.old.second outside.new.second }
+    // Nor did a call of a disk fail. A disk fault whose line could not be written ends with 9, and one behind which the link failed
+    // as the link has it.
+    ensures disk_well { result ≢ 7 → ¬ (IsOneOf (map code (may_be_hidden (command_of (texts words.now)))) result)
+        → WentWell D.medium outside.old.disk outside.new.disk }
+    ensures second_well { result ≢ 7 → ¬ (IsOneOf (map code (may_be_hidden (command_of (texts words.now)))) result)
+        → WentWell D.medium outside.old.second outside.new.second }
 
     // Over good input the command is done, unless the outside failed or memory was wanting.
     ensures promised { IfSome (command_of (texts words.now)) (λ command.
@@ -81,6 +87,13 @@ fn perform<F: Files, K: Sink, L: Link, D: Disk>(
         Some(Command::Task { address, task }) => call_for(address, &task, outside),
         Some(Command::Report { archive, wanted }) => report(alloc, archive, &wanted, outside),
         Some(Command::Climate { archive, year }) => print_climate(alloc, archive, year, outside),
+        Some(
+            Command::Serve {
+                archive,
+                address,
+                turns,
+            },
+        ) => answer_requests(alloc, archive, address, turns, outside),
         Some(Command::Replay { settings, schedule }) => {
             replay_files(alloc, settings, schedule, outside)
         }

@@ -29,3 +29,6 @@ returns-in-Some-Soft g c = rw c.in-Some-Soft.is (rw c.in-Some-Soft.field-0-is c.
 
 pub returns-in-Some-Climate : goal.returns-in-Some-Climate
 returns-in-Some-Climate g c = rw c.in-Some-Climate.is (rw c.in-Some-Climate.field-0-is c.print_climate.ensures)
+
+pub returns-in-Some-Serve : goal.returns-in-Some-Serve
+returns-in-Some-Serve g c = rw c.in-Some-Serve.is (rw c.in-Some-Serve.field-0-is c.answer_requests.ensures)
