@@ -15,6 +15,8 @@ mod gated_log_tests;
 #[cfg(test)]
 mod quality_tests;
 #[cfg(test)]
+mod query_service_tests;
+#[cfg(test)]
 mod row_slot_tests;
 #[cfg(test)]
 mod settings_changes_tests;

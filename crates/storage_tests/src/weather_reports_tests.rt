@@ -29,7 +29,7 @@ const WIND_GUST: usize = 12;
 const EVAPORATION: usize = 16;
 
 // A row of five minutes, of 2024, with an outside temperature alone.
-fn row_at(rt: &impl Abort, month: u16, day: u16, time: u16, tenths: u16) -> Row
+pub fn row_at(rt: &impl Abort, month: u16, day: u16, time: u16, tenths: u16) -> Row
     ensures printable { All IsPrintable result.values }
     ensures none { result.limited ≡ 0 }
 {
@@ -42,7 +42,7 @@ fn row_at(rt: &impl Abort, month: u16, day: u16, time: u16, tenths: u16) -> Row
 }
 
 // The row of a record that tells the outside temperature alone.
-fn recorded(mut row: Row) -> Row
+pub fn recorded(mut row: Row) -> Row
     requires printable { All IsPrintable row.values }
     requires none { row.limited ≡ 0 }
     ensures printable { All IsPrintable result.values }
