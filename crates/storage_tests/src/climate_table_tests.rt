@@ -28,9 +28,19 @@ fn row_of(rt: &impl Abort, stamp: &str, outside: Option<i16>, rain: Option<i16>)
     let mut row = Row::default();
     row.stamp = Stamp::from_text(stamp.as_bytes()).expect(rt, "a stamp");
     row.interval = Period::from_minutes(5).expect(rt, "a period");
-    row.values[OUTSIDE] = outside.map(|tenths| i32::from(tenths));
-    row.values[RAIN] = rain.map(|clicks| i32::from(clicks));
+    row.values[OUTSIDE] = value_of(outside);
+    row.values[RAIN] = value_of(rain);
     row
+}
+
+// A value that a row may lack.
+fn value_of(number: Option<i16>) -> Option<i32>
+    ensures { IsPrintable result }
+{
+    match number {
+        Some(number) => Some(i32::from(number)),
+        None => None,
+    }
 }
 
 // The archive of a warm day with a row of midnight, a wet day, and rows on both sides of the turn of the year.
