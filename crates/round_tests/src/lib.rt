@@ -15,6 +15,8 @@ mod replay_turns_tests;
 #[cfg(test)]
 mod schedule_language_tests;
 #[cfg(test)]
+mod station_fleet_tests;
+#[cfg(test)]
 mod station_session_tests;
 #[cfg(test)]
 mod station_sim_tests;
