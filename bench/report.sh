@@ -1,7 +1,7 @@
 #!/usr/bin/env bash
-# Measures reports on a large archive, which bench/archive.sh makes: its rows, its days and its months, each beside the
-# same report of a day without rows, which takes no more than opening does. A table of SQLite with the same rows is
-# printed by the command sqlite3, all its columns as text. It is no test.
+# Measures reports on a large archive, which bench/archive.sh makes: its rows, its days and its months, and the climate of
+# a year, each beside the report of a day without rows, which takes no more than opening does. A table of SQLite with the
+# same rows is printed by the command sqlite3, all its columns as text. It is no test.
 set -eu
 cd "$(dirname "$0")/.."
 . bench/measure.sh
@@ -24,6 +24,7 @@ TURNS = 5
 # The first row is of the midnight that ends the day before.
 FIRST, LAST = '1999-12-31', '2020-12-31'
 EMPTY = '2100-01-01'
+YEAR = '2004'
 table = archive + '.sqlite'
 
 
@@ -69,6 +70,10 @@ for kind in ('days', 'months'):
     lines = many[0].said.count('\n')
     print(f'{kind}: {lines} lines, {seconds_of(many) - opened:.2f} s more,',
           f'resident at most {max(of.mebibytes for of in many):.1f} MiB')
+for words in (['report', archive, 'days', f'{YEAR}-01-01', f'{YEAR}-12-31'], ['climate', archive, YEAR]):
+    many = [runs.run([program, *words]) for turn in range(TURNS)]
+    lines = many[0].said.count('\n')
+    print(f'{words[0]} of a year: {lines} lines, {seconds_of(many) - opened:.3f} s more')
 rows = runs.run([program, 'report', archive, 'rows', FIRST, LAST]).said.count('\n')
 make_table(rows)
 taken = {print_report: [], print_table: []}

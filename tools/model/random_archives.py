@@ -203,9 +203,17 @@ def climate_words(chance, rows):
     return words
 
 
+def rows_of_each_day(chance):
+    """A row of each of 366 days from the first of a year on, which may be a leap year, at midnight or within the day."""
+    first = stamp_of_texts(f"{chance.choice((2000, 2023, 2024, 2096, 2100))}-01-01", "00:05")
+    first += chance.choice([-5, 0, 0, chance.randrange(MINUTES_OF_DAY - 5)])
+    others = [None] * (len(FIELDS) - 1)
+    return [Row(first + day * MINUTES_OF_DAY, 5, (chance.randrange(-200, 1000), *others), frozenset()) for day in range(366)]
+
+
 def random_climate_case(chance):
     """A run of `climate`."""
-    rows = random_rows(chance, 200)
+    rows = rows_of_each_day(chance) if chance.random() < 0.02 else random_rows(chance, 200)
     return Case(climate_words(chance, rows), files_to_read(chance, rows, 0.85))
 
 
