@@ -6,8 +6,8 @@ ghost use Rattle.schedule_file.specs.Forms.{no_values};
 ghost use Rattle.draws.specs.Draws.{drawn, next};
 ghost use Rattle.made_run.specs.Made.{due_values, first_due, with_value};
 
-use draws::Draws;
 use archive_record::{Rec52, RecordRead, read, write};
+use draws::Draws;
 use station_base::{FIELD_COUNT, FieldId, Period, Row, Stamp};
 
 // The temperatures drawn, in tenths of a degree Fahrenheit: so many, from the coldest on.

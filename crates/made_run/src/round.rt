@@ -3,8 +3,8 @@ ghost use Rattle.schedule_file.specs.Steps.{details_seen, step_seen};
 ghost use Rattle.draws.specs.Draws.{next};
 ghost use Rattle.made_run.specs.Made.{after_kind, details_of, kind_drawn, plain_round, round_of, stop_of};
 
-use draws::Draws;
 use causes::OutOfMemory;
+use draws::Draws;
 use schedule_file::{Fate, Fates, Step, Stop};
 use std::alloc::Global;
 

@@ -3,10 +3,10 @@ ghost use Rattle.station_base.specs.CivilMinute.{IsCivilMinute, minute_of, last_
 ghost use Rattle.schedule_file.specs.Steps.{steps_seen};
 ghost use Rattle.made_run.specs.Made.{is_round, made_steps};
 
-use draws::Draws;
 use crate::record::{drawn_record, first_stamp};
 use crate::round::{drawn_round, plain_round};
 use causes::OutOfMemory;
+use draws::Draws;
 use schedule_file::Step;
 use station_base::{Period, Stamp};
 use std::alloc::Global;

@@ -55,8 +55,11 @@ served_causes traffic old new end count ended fault given =
     let so = λ (status : Status) (is : EndsBy status ended). served_as end count status (has_status status ended _ given is) in
     record {
       fault = record { never_falls = fault.never_falls; rose = λ is. fault.rose (let e = so ends.LinkFault is in grind arith) };
-      others = (λ is. let e = so ends.ReadFault is in grind arith, λ is. let e = so ends.WriteFault is in grind arith,
-          λ is. let e = so ends.DiskFault is in grind arith);
+      others = (
+        λ is. let e = so ends.ReadFault is in grind arith,
+        λ is. let e = so ends.WriteFault is in grind arith,
+        λ is. let e = so ends.DiskFault is in grind arith,
+      );
     }
 
 pub serves_files_causes : {F K L D : Type 0} (m : Meanings F K L D) (names : ConsoleNames) → Causes m (serves_files m names)

@@ -55,8 +55,11 @@ replays_causes m settings steps = by_sink m (replays m.outlet settings steps) (�
     record {
       cause = record { never_falls = did.cause.never_falls; rose = λ is. did.cause.rose (let e = so ends.WriteFault is in grind arith) };
       still = λ no. did.still (λ is. no (ends_so ends.WriteFault ended _ did.given (λ e. cc) (ap replay_status is)));
-      others = (λ is. let e = so ends.ReadFault is in grind arith, λ is. let e = so ends.LinkFault is in grind arith,
-          λ is. let e = so ends.DiskFault is in grind arith);
+      others = (
+        λ is. let e = so ends.ReadFault is in grind arith,
+        λ is. let e = so ends.LinkFault is in grind arith,
+        λ is. let e = so ends.DiskFault is in grind arith,
+      );
     })
 
 pub replays_files_causes : {F K L D : Type 0} (m : Meanings F K L D) (settings schedule : List ℕ) → Causes m (replays_files m settings schedule)
