@@ -1,4 +1,4 @@
-"""Climate tables of a year: degree days of its days, and what months and the year come to."""
+"""Climate tables of a year: degree days of its days, and the totals of months and of the year."""
 
 from fractions import Fraction
 from math import floor
@@ -60,7 +60,7 @@ def temperatures(outside):
 
 
 def climate_line(name, rows):
-    """What the days of some rows come to."""
+    """The totals of the days of some rows."""
     days = [group for _, group in grouped(rows, day_name)]
     outsides = [outside for outside in (field_summary(day, OUTSIDE) for day in days) if outside is not None]
     rains = [rain for rain in (field_summary(day, RAIN) for day in days) if rain is not None]
@@ -71,7 +71,7 @@ def climate_line(name, rows):
 
 
 def month_lines(name, rows):
-    """The degree days of the days of a month, and what the month comes to."""
+    """The degree days of the days of a month, and the totals of the month."""
     lines = []
     for day, group in grouped(rows, day_name):
         outside = field_summary(group, OUTSIDE)
