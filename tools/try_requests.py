@@ -30,6 +30,7 @@ TURNS = 1_000_000  # so the caller leaves first
 MOST_ROWS = 40
 MOST_REQUESTS = 12
 MOST_PIECE = 300  # bytes
+TO_ANSWER = 5  # seconds
 ROOM = 65_536  # bytes that are received at once
 LONG_LINE = 10_000_000  # bytes
 MOST_HELD = 16_384  # KB of memory
@@ -79,7 +80,7 @@ def call(port):
     end = time.monotonic() + LONGEST
     while True:
         try:
-            return socket.create_connection(("127.0.0.1", port), timeout=LONGEST)
+            return socket.create_connection(("127.0.0.1", port), timeout=TO_ANSWER)
         except ConnectionRefusedError:
             if time.monotonic() > end:
                 raise Differs("nobody waits for a call") from None
@@ -95,11 +96,14 @@ def free_port():
 def received(line, size):
     """So many bytes, and what comes right behind them."""
     data = b""
-    while len(data) < size:
-        piece = line.recv(ROOM)
-        if not piece:
-            return data
-        data += piece
+    try:
+        while len(data) < size:
+            piece = line.recv(ROOM)
+            if not piece:
+                return data
+            data += piece
+    except TimeoutError:
+        return data
     line.settimeout(NOTHING_MORE)
     try:
         return data + line.recv(ROOM)
@@ -177,7 +181,7 @@ def rows_added_meanwhile(chance, program):
         with (program.folder / "a").open("r+b") as file:
             file.seek(-len(CLOSED_GATE), os.SEEK_END)
             file.write(archive_of(rows)[file.tell():])
-        line.settimeout(LONGEST)
+        line.settimeout(TO_ANSWER)
         line.sendall(ALL_ROWS)
         hold("behind", received(line, len(wanted)), wanted)
 
