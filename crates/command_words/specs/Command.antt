@@ -1,16 +1,17 @@
 -- What the words of the command line ask for.
-use Rattle.std.specs.Prelude.{ℕ, ◌-◌, ◌^◌, if◌then◌else◌, List, [], ◌∷◌, map, bytes_eq, codes, Some, None, option_map}
+use Rattle.std.specs.Prelude.{ℕ, ◌-◌, ◌^◌, ◌&&◌, if◌then◌else◌, List, [], ◌∷◌, map, bytes_eq, codes, length, nat_le, Some, None, option_map}
 use Rattle.std.specs.Borrow.{Bor}
 use Rattle.std.specs.declared.option.Option.{Option}
 use Rattle.command_words.specs.Numbers.{number_within, year_within}
 use Rattle.command_words.specs.ReportWords.{wanted_in}
 use Rattle.command_words.specs.TaskWords.{task_of}
-use Rattle.numerals.specs.Then.{◌>>=◌}
+use Rattle.numerals.specs.Then.{◌>>=◌, only_if}
 use Rattle.command_words.specs.declared.command.Command.{Command}
 use Rattle.command_words.specs.declared.command.Command.TheVariants as read
 use Rattle.command_words.specs.declared.task.Task.{Task}
 use Rattle.command_words.specs.declared.wanted.Wanted.{Wanted}
 use Rattle.command_words.specs.declared.words.ConsoleWords.{ConsoleWords}
+use Rattle.command_words.specs.declared.words.FleetWords.{FleetWords}
 use Rattle.command_words.specs.declared.words.StationWords.{StationWords}
 
 -- what the words of `station` name
@@ -26,6 +27,12 @@ pub record ConsoleNames : Type 0 where
   pub address : List ℕ
   pub turns : ℕ
 
+-- what the words of `fleet` name, and the number from which its turns are drawn
+pub record FleetNames : Type 0 where
+  pub settings : List ℕ
+  pub seed : ℕ
+  pub schedules : List (List ℕ)
+
 -- a command, with the names that its words give
 pub data CommandLine : Type 0 where
   pages : List ℕ → CommandLine
@@ -39,6 +46,7 @@ pub data CommandLine : Type 0 where
   copy : List ℕ → List ℕ → CommandLine
   station : StationNames → CommandLine
   console : ConsoleNames → CommandLine
+  fleet : FleetNames → CommandLine
   make : ℕ → ℕ → CommandLine
 
 -- the words, each as its bytes
@@ -100,6 +108,13 @@ console_in (settings ∷ schedule ∷ address ∷ turns ∷ []) =
     (number_within 1 1000000 turns)
 console_in words = None
 
+-- `SETTINGS SEED SCHEDULE ..`, a number below 2^31, and one to eight schedules
+unfoldable pub fleet_in : List (List ℕ) → Option CommandLine
+fleet_in (settings ∷ seed ∷ schedules) = do
+  number ← number_within 0 (2 ^ 31 - 1) seed
+  only_if (nat_le 1 (length schedules) && nat_le (length schedules) 8) (fleet (record { settings = settings; seed = number; schedules = schedules }))
+fleet_in words = None
+
 -- `SEED N`, a number below 2^31, and 1 to 5,000
 unfoldable pub make_in : List (List ℕ) → Option CommandLine
 make_in (seed ∷ count ∷ []) = do
@@ -122,6 +137,7 @@ command_of (command ∷ words) =
     else if bytes_eq command (codes "copy") then copy_in words
     else if bytes_eq command (codes "station") then station_in words
     else if bytes_eq command (codes "console") then console_in words
+    else if bytes_eq command (codes "fleet") then fleet_in words
     else if bytes_eq command (codes "make") then make_in words
     else None
 
@@ -139,6 +155,10 @@ console_names words =
       turns = words.turns;
     }
 
+abbrev pub fleet_names : FleetWords → FleetNames
+fleet_names words =
+    record { settings = words.settings.now; seed = words.seed; schedules = texts words.schedules.items }
+
 -- a command that was read, with the texts that it lends
 abbrev pub command_read : Command → CommandLine
 command_read (read.Pages file) = pages file.now
@@ -152,6 +172,7 @@ command_read (read.Replay settings schedule) = replay settings.now schedule.now
 command_read (read.Copy from to) = copy from.now to.now
 command_read (read.Station words) = station (station_names words)
 command_read (read.Console words) = console (console_names words)
+command_read (read.Fleet words) = fleet (fleet_names words)
 command_read (read.Make seed records) = make seed records
 
 -- the same where one was read

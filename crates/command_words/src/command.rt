@@ -5,9 +5,10 @@ use crate::report_words::read_wanted;
 use crate::task::Task;
 use crate::task_words::read_task;
 use crate::wanted::Wanted;
-use crate::words::{ConsoleWords, StationWords};
+use crate::words::{ConsoleWords, FleetWords, StationWords};
+use arrayvec::ArrayVec;
 
-// The greatest number that a schedule is made from.
+// The greatest number from which draws are made.
 const MOST_SEED: u64 = (1 << 31) - 1;
 
 // The most records that are made.
@@ -88,6 +89,8 @@ pub enum Command<'a> {
     Station(StationWords<'a>),
     /// `console SETTINGS SCHEDULE ADDRESS TURNS`: a new modelled console, served at an address.
     Console(ConsoleWords<'a>),
+    /// `fleet SETTINGS SEED SCHEDULE ..`: the runs of one to eight schedules, turn by turn in an order that a number draws.
+    Fleet(FleetWords<'a>),
     /// `make SEED N`: the counts of the run of a schedule that is made from a number.
     Make {
         /// The number.
@@ -118,13 +121,14 @@ impl<'a> Command<'a> {
             "copy" => read_copy(more),
             "station" => read_station(more),
             "console" => read_console(more),
+            "fleet" => read_fleet(more),
             "make" => read_make(more),
             _ => None,
         }
     }
 }
 
-ghost use Rattle.command_words.specs.Command.{climate_in, command_read, console_in, copy_in, line_of, make_in, pages_in, replay_in, report_in, serve_in, soft_in, station_in, task_in, texts};
+ghost use Rattle.command_words.specs.Command.{climate_in, command_read, console_in, copy_in, fleet_in, line_of, make_in, pages_in, replay_in, report_in, serve_in, soft_in, station_in, task_in, texts};
 ghost use Rattle.command_words.specs.Possible.{IsPossible};
 
 // `FILE`, or `SETTINGS FILE`.
@@ -258,6 +262,27 @@ fn read_console<'a>(words: &[&'a str]) -> Option<Command<'a>>
         schedule,
         address,
         turns,
+    }))
+}
+
+// `SETTINGS SEED SCHEDULE ..`, one to eight schedules.
+#[tactic(auto, unfolding(crate::specs::Command::fleet_in))]
+fn read_fleet<'a>(words: &[&'a str]) -> Option<Command<'a>>
+    ensures command { line_of result ≡ fleet_in (texts words.now) }
+    ensures possible { IfSome result (λ command. IsPossible (command_read command)) }
+{
+    let (settings, more) = words.split_first()?;
+    let (seed, names) = more.split_first()?;
+    let seed = read_within(seed, 0, MOST_SEED)? as u32;
+    if names.is_empty() {
+        return None;
+    }
+    let mut schedules = ArrayVec::new();
+    schedules.try_extend_from_slice(names).ok()?;
+    Some(Command::Fleet(FleetWords {
+        settings,
+        seed,
+        schedules,
     }))
 }
 

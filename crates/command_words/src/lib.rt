@@ -13,4 +13,4 @@ mod words;
 pub use command::Command;
 pub use task::{MOST_BYTES, Task};
 pub use wanted::{ReportKind, Wanted};
-pub use words::{ConsoleWords, StationWords};
+pub use words::{ConsoleWords, FleetWords, MOST_SCHEDULES, StationWords};
