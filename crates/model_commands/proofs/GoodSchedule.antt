@@ -1,5 +1,5 @@
 -- Over good files only a read fault, or want of memory, keeps a run from what follows both readings.
-use Rattle.std.proofs.Common.{◌≡◌, ℕ, List, Ok, Err, true, false, sym, ap, subst, inl, inr}
+use Rattle.std.proofs.Common.{◌≡◌, ℕ, List, Ok, Err, true, false, sym, ap, subst, ◌∙◌, inl, inr}
 use Rattle.std.specs.Global.{Vec}
 use Rattle.std.specs.Prelude.{IsOk, IsSomeAnd, MatchResult}
 use Rattle.std.specs.declared.option.Option.{Option}
@@ -17,7 +17,7 @@ use Rattle.schedule_file.specs.declared.schedule.Schedule.{Schedule}
 use Rattle.settings_file.specs.StationSettings.{StationSettings}
 use Rattle.station_io.specs.Files.{Shelf}
 use Rattle.model_commands.specs.ReplayRun.{HasGoodFiles, IsGoodSchedule}
-use Rattle.model_commands.specs.ScheduleReading.{SaysSchedule, reads_schedule}
+use Rattle.model_commands.specs.ScheduleReading.{SaysSchedule, reads_schedule, says_schedule}
 
 behind_ends : {W A B : Type 0} (P : A → Type 0) (R : Output → Type 0) (Q : Result B Output → Type 0) (next : A → Step W B) (mid new : W)
     (answer : Result A Output) (result : Result B Output) → ((output : Output) → R output → Q (Err output)) → MatchResult answer P R
@@ -39,7 +39,7 @@ schedule_said period text (Err output) ok (inl none) = inr (ap (λ (o : Output).
 schedule_said period text (Err output) ok (inr (fault, is, line)) = absurd (let no : false ≡ true = rw is at ok in cc)
 
 -- a good schedule is given
-good-reads_schedule : {F : Type 0} (shelf : Shelf F) (name : List ℕ) (period : ℕ) (old new : F) (result : Result Schedule Output)
+pub good-reads_schedule : {F : Type 0} (shelf : Shelf F) (name : List ℕ) (period : ℕ) (old new : F) (result : Result Schedule Output)
     → IsSomeAnd (shelf.held old name) (IsGoodSchedule period) → reads_schedule shelf name period old result new
     → GivesUnlessHindered (λ schedule. Unit {0}) result
 good-reads_schedule shelf name period old new result good did =
@@ -47,6 +47,17 @@ good-reads_schedule shelf name period old new result good did =
     (λ (r : Result Schedule Output). GivesUnlessHindered (λ schedule. Unit {0}) r) (λ output is. is) did
     (good-reads shelf (IsGoodSchedule period) name old did.mid did.answer (λ file is. is.0) good did.first)
     (λ text is says. schedule_said period text.items result is.1 says.0)
+
+schedule_stays : {F : Type 0} (period : ℕ) (mid new : F) (answer : Result (Vec ℕ) Output) (result : Result Schedule Output)
+    → Behind answer (λ text. says_schedule {F = F} text.items period) mid result new → new ≡ mid
+schedule_stays period mid new (Ok text) result behind = behind.1
+schedule_stays period mid new (Err output) result behind = behind.1
+
+-- what every name holds stays
+pub reads_schedule-stays : {F : Type 0} (shelf : Shelf F) (name other : List ℕ) (period : ℕ) (old new : F) (result : Result Schedule Output)
+    → reads_schedule shelf name period old result new → shelf.held new other ≡ shelf.held old other
+reads_schedule-stays {F} shelf name other period old new result did =
+    ap (λ (f : F). shelf.held f other) (schedule_stays period did.mid new did.answer result did.behind) ∙ did.first.did.stay other
 
 -- a run ends so if a read fault and want of memory do, and what follows both readings
 pub good_files_read : {F K L D : Type 0} {old new : Outside F K L D} {ended : Result Lines Output} (m : Meanings F K L D)

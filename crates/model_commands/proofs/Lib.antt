@@ -1,7 +1,10 @@
 pub mod BeforeRounds
 pub mod ConsoleLaws
+pub mod FleetLaws
 pub mod GoodSchedule
 pub mod MakeLaws
+pub mod NewStations
 pub mod Readied
 pub mod ReplayLaws
 pub mod Replays
+pub mod ScheduleFiles

@@ -1,4 +1,5 @@
 pub mod ConsoleRun
+pub mod FleetRun
 pub mod MakeRun
 pub mod ReplayRun
 pub mod ScheduleReading

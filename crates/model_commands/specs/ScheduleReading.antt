@@ -1,5 +1,5 @@
 -- The step that reads a schedule from a file.
-use Rattle.std.specs.Prelude.{ℕ, ◌≡◌, ◌⊎◌, List, ◌++◌, Ok, Err, codes}
+use Rattle.std.specs.Prelude.{ℕ, ◌≡◌, ◌≤◌, ◌⊎◌, length, List, ◌++◌, Ok, Err, codes}
 use Rattle.std.specs.declared.result.Result.{Result}
 use Rattle.run_output.specs.Output.{Output, no_memory}
 use Rattle.run_output.specs.Reading.{reads}
@@ -8,6 +8,7 @@ use Rattle.run_output.specs.declared.status.Status.TheVariants as ends
 use Rattle.schedule_file.specs.Answer.{ReadsAs}
 use Rattle.schedule_file.specs.Reading.{LineFault, steps_of}
 use Rattle.schedule_file.specs.declared.schedule.Schedule.{Schedule}
+use Rattle.schedule_replay.specs.Accepted.{IsAccepted}
 use Rattle.station_base.specs.NumberText.{number_text}
 use Rattle.station_io.specs.Files.{Shelf}
 
@@ -33,3 +34,9 @@ says_schedule text period old result new = SaysSchedule text period result × (n
 -- a file of a schedule is read, and its steps, for a console of this period, are what is given
 abbrev pub reads_schedule : {F : Type 0} → Shelf F → List ℕ → ℕ → Step F Schedule
 reads_schedule shelf name period = then (reads shelf name) (λ text. says_schedule text.items period)
+
+-- A schedule that was read for this period: it is accepted, and has at most 10,000 steps.
+pub record IsFit (period : ℕ) (schedule : Schedule) : Type 0 where
+  pub accepted : IsAccepted schedule
+  pub period_is : schedule.period ≡ period
+  pub few : length schedule.steps.items ≤ 10000

@@ -1,4 +1,4 @@
-ghost use Rattle.std.specs.Prelude.{◌≡◌, IfOk};
+ghost use Rattle.std.specs.Prelude.{◌≡◌, ◌≤◌, IfOk, length};
 ghost use Rattle.model_commands.specs.ScheduleReading.{SaysSchedule, bad_schedule, reads_schedule};
 ghost use Rattle.schedule_replay.specs.Accepted.{IsAccepted};
 
@@ -6,6 +6,7 @@ use run_output::{Ending, Status, Text, read};
 use schedule_file::{Schedule, ScheduleFault};
 use schedule_replay::accepted;
 use station_base::{Period, push_bytes, push_number};
+use station_fleet::a_schedule_has_few_steps;
 use station_io::Files;
 use std::alloc::Global;
 
@@ -19,6 +20,7 @@ pub fn read_schedule<F: Files>(
     ensures reads { reads_schedule F.shelf name.now period files.old result files.new }
     ensures accepted { IfOk result (λ schedule. IsAccepted schedule) }
     ensures period { IfOk result (λ schedule. schedule.period ≡ period) }
+    ensures few { IfOk result (λ schedule. length schedule.steps.items ≤ 10000) }
 {
     let text = read(alloc, files, name)?;
     schedule_in(alloc, &text, period)
@@ -29,10 +31,12 @@ fn schedule_in(alloc: Global, text: &[u8], period: Period) -> Result<Schedule, E
     ensures exact { SaysSchedule text.now period result }
     ensures accepted { IfOk result (λ schedule. IsAccepted schedule) }
     ensures period { IfOk result (λ schedule. schedule.period ≡ period) }
+    ensures few { IfOk result (λ schedule. length schedule.steps.items ≤ 10000) }
 {
     match Schedule::read(alloc, text, period) {
         Ok(schedule) => {
             accepted(&schedule);
+            a_schedule_has_few_steps();
             Ok(schedule)
         }
         Err(ScheduleFault::OutOfMemory) => Err(Ending::silent(Status::OutOfMemory)),
