@@ -94,6 +94,19 @@ expect 'a stormy week' 0 "$(cat "$top/examples/week.replay")"
 output=$("$program" replay settings.toml first.schedule 2>&1 >/dev/full)
 status=$?
 expect 'an output that is full in a replay' 9 ''
+{
+    printf 'run 2024-07-01 00:05 5\nround\n'
+    printf 'reply %s lost\n' 1 2 3 4 5 6 7 8 9
+} >asleep.schedule
+asleep=$("$program" replay settings.toml asleep.schedule)
+for seed in 1 2; do
+    run fleet settings.toml "$seed" first.schedule asleep.schedule
+    both=$output
+    output=$(sed -n 's/^1 //p' <<<"$both")
+    expect "a station of a fleet drawn from $seed prints what its replay does" 0 "$(cat "$top/examples/first.replay")"
+    output=$(sed -n 's/^2 //p' <<<"$both")
+    expect "so does the second one, drawn from $seed" 0 "$asleep"
+done
 
 output=$("$program" station settings.toml old.archive 127.0.0.1:1 2>&1 >/dev/full)
 status=$?

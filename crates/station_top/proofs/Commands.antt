@@ -1,6 +1,6 @@
 -- The faults by which a command ends have causes.
 use Rattle.std.proofs.Common.{[], ◌∷◌, refl}
-use Rattle.command_words.specs.Command.{CommandLine, pages, corrected_pages, soft, task, report, climate, serve, replay, copy, station, console, make}
+use Rattle.command_words.specs.Command.{CommandLine, pages, corrected_pages, soft, task, report, climate, serve, replay, copy, station, console, fleet, make}
 use Rattle.commands.specs.Style.{short}
 use Rattle.commands.proofs.AnswerLaws.{answers_over_causes}
 use Rattle.commands.proofs.ClimateLaws.{tells_climate_causes}
@@ -11,6 +11,7 @@ use Rattle.commands.proofs.SoftLaws.{prints_soft_causes}
 use Rattle.commands.proofs.StationLaws.{catches_up_causes}
 use Rattle.commands.proofs.TaskLaws.{calls_for_causes}
 use Rattle.model_commands.proofs.ConsoleLaws.{serves_files_causes}
+use Rattle.model_commands.proofs.FleetLaws.{fleets_causes}
 use Rattle.model_commands.proofs.MakeLaws.{makes_run_causes}
 use Rattle.model_commands.proofs.ReplayLaws.{replays_files_causes}
 use Rattle.run_output.specs.Outside.{Meanings}
@@ -31,4 +32,5 @@ performs_causes m (replay settings schedule) = among m (WriteFault ∷ []) _ ref
 performs_causes m (copy from to) = among m (WriteFault ∷ []) _ refl (copies_on_causes m from to)
 performs_causes m (station names) = among m (WriteFault ∷ []) _ refl (catches_up_causes m names)
 performs_causes m (console names) = among m (WriteFault ∷ []) _ refl (serves_files_causes m names)
+performs_causes m (fleet names) = among m (WriteFault ∷ []) _ refl (fleets_causes m names)
 performs_causes m (make seed records) = among m (WriteFault ∷ []) _ refl (makes_run_causes m seed records)

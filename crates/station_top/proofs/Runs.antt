@@ -4,7 +4,7 @@ use Rattle.std.specs.Prelude.{IfNone, IfSome}
 use Rattle.std.specs.declared.option.Option.{Option}
 use Rattle.std.specs.declared.result.Result.{Result}
 use Rattle.causes.specs.Cause.{Cause}
-use Rattle.command_words.specs.Command.{CommandLine, pages, corrected_pages, soft, task, report, climate, serve, replay, copy, station, console, make}
+use Rattle.command_words.specs.Command.{CommandLine, pages, corrected_pages, soft, task, report, climate, serve, replay, copy, station, console, fleet, make}
 use Rattle.commands.specs.StationRun.{ShowsCaughtUp}
 use Rattle.commands.specs.Style.{short}
 use Rattle.commands.specs.TaskRun.{ShowsDone}
@@ -19,6 +19,7 @@ use Rattle.commands.proofs.StationLaws.{catches_up_complete}
 use Rattle.commands.proofs.TaskLaws.{calls_for_done, calls_for_shortage}
 use Rattle.model_commands.specs.ConsoleRun.{IsUntouchedOrShort}
 use Rattle.model_commands.proofs.ConsoleLaws.{served, serves_files_complete, serves_files_shortage}
+use Rattle.model_commands.proofs.FleetLaws.{fleets_complete}
 use Rattle.model_commands.proofs.MakeLaws.{made, makes_run_complete}
 use Rattle.model_commands.proofs.ReplayLaws.{replayed, replays_files_complete}
 use Rattle.run_output.specs.Causes.{HasCauses, HasCausesBut}
@@ -128,6 +129,8 @@ module _ {F K L D : Type 0} (m : Meanings F K L D) (words : Option CommandLine) 
     shortage = λ twelve. subst (λ (l : L). IsUntouchedOrShort m.traffic old.link l) (sym link)
         (serves_files_shortage m names old ran.mid ran.ended did (short_of twelve));
   }
+  promised (fleet names) did = λ good.
+      within replayed (inr (inr (inr (inl refl)))) (fleets_complete m names old ran.mid ran.ended good did)
   promised (make seed records) did = within made (inr (inl refl)) (makes_run_complete m seed records old ran.mid ran.ended did)
 
   module _ (command : CommandLine) (spelled : words ≡ Some command) where

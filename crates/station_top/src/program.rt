@@ -14,7 +14,7 @@ use commands::{
     report, soft_rows,
 };
 use disk_model::Disk;
-use model_commands::{make_run, replay_files, serve_files};
+use model_commands::{make_run, replay_files, run_fleet, serve_files};
 use run_output::{Ending, Outside, Status, Text, finish};
 use serial_link::Link;
 use station_io::{Files, Sink};
@@ -100,6 +100,7 @@ fn perform<F: Files, K: Sink, L: Link, D: Disk>(
         Some(Command::Copy { from, to }) => copy_files(alloc, from, to, outside),
         Some(Command::Station(names)) => catch_up(alloc, &names, outside),
         Some(Command::Console(names)) => serve_files(alloc, &names, outside),
+        Some(Command::Fleet(names)) => run_fleet(alloc, &names, outside),
         Some(Command::Make { seed, records }) => make_run(alloc, seed, records),
         None => Err(Ending::with_line(b"usage\n", Status::Usage)),
     }

@@ -32,3 +32,6 @@ returns-in-Some-Climate g c = rw c.in-Some-Climate.is (rw c.in-Some-Climate.fiel
 
 pub returns-in-Some-Serve : goal.returns-in-Some-Serve
 returns-in-Some-Serve g c = rw c.in-Some-Serve.is (rw c.in-Some-Serve.field-0-is c.answer_requests.ensures)
+
+pub returns-in-Some-Fleet : goal.returns-in-Some-Fleet
+returns-in-Some-Fleet g c = rw c.in-Some-Fleet.is (rw c.in-Some-Fleet.field-0-is c.run_fleet.ensures)
