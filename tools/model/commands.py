@@ -5,6 +5,7 @@ import re
 from .archive import read_archive
 from .climate import FIRST_YEAR, LAST_YEAR, climate_lines
 from .copies import copy
+from .fleets import MOST_STATIONS, fleet_outcome
 from .made import MOST_MADE, MOST_SEED, make
 from .outcomes import BAD_WORDS, DISK_FAULT, DONE, FILE_TOO_LONG, READ_FAULT, Refusal, outcome
 from .packets import soft_outcome
@@ -30,6 +31,8 @@ def answer_of(command, words, files):
     """What a command ends with, or its refusal."""
     if command == "replay" and len(words) == 2:
         return replay(*words, files)
+    if command == "fleet" and 3 <= len(words) <= 2 + MOST_STATIONS:
+        return fleet(*words[:2], words[2:], files)
     if command == "make" and len(words) == 2:
         return made(*words)
     if command == "pages" and len(words) in (1, 2):
@@ -72,6 +75,13 @@ def replay(settings_name, schedule_name, files):
     run = Run(settings)
     status = run.run(read_schedule(content(schedule_name, files), settings.period))
     return outcome(status, run.lines)
+
+
+def fleet(settings_name, seed_text, names, files):
+    """What stations that take turns end with, by station; each schedule is read once those before it are accepted."""
+    decimal(seed_text, 0, MOST_SEED)
+    settings = read_settings(content(settings_name, files))
+    return fleet_outcome(settings, [read_schedule(content(name, files), settings.period) for name in names])
 
 
 def decimal(text, least, greatest):

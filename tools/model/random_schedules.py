@@ -298,6 +298,21 @@ def longest(chance):
 # How often each kind of schedule is made.
 MAKERS = {mixed: 30, stopped: 15, full_dump: 20, attacked: 35, around_the_ring: 2, corrected_rows: 30, faulty: 40,
           changed_digit: 15, longest: 1}
+# How often each kind is made of which a fleet has several: few are refused, since then none is run.
+MAKERS_OF_FLEETS = {mixed: 30, stopped: 15, full_dump: 5, attacked: 25, corrected_rows: 5, faulty: 2, changed_digit: 2}
+
+
+def random_fleet_case(chance):
+    """A run of `fleet`, under the settings of one of its schedules."""
+    count = chance.choice((1, 2, 2, 2, 3, 3, 3, 4, 4, 8, 9))
+    makers = chance.choices(list(MAKERS_OF_FLEETS), list(MAKERS_OF_FLEETS.values()), k=count)
+    drafts = [maker(chance) for maker in makers]
+    names = [f"{number}.schedule" for number in range(count)]
+    files = {"settings.toml": chance.choice(drafts).settings, **{name: draft.text() for name, draft in zip(names, drafts)}}
+    if chance.random() < 0.03:
+        del files[chance.choice(list(files))]
+    seed = MOST_SEED + 1 if chance.random() < 0.03 else chance.choice((0, 1, MOST_SEED, chance.randint(0, MOST_SEED)))
+    return Case(["fleet", "settings.toml", str(seed), *names], files)
 
 
 def random_replay_case(chance):
