@@ -102,8 +102,8 @@ pub ready_after : {M K : Type 0} (turning : Turning M) (outlet : Outlet K) (old 
 ready_after turning outlet old new e one ready size goes = record {
   few = omega (arith, one.as_many, ready.few);
   size = size;
-  absent = λ k past more. ready.absent k (omega (arith, past, one.as_many))
-      (sym (one.answers k (λ e. absurd (omega (arith, past, e, one.as_many, one.is_open.from, one.is_open.to)))) ∙ more);
+  absent = λ k past. one.answers k (λ e. absurd (omega (arith, past, e, one.as_many, one.is_open.from, one.is_open.to)))
+      ∙ ready.absent k (omega (arith, past, one.as_many));
   may_turn = λ n m was goes_on. may_turn_by turning outlet old new e one ready goes n m was goes_on _ refl;
 }
 

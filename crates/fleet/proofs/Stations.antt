@@ -1,5 +1,5 @@
 -- Which stations have not ended.
-use Rattle.std.proofs.Common.{ℕ, suc, zero, ◌≡◌, ◌<◌, ◌≤◌, ◌+◌, ◌-◌, ◌==◌, Bool, true, false, List, [], ◌∷◌, length, refl, ap, subst, ◌∙◌, arith, if◌then◌else◌}
+use Rattle.std.proofs.Common.{ℕ, suc, zero, ◌≡◌, ◌<◌, ◌≤◌, ◌+◌, ◌-◌, ◌==◌, Bool, true, false, List, [], ◌∷◌, length, refl, sym, ap, subst, ◌∙◌, arith, if◌then◌else◌}
 use Rattle.std.specs.Prelude.{slice_index_or, nat_le}
 use Rattle.std.proofs.lemmas.Bool.Decides.{nat_tests}
 use Rattle.fleet.specs.declared.member.MemberTurn.{MemberTurn}
@@ -53,7 +53,7 @@ inside : {M : Type 0} (turning : Turning M) (crew : Crew M) (s : ℕ) → IsRead
 inside turning crew s ready found true below = grind (arith, nat_tests)
 inside turning crew s ready found false above =
     let past : length crew.members ≤ s - 1 = grind (arith, nat_tests) in
-    absurd (ready.absent (s - 1) past found.1)
+    absurd (let bad : More ≡ Ended = sym found.1 ∙ ready.absent (s - 1) past in cc)
 
 pub is_open_at : {M : Type 0} (turning : Turning M) (crew : Crew M) (s : ℕ) → IsReady turning crew → Found 1 crew.last s
     → IsOpen crew s

@@ -28,11 +28,11 @@ pub record IsOpen {M : Type 0} (crew : Crew M) (station : ℕ) : Type 0 where
   pub to : station ≤ length crew.members
   pub more : last_of crew station ≡ More
 
--- There are up to eight, each that has not ended may take a turn, and behind them nothing is open.
+-- There are up to eight, each that has not ended may take a turn, and the places behind them have Ended.
 pub record IsReady {M : Type 0} (turning : Turning M) (crew : Crew M) : Type 0 where
   pub few : length crew.members ≤ 8
   pub size : length crew.last ≡ 8
-  pub absent : (k : ℕ) → length crew.members ≤ k → slice_index_or crew.last k Ended ≢ More
+  pub absent : (k : ℕ) → length crew.members ≤ k → slice_index_or crew.last k Ended ≡ Ended
   pub may_turn : (station : ℕ) (m : M) → slice_get crew.members (station - 1) ≡ Some m → IsOpen crew station → turning.may_turn m
 
 -- One turn of a station that had not ended: its member turned, and some text was written, each line with the number of the
