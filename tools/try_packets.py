@@ -447,6 +447,14 @@ def run_that_is_stopped(program):
             console.stop(number=number)
 
 
+def take_one_more(program):
+    """A next run adds its entry behind the last whole one of the file."""
+    with taking(program, program.read(FILE)) as console:
+        console.agree()
+        console.give(packet_of(3))
+        console.stop()
+
+
 def run_that_is_killed(program):
     """A run that is killed within a packet leaves whole entries, and the next run goes on behind them."""
     with taking(program, some_entries(1)) as console:
@@ -456,10 +464,7 @@ def run_that_is_killed(program):
         console.run.process.kill()
         hold("the run", console.run.end(), Ended(-signal.SIGKILL, ""))
         console.hold_file()
-    with taking(program, program.read(FILE)) as console:
-        console.agree()
-        console.give(packet_of(3))
-        console.stop()
+    take_one_more(program)
 
 
 def run_that_is_killed_at_a_write(program):
@@ -474,10 +479,7 @@ def run_that_is_killed_at_a_write(program):
         if len(program.read(FILE)) > ENTRY_BYTES:
             console.sent.append(Sent(packet_of(2), earliest, time.time()))
         console.hold_file()
-    with taking(program, program.read(FILE)) as console:
-        console.agree()
-        console.give(packet_of(3))
-        console.stop()
+    take_one_more(program)
 
 
 def writes_of_a_run(program):
