@@ -88,6 +88,9 @@ expect 'an archive that was to be copied to itself is kept' 0 ''
 cp "$top/examples/settings.toml" "$top/examples/first.schedule" .
 run replay settings.toml first.schedule
 expect 'a schedule with a lost page and a stop' 0 "$(cat "$top/examples/first.replay")"
+cp "$top/examples/headline.schedule" .
+run replay settings.toml headline.schedule
+expect 'the schedule that HEADLINE works through' 0 "$(cat "$top/examples/headline.replay")"
 cp "$top/examples/week.toml" "$top/examples/week.schedule" .
 run replay week.toml week.schedule
 expect 'a stormy week' 0 "$(cat "$top/examples/week.replay")"
