@@ -1,7 +1,7 @@
 #!/usr/bin/env bash
-# Tries that no wrong body passes try_edits.sh unless it was refused, with a script in rt's place, and that a case of a table
-# fails where it has to, with one in the program's place. The last line is 'N passed, M failed', and the status is 1 if any
-# failed.
+# Tries that no wrong body passes try_edits.sh unless it was refused, with a script in rt's place, that a case of a table
+# fails where it has to, with one in the program's place, and that a page which is not what the definitions make it is
+# refused. The last line is 'N passed, M failed', and the status is 1 if any failed.
 set -u
 tools=$(cd "$(dirname "$0")" && pwd)
 work=$(mktemp -d)
@@ -87,5 +87,49 @@ line = \"uncalled\""
 expect 'a case with a key that is none' 1 '*no key of a case: print*' try_case $'words = "print"\nprints = ""\nprint = ""'
 : >table.toml
 expect 'a table without a case' 1 '0 passed, 0 failed' "$tools/try_rows.py" ./stand_in table.toml
+
+# A tree of two crates, whose program has one command. Its clauses cite a definition of the crate above, which cites one below.
+mkdir -p pages/tools pages/docs pages/examples pages/crates/low/{src,specs} pages/crates/station_top/{src,specs}
+cp -r "$tools"/{headline,definitions}* "$tools"/{spec_files,rust_types,reading_list,reading_page,public_contracts}.py pages/tools
+printf 'low:\nstation_top: low\n' >pages/crates.txt
+echo '{{counts}}' >pages/tools/headline/observer.md
+printf '# Definitions\n\n## station_top\n\nIts source.\n' >pages/tools/definitions/sources.md
+printf '//! A crate.\n' >pages/crates/low/src/lib.rt
+printf -- '-- Numbers.\n\n-- none\nabbrev pub none : N\nnone = 0\n\n-- one\nabbrev pub one : N\none = 1\n' \
+    >pages/crates/low/specs/Number.antt
+printf -- '-- Runs.\nuse Rattle.low.specs.Number.{none, one}\n\n-- ends so\nabbrev pub Ends : N -> N\nEnds replay = none\n' \
+    >pages/crates/station_top/specs/Run.antt
+printf '//! A crate.\nmod program;\npub use program::run;\n' >pages/crates/station_top/src/lib.rt
+cat >pages/crates/station_top/src/program.rt <<'RUN'
+ghost use Rattle.station_top.specs.Run.{Ends};
+pub fn run() -> u8
+    // It ends.
+    ensures command { Ends result }
+{
+    0
+}
+RUN
+
+# Whether a page is what the definitions make it, after a change of the tree.
+made_page() {
+    sed -i "$3" "$2" && "pages/tools/$1.py" --check
+}
+
+pages/tools/headline.py && pages/tools/definitions.py
+expect 'a page of two definitions' 0 2 sed -n 's/.*REPLAY.md) | \([0-9]*\) .*/\1/p' pages/docs/HEADLINE.md
+expect 'the pages on the headline as they were made' 0 '' pages/tools/headline.py --check
+expect 'the page of definitions as it was made' 0 '' pages/tools/definitions.py --check
+expect 'a definition that nothing cites' 0 '' made_page headline pages/crates/low/specs/Number.antt 's/^one = 1/one = 2/'
+expect 'one definition more to read' 1 '*HEADLINE.md is not what*' \
+    made_page headline pages/crates/station_top/specs/Run.antt 's/^Ends replay = none/Ends replay = none + one/'
+expect 'a definition that says another thing' 1 '*REPLAY.md is not what*' \
+    made_page headline pages/crates/low/specs/Number.antt 's/^none = 0/none = 1/'
+expect 'a comment that says another thing' 1 '*DEFINITIONS.md is not what*' \
+    made_page definitions pages/crates/station_top/specs/Run.antt 's/^-- ends so/-- ends well/'
+pages/tools/headline.py && pages/tools/definitions.py
+expect 'a page on the headline that was edited' 1 '*HEADLINE.md is not what*' \
+    made_page headline pages/docs/HEADLINE.md 's/replay/replays/'
+expect 'a page of definitions that was edited' 1 '*DEFINITIONS.md is not what*' \
+    made_page definitions pages/docs/DEFINITIONS.md 's/well/ill/'
 
 conclude
