@@ -2,7 +2,7 @@
 use Rattle.std.specs.Prelude.{ℕ, ◌≡◌, ◌<◌, List, ◌++◌}
 use Rattle.std.proofs.Common.{get_or}
 
--- with some rest behind it, it is the whole
+-- the list is a prefix of the other: with some rest behind it, it is the whole
 abbrev pub IsFrontOf : {A : Type 0} → List A → List A → Type 0
 IsFrontOf {A} front whole = (rest : List A) × (front ++ rest ≡ whole)
 

@@ -9,7 +9,7 @@ pub record Leaves (old new : Option (List ℕ)) (all left : List ℕ) : Type 0 w
   pub appended : Appends old new written
   pub whole : written ++ left ≡ all
 
--- a front of the bytes was written
+-- a prefix of the bytes was written
 pub record WritesPart (old new : Option (List ℕ)) (all : List ℕ) : Type 0 where
   pub left : List ℕ
   pub leaves : Leaves old new all left

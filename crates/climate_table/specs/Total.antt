@@ -9,7 +9,7 @@ IsFraction (n, d) = (n < 2 ^ 48) × (1 ≤ d)
 abbrev pub thousandths : ℕ × ℕ → ℕ
 thousandths (n, d) = 100 * n / d
 
--- these of all fractions, added
+-- the thousandths of all fractions, added
 abbrev pub total_of : List (ℕ × ℕ) → ℕ
 total_of [] = 0
 total_of (f ∷ more) = thousandths f + total_of more

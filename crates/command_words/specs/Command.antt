@@ -141,11 +141,12 @@ command_of (command ∷ words) =
     else if bytes_eq command (codes "make") then make_in words
     else None
 
--- the names that were read, without their loan
+-- the names that the words of `station` lend, as their bytes
 abbrev pub station_names : StationWords → StationNames
 station_names words =
     record { settings = words.settings.now; archive = words.archive.now; address = words.address.now }
 
+-- the names that the words of `console` lend, as their bytes
 abbrev pub console_names : ConsoleWords → ConsoleNames
 console_names words =
     record {
@@ -155,6 +156,7 @@ console_names words =
       turns = words.turns;
     }
 
+-- the names that the words of `fleet` lend, as their bytes
 abbrev pub fleet_names : FleetWords → FleetNames
 fleet_names words =
     record { settings = words.settings.now; seed = words.seed; schedules = texts words.schedules.items }
@@ -175,6 +177,6 @@ command_read (read.Console words) = console (console_names words)
 command_read (read.Fleet words) = fleet (fleet_names words)
 command_read (read.Make seed records) = make seed records
 
--- the same where one was read
+-- the command that was read, if one was, with the texts that it lends
 abbrev pub line_of : Option Command → Option CommandLine
 line_of command = option_map command_read command

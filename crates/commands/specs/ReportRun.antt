@@ -69,7 +69,8 @@ reports_lines m archive lines =
     then (over_disk (recovers m.medium 1048576 Read)) (λ book.
     reports m lines book))
 
--- so are the lines that are asked for
+-- The file of this name is attached, without making it, its archive is recovered to be read, and the lines that are
+-- asked for are written.
 abbrev pub reports_on : {F K L D : Type 0} → Meanings F K L D → List ℕ → Wanted → Step (Outside F K L D) Lines
 reports_on m archive wanted = reports_lines m archive (lines_wanted wanted)
 

@@ -4,8 +4,8 @@ use Rattle.serial_link.specs.declared.talk.TalkItem.{TalkItem}
 use Rattle.console_tasks.specs.declared.end.TaskEnd.{TaskEnd}
 use Rattle.console_tasks.specs.TaskTalk.{Grammar, IsCutTalk}
 
--- Of one talk one front at most is of this grammar, with one list of answers and one end; and a talk that was cut off
--- has none.
+-- Of one talk one prefix at most is of this grammar, with one list of answers and one end; and a talk that was cut
+-- off has none.
 pub record EndsOnce (Talk : Grammar) : Type 0 where
   pub once : (t : List TalkItem) (a b : List (List ℕ)) (e f : TaskEnd)
       → Talk t a e → Talk t b f → (a ≡ b) × (e ≡ f)

@@ -22,6 +22,7 @@ pub record Host (L K : Type 0) : Type 0 where
   pub keeper : K
   pub tally : Tally
 
+-- a link, a keeper and a tally as one value
 abbrev pub host : {L K : Type 0} → L → K → Tally → Host L K
 host link keeper tally = record { link = link; keeper = keeper; tally = tally }
 

@@ -25,7 +25,7 @@ OneAttempt = (frame : List ℕ) (talk : List TalkItem) (place place' : ℕ) (tak
     (end end' : End) → Attempt frame talk place taken end → Attempt frame talk place' taken' end'
     → Agree place place' taken taken' end end'
 
--- the front of an attempt has one list of pages that were taken in it
+-- the prefix of an attempt has one list of pages that were taken in it
 abbrev pub OneFront : Type 0
 OneFront = (frame : List ℕ) (talk : List TalkItem) (place place' : ℕ) (taken taken' : List (List ℕ))
     → IsCutAfter (λ t pages end. Attempt frame t place pages end) talk taken

@@ -84,7 +84,7 @@ pub record Desk (L K : Type 0) : Type 0 where
   pub link : L
   pub keeper : K
 
--- these, as one value
+-- a pump, a link and a keeper as one value
 abbrev pub desk : {L K : Type 0} → Pump → L → K → Desk L K
 desk pump link keeper = record { pump = pump; link = link; keeper = keeper }
 

@@ -15,6 +15,7 @@ pub record Crew (M : Type 0) : Type 0 where
   pub members : List M
   pub last : List MemberTurn
 
+-- the members of a fleet, and the last answer of each station
 abbrev pub crew_of : {M : Type 0} → Fleet M → Crew M
 crew_of fleet = record { members = fleet.members.items; last = fleet.last }
 

@@ -20,6 +20,7 @@ fixed offset text = record { offset = offset; part = Fixed text; value = λ pack
 abbrev pub byte : ℕ → (LoopPacket → ℕ) → PacketField
 byte offset number = record { offset = offset; part = Byte; value = λ packet. Number (number packet) ∷ [] }
 
+-- a number of two bytes
 abbrev pub word : ℕ → (LoopPacket → ℕ) → PacketField
 word offset number = record { offset = offset; part = Word; value = λ packet. Number (number packet) ∷ [] }
 
@@ -27,6 +28,7 @@ word offset number = record { offset = offset; part = Word; value = λ packet. N
 abbrev pub signed_byte : ℕ → (LoopPacket → ℤ) → PacketField
 signed_byte offset number = record { offset = offset; part = SignedByte; value = λ packet. Signed (number packet) ∷ [] }
 
+-- a number of two bytes with a sign
 abbrev pub signed_word : ℕ → (LoopPacket → ℤ) → PacketField
 signed_word offset number = record { offset = offset; part = SignedWord; value = λ packet. Signed (number packet) ∷ [] }
 

@@ -12,6 +12,7 @@ pub data Part : Type 0 where
   SignedWord : Part
   Bytes : (count : ℕ) → Part
 
+-- what a part says: a number, a number with a sign, or bytes
 pub data Value : Type 0 where
   Number : (n : ℕ) → Value
   Signed : (z : ℤ) → Value
@@ -35,9 +36,11 @@ signed_word_in bytes = cast_signed w16 (from_le_bytes w16 bytes)
 unfoldable pub signed_byte_of : ℤ → List ℕ
 signed_byte_of z = to_le_bytes w8 (cast_unsigned w8 z)
 
+-- the bytes of a number of two bytes
 unfoldable pub word_of : ℕ → List ℕ
 word_of n = to_le_bytes w16 n
 
+-- the bytes of a number of two bytes with a sign
 unfoldable pub signed_word_of : ℤ → List ℕ
 signed_word_of z = to_le_bytes w16 (cast_unsigned w16 z)
 

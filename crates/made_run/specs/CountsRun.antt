@@ -14,8 +14,8 @@ use Rattle.schedule_replay.specs.declared.counts.Counts.{Counts}
 use Rattle.schedule_replay.specs.Steps.{steps_for}
 use Rattle.made_run.specs.Made.{made_steps}
 
--- They count items that are the run of the steps made from the seed, over a new console and a new archive, with plain
--- settings. All is kept of these items, and no delivery was unseen.
+-- The counts are those of items that are the run of the steps made from the seed, over a new console and a new
+-- archive, with plain settings. All is kept of these items, and no delivery was unseen.
 pub record CountsRun (seed count : ℕ) (counts : Counts) : Type 0 where
   pub steps : List code_step.Step
   pub made : steps_seen 5 steps ≡ made_steps seed count

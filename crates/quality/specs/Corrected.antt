@@ -56,7 +56,7 @@ taken [] after = 0
 taken (value ∷ before) [] = 0
 taken (value ∷ before) (now ∷ after) = (if is_taken value now then 1 else 0) + 2 * taken before after
 
--- the same of the field of a number
+-- the field of a number had a value, and has none now
 abbrev pub was_taken : List (Option ℤ) → List (Option ℤ) → ℕ → Bool
 was_taken before after field = has_value before field && not (has_value after field)
 

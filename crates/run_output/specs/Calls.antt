@@ -17,6 +17,7 @@ abbrev pub by_disk : Disked → Result (Unit {0}) Output
 by_disk attach.Done = Ok tt
 by_disk attach.Failed = Err disk_fault
 
+-- the answer of a step that calls an address
 abbrev pub by_call : Connected → Result (Unit {0}) Output
 by_call connected.Done = Ok tt
 by_call connected.Failed = Err link_fault

@@ -7,6 +7,6 @@ use Rattle.std.specs.List.{flat_map}
 abbrev pub byte_text : ℕ → List ℕ
 byte_text byte = digit_glyph false (byte / 16) ∷ digit_glyph false (byte % 16) ∷ []
 
--- two for each byte
+-- two hexadecimal digits for each byte, and the end of the line
 abbrev pub bytes_line : List ℕ → List ℕ
 bytes_line bytes = flat_map byte_text bytes ++ codes "\n"

@@ -7,6 +7,7 @@ use Rattle.station_io.specs.Sink.{Outlet}
 use Rattle.run_output.specs.declared.status.Status.{Status}
 use Rattle.run_output.specs.declared.status.Status.TheVariants as ends
 
+-- what is written last, and the status that the run ends with
 pub record Output : Type 0 where
   pub text : List ℕ
   pub status : Status
@@ -31,6 +32,7 @@ disk_fault = record { text = codes "disk fault\n"; status = ends.DiskFault }
 abbrev pub read_fault : Output
 read_fault = record { text = codes "read fault\n"; status = ends.ReadFault }
 
+-- the line of a file that is too long
 abbrev pub too_long : Output
 too_long = record { text = codes "file too long\n"; status = ends.TooLong }
 
@@ -38,7 +40,7 @@ too_long = record { text = codes "file too long\n"; status = ends.TooLong }
 abbrev pub write_fault : Output
 write_fault = record { text = []; status = ends.WriteFault }
 
--- A run wrote it all and ends so, or a write failed after a front of it.
+-- A run wrote it all and ends so, or a write failed after a prefix of it.
 abbrev pub Finishes : Option (List ℕ) → Option (List ℕ) → Output → Status → Type 0
 Finishes old new output status =
     ((status ≡ output.status) × Appends old new output.text)

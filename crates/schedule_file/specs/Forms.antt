@@ -147,6 +147,7 @@ pub record Entry : Type 0 where
   pub word : List ℕ
   pub form : List (List ℕ) → Option Form
 
+-- the form that lines with this first word have
 abbrev pub entry : List ℕ → (List (List ℕ) → Option Form) → Entry
 entry word form = record { word = word; form = form }
 

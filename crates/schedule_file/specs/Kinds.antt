@@ -36,6 +36,7 @@ is_in_round Neither = false
 is_in_round Opening = false
 is_in_round InRound = true
 
+-- there was neither an `open` nor a `round`
 abbrev pub is_neither : Turn → Bool
 is_neither Neither = true
 is_neither Opening = false
@@ -64,6 +65,7 @@ pub record Kind : Type 0 where
   pub kind : ℕ
   pub applies : Bool
 
+-- a kind of fault of this number, and whether it applies
 abbrev pub at : ℕ → Bool → Kind
 at kind applies = record { kind = kind; applies = applies }
 

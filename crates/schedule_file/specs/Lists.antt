@@ -17,6 +17,7 @@ entry_of n entries = lookup (is_at (nat_cmp n)) entries
 abbrev pub with_entry : {A : Type 0} → List (ℕ × A) → ℕ → A → List (ℕ × A)
 with_entry entries n x = insert_entry nat_cmp entries n x
 
+-- how late an entry makes a reply
 abbrev pub late_seen : Late → Lateness
 late_seen late = record { waits = late.waits; place = late.place }
 
@@ -25,9 +26,11 @@ abbrev pub or_in_time : Option Late → Lateness
 or_in_time None = record { waits = 0; place = 0 }
 or_in_time (Some late) = late_seen late
 
+-- how late the reply of this number comes
 abbrev pub late_in : List (ℕ × Late) → ℕ → Lateness
 late_in entries n = or_in_time (entry_of n entries)
 
+-- the records that fall due right after the message of this number
 abbrev pub mids_in : List Mid → ℕ → List (List ℕ)
 mids_in [] n = []
 mids_in (x ∷ xs) n = if x.number == n then x.rec ∷ mids_in xs n else mids_in xs n
@@ -37,7 +40,7 @@ abbrev pub left_in : List Mid → ℕ → List (List ℕ)
 left_in [] n = []
 left_in (x ∷ xs) n = if nat_lt n x.number then x.rec ∷ left_in xs n else left_in xs n
 
--- what the lists say
+-- what the lists of a round's fates say
 abbrev pub fates_of : lists.Fates → Fates
 fates_of f = record {
   host = λ n. entry_of n f.host.entries;

@@ -31,6 +31,7 @@ pub record Details : Type 0 where
   pub lates : List (ℕ × Lateness)
   pub mids : List MidRecord
 
+-- nothing befalls in a round
 abbrev pub no_details : Details
 no_details = record { host = []; replies = []; lates = []; mids = [] }
 
@@ -43,8 +44,8 @@ pub data Step : Type 0 where
   RoundStep : Details → Option Stop → Step
 
 -- What the lines so far have said: the steps before the last `open` or `round`, which of the two that was, what
--- belongs to
--- it, and the steps after it; the minute of the last record, or 0; how many records, and how many `open` and `round`.
+-- belongs to it, and the steps after it; the minute of the last record, or 0; how many records, and how many `open`
+-- and `round`.
 pub record Said : Type 0 where
   pub before : List Step
   pub turn : Turn
@@ -104,6 +105,7 @@ read_at period (Some stamp) (Some values) =
 read_at period (Some stamp) None = ReadRow (record { stamp = stamp; interval = period; values = []; limited = 0 })
 read_at period None values = ReadRow (record { stamp = first_minute; interval = period; values = []; limited = 0 })
 
+-- what the bytes of a record read as that a line tells of
 abbrev pub record_told : ℕ → Told → RecordRead
 record_told period told = read_at period told.stamp told.values
 
@@ -112,13 +114,15 @@ abbrev pub last_minute_of : ℕ → Option CivilMinute → ℕ → ℕ
 last_minute_of period None count = 0
 last_minute_of period (Some stamp) count = minute_of stamp + (count - 1) * period
 
--- how the code's entries are seen
+-- how the code's entries of late replies are seen
 abbrev pub lates_seen : List (ℕ × Late) → List (ℕ × Lateness)
 lates_seen entries = map (λ entry. (entry.0, late_seen entry.1)) entries
 
+-- how the code's entry of a record after a message is seen
 abbrev pub mid_seen : ℕ → Mid → MidRecord
 mid_seen period x = record { number = x.number; record_read = reading x.rec period }
 
+-- how the code's lists of a round are seen
 abbrev pub details_seen : ℕ → Fates → Details
 details_seen period f = record {
   host = f.host.entries;
@@ -135,5 +139,6 @@ step_seen period (code.Idle ticks) = IdleStep ticks
 step_seen period (code.Open stop) = OpenStep stop
 step_seen period (code.Round fates stop) = RoundStep (details_seen period fates) stop
 
+-- all of the code's steps, of a schedule of this period
 abbrev pub steps_seen : ℕ → List code_step.Step → List Step
 steps_seen period steps = map (step_seen period) steps

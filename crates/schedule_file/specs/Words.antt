@@ -24,6 +24,7 @@ number_within least greatest word = decimal_within 7 least greatest word
 abbrev pub count_of : List ℕ → Option ℕ
 count_of word = number_within 1 9999999 word
 
+-- the word begins with `-`
 abbrev pub is_negative : List ℕ → Bool
 is_negative word = slice_index word 0 == 45
 

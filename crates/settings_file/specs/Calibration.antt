@@ -3,7 +3,7 @@
 use Rattle.std.specs.Prelude.{pos, neg_ℤ, ◌≤ℤ◌}
 use Rattle.settings_file.specs.declared.calibration.Calibration.{Calibration}
 
--- the numbers are in their ranges
+-- the numbers of a calibration are in their ranges
 pub record IsCalibration (c : Calibration) : Type 0 where
   pub num_from : pos 0 ≤ℤ c.num
   pub num_to : c.num ≤ℤ pos 16

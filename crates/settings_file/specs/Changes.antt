@@ -7,6 +7,7 @@ use Rattle.settings_file.specs.declared.corrections.Corrections.{Corrections}
 use Rattle.settings_file.specs.declared.change.Change.{Change}
 use Rattle.settings_file.specs.Corrections.{AreCorrections, nothing_named}
 
+-- A change begins at a stamp of the calendar, and what it names is within its ranges.
 pub record IsChange (change : Change) : Type 0 where
   pub from : IsCivilMinute change.from
   pub named : AreCorrections change.named

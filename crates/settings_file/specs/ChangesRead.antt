@@ -65,6 +65,7 @@ changes_from at changes (value ∷ values) = do
 abbrev pub at_most_16 : List Data → Result (List Data) SettingsFault
 at_most_16 values = if nat_lt 16 (length values) then Err TooManyChanges else Ok values
 
+-- the changes of a value, which is a list of at most 16 tables
 abbrev pub changes_of : KeyPlace → Data → Result (List Change) SettingsFault
 changes_of at value = do
   tables ← tables_of at value

@@ -3,6 +3,7 @@ use Rattle.std.specs.Prelude.{ℕ, ◌≡◌, ◌≤◌, ◌-◌, ◌++◌, List
 use Rattle.settings_file.specs.declared.change.Change.{Change}
 use Rattle.settings_file.specs.Changes.{AreChanges, blank_change}
 
+-- So many changes stand in the first of 16 places, and the other places are blank.
 pub record AreStored (count : ℕ) (all : List Change) : Type 0 where
   pub taken : count ≤ 16
   pub room : length all ≡ 16

@@ -13,6 +13,7 @@ use Rattle.settings_file.specs.declared.fault.SettingsFault.TheVariants.{ChangeO
 abbrev pub change_name : ℕ → List ℕ
 change_name n = codes "change-" ++ number_text n
 
+-- the word by which a fault names a section
 abbrev pub section_name : Section → List ℕ
 section_name section.Top = codes "top"
 section_name section.Calibration = codes "calibration"

@@ -9,8 +9,10 @@ use Rattle.settings_file.specs.declared.key_place.KeyPlace.{KeyPlace}
 abbrev pub key_at : Section → Option ℕ → ℕ → KeyPlace
 key_at section field place = record { section = section; field = field; index = min place (2 ^ 32 - 1) }
 
+-- the fault of an unknown key at this place
 abbrev pub unknown_key : KeyPlace → SettingsFault
 unknown_key at = UnknownKey at.section at.field at.index
 
+-- the fault of a key at this place whose number is none, or out of its range
 abbrev pub bad_number : KeyPlace → SettingsFault
 bad_number at = BadNumber at.section at.field at.index

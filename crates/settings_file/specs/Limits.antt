@@ -7,7 +7,7 @@ pub record IsLimit (n : ℤ) : Type 0 where
   pub from : neg_ℤ (pos 2000000000) ≤ℤ n
   pub to : n ≤ℤ pos 2000000000
 
--- the numbers are in their range, where they are there
+-- the numbers of limits are in their range, where they are there
 pub record AreLimits (l : Limits) : Type 0 where
   pub least : IfSome l.least IsLimit
   pub greatest : IfSome l.greatest IsLimit

@@ -28,7 +28,8 @@ calibration_of settings field stamp =
     (last_given (named_by (calibration_in field) stamp) settings.changes) (calibration_in field settings.own))
     uncalibrated
 
--- the limits in force at a stamp, likewise
+-- the limits in force at a stamp: those of the last change which is not later and names some of the field, or else
+-- the file's own, or none
 unfoldable pub limits_of : StationSettings → ℕ → CivilMinute → Limits
 limits_of settings field stamp =
     unwrap_or (option_or

@@ -10,6 +10,7 @@ use Rattle.settings_file.specs.declared.key_place.KeyPlace.{KeyPlace}
 use Rattle.settings_file.specs.declared.range.Range.{Range}
 use Rattle.settings_file.specs.KeyPlace.{bad_number}
 
+-- the numbers from one to another
 abbrev pub between : ℤ → ℤ → Range
 between least greatest = record { least = least; greatest = greatest }
 

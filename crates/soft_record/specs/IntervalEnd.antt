@@ -18,7 +18,7 @@ pub record CanEnd (period : ℕ) (e : Entry) (minute : ℕ) : Type 0 where
   pub reached : moment e ≤ 60 * minute
   pub whole : minute % 1440 % period ≡ 0
 
--- it is the earliest of these
+-- the earliest full minute at which the interval of the entry can end
 pub record IsEarliest (period : ℕ) (e : Entry) (minute : ℕ) : Type 0 where
   pub ends : CanEnd period e minute
   pub first : (other : ℕ) → CanEnd period e other → minute ≤ other

@@ -8,7 +8,7 @@ use Rattle.station_base.specs.declared.row.Row.{Row}
 abbrev pub IsReading : Option ℤ → Type 0
 IsReading number = IfSome number (λ n. unsigned_abs n ≤ 65535)
 
--- such are the values of the row, and limits made none of them missing
+-- each value of the row is a number of two bytes at most, and limits made none of them missing
 pub record HasReadings (row : Row) : Type 0 where
   pub values : All (IsValueWithin 65535) row.values
   pub unlimited : row.limited ≡ 0

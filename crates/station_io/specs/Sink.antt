@@ -22,8 +22,8 @@ abbrev pub Writes : Put → List ℕ → List ℕ → Type 0
 Writes Done bytes written = written ≡ bytes
 Writes Failed bytes written = IsFrontOf written bytes
 
--- One write of these bytes gave this answer: all of them were taken, or it failed after a front of them. This is said of
--- the bytes, where they are told, and of the call. Only a write that failed is counted.
+-- One write of these bytes gave this answer: all of them were taken, or it failed after a prefix of them. This is
+-- said of the bytes, where they are told, and of the call. Only a write that failed is counted.
 pub record Emits {S : Type 0} (outlet : Outlet S) (old : S) (bytes : List ℕ) (answer : Put) (new : S) : Type 0 where
   pub done : answer ≡ Done → Appends (outlet.taken old) (outlet.taken new) bytes
   pub failed : answer ≡ Failed → WritesPart (outlet.taken old) (outlet.taken new) bytes

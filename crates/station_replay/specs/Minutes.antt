@@ -18,7 +18,7 @@ time_word n = 100 * (n % 1440 / 60) + n % 60
 unfoldable pub minute_record : ℕ → List ℕ
 minute_record n = (33 + n / 1440) ∷ 0 ∷ (time_word n % 256) ∷ (time_word n / 256) ∷ zeros 48
 
--- those of so many minutes from one on
+-- the records of so many minutes, from one on
 unfoldable pub minute_records : ℕ → ℕ → List (List ℕ)
 minute_records n zero = []
 minute_records n (suc count) = minute_record n ∷ minute_records (n + 1) count

@@ -25,7 +25,7 @@ last_so_far round = first_some round.pump.tally.last round.pump.after
 abbrev pub batches_left : Report → ℕ
 batches_left report = MOST_BATCHES - vec_len report.marks
 
--- and so many changes of the disk begun for them
+-- so many changes of the disk may be begun for the batches that may still be kept
 abbrev pub changes_left : Report → ℕ
 changes_left report = CHANGES * batches_left report
 

@@ -24,6 +24,7 @@ pub record Holding (D : Type 0) : Type 0 where
   pub disk : D
   pub marks : List Mark
 
+-- a book, its disk and its marks as one value
 abbrev pub holding : {D : Type 0} → Book → D → List Mark → Holding D
 holding book disk marks = record { book = book; disk = disk; marks = marks }
 

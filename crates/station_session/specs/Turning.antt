@@ -34,6 +34,7 @@ pub record Desk (L D : Type 0) : Type 0 where
   pub round : Round
   pub report : Report
 
+-- a session, its link, its disk, a round and its report as one value
 abbrev pub desk : {L D : Type 0} → Session → L → D → Round → Report → Desk L D
 desk session link disk round report =
     record { session = session; link = link; disk = disk; round = round; report = report }

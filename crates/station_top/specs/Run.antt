@@ -67,6 +67,7 @@ abbrev pub may_hide : CommandLine → List Status
 may_hide (serve archive address turns) = ends.LinkFault ∷ ends.WriteFault ∷ ends.OutOfMemory ∷ []
 may_hide other = ends.WriteFault ∷ []
 
+-- the statuses of a run of these words in which a call of a disk may have failed too
 abbrev pub may_be_hidden : Option CommandLine → List Status
 may_be_hidden (Some command) = may_hide command
 may_be_hidden None = ends.WriteFault ∷ []

@@ -58,6 +58,7 @@ period_in digits = do
 abbrev pub read_from : ℕ × ℕ → Command
 read_from bytes = EepromRead bytes.0 bytes.1
 
+-- the command that writes so many bytes from a place on
 abbrev pub written_from : ℕ × ℕ → Command
 written_from bytes = EepromWrite bytes.0 bytes.1
 
