@@ -1,5 +1,5 @@
 -- Days and their dates: what the calendar of jiff says of them.
-use Rattle.std.proofs.Common.{List, ◌≡◌, ℕ, zero, suc, ◌+◌, ◌^◌, ◌<◌, ◌≤◌, Bool, true, false, inl, inr, ℤ, pos, negsuc, ap, refl, sym, ◌∙◌, arith, lit≤, cond, unsigned_abs, nat_lt, ◌≤ℤ◌, to_z, of_z, w8, w16, w32, min}
+use Rattle.std.proofs.Common.{List, ◌≡◌, ℕ, zero, suc, ◌+◌, ◌^◌, ◌<◌, ◌≤◌, Bool, true, false, inl, inr, ℤ, pos, negsuc, ap, refl, sym, subst, ◌∙◌, arith, lit≤, cond, unsigned_abs, nat_lt, ◌≤ℤ◌, to_z, of_z, w8, w16, w32, min}
 use mir.Val.{hbits}
 use Rattle.std.proofs.Math.Facts.{to_z_pos}
 use Rattle.std.proofs.lemmas.Bool.Decides.{nat_tests}
@@ -306,6 +306,18 @@ day_spelled day text range is =
       month = omega (arith, civil.month_to);
       day = omega (arith, civil.day_to, days_in_month_bounds (pos date.year) date.month);
     }
+
+-- the date that the code makes of a day is the date of that day
+pub date_taken : (day : ℤ) (number : ℕ) (date : CivilDate) → IsDayNumber day → number ≡ unsigned_abs (to_z w32 (of_z w32 day)) →
+    date ≡ date_of number → date ≡ date_of (unsigned_abs day)
+date_taken day number date range taken is = is ∙ ap date_of (day_taken day number range taken).0
+
+-- so it has a year of four digits, and a month and a day of two
+pub date_spelled : (day : ℤ) (number : ℕ) (date : CivilDate) → IsDayNumber day → number ≡ unsigned_abs (to_z w32 (of_z w32 day)) →
+    date ≡ date_of number → IsSpelled date (day_text day)
+date_spelled day number date range taken is =
+    let P : CivilDate → Type 0 = λ date. IsSpelled date (day_text day) in
+    subst P (sym (date_taken day number date range taken is)) (day_spelled day (day_text day) range refl)
 
 -- a day number is stored in 32 bits
 pub day_back : (day : ℤ) → IsDayNumber day → to_z w32 (of_z w32 day) ≡ day

@@ -1,20 +1,16 @@
 -- Numbers in text: their digits, and how long they are.
-use Rattle.std.proofs.Common.{◌≡◌, ℕ, suc, ℤ, pos, negsuc, ◌+◌, ◌/◌, ◌%◌, ◌^◌, ◌<◌, ◌≤◌, [], ◌∷◌, ◌++◌, length, arith, length-append, lit<, to_z, of_z, w32}
-use Rattle.std.proofs.lemmas.Fmt.{decimal_digit, decimal_step, length-decimal-le}
+use Rattle.std.proofs.Common.{◌≡◌, ℕ, suc, ℤ, pos, negsuc, ◌^◌, ◌<◌, ◌≤◌, length, refl, arith, lit<, to_z, of_z, w32}
+use Rattle.std.proofs.lemmas.Fmt.{length-decimal-le}
+use Rattle.std.specs.Fmt.{signed_decimal}
 use Rattle.jiff.specs.Words.{IsWithin}
 use Rattle.jiff_core.proofs.SignedLemmas.{signed_arith, back_small}
 use Rattle.station_base.specs.NumberText.{number_text, signed_text}
 
-pub number_text_digit : (n : ℕ) → n < 10 → number_text n ≡ (48 + n) ∷ []
+-- the text of a signed number is the one that std prints
+pub signed_text_is : (z : ℤ) → signed_text z ≡ signed_decimal z
 unfolding number_text
-number_text_digit n small = decimal_digit n small
-
-pub number_text_step : (n : ℕ) → 10 ≤ n → n < 2 ^ 32 → number_text n ≡ number_text (n / 10) ++ (48 + n % 10) ∷ []
-unfolding number_text
-number_text_step n large small = decimal_step n large (omega arith)
-
-pub number_text_longer : (n : ℕ) → 10 ≤ n → n < 2 ^ 32 → length (number_text n) ≡ length (number_text (n / 10)) + 1
-number_text_longer n large small = rw (number_text_step n large small) (length-append (number_text (n / 10)) ((48 + n % 10) ∷ []))
+signed_text_is (pos n) = refl
+signed_text_is (negsuc n) = refl
 
 -- a number of 32 bits has at most ten digits
 pub number_text_width : (n : ℕ) → n < 2 ^ 32 → length (number_text n) ≤ 10

@@ -17,15 +17,19 @@ pub digits-low : (n : ℕ) → digits 2 (n % 100) ≡ (48 + n / 10 % 10) ∷ (48
 digits-low n = same_pair _ _ _ _ (omega arith) (omega arith)
 
 -- and four digits are two and two
-pub digits-joined : (century year : ℕ) → year < 100 → century < 100 →
-    digits 4 (100 * century + year) ≡ (48 + century / 10 % 10) ∷ (48 + century / 1 % 10) ∷ (48 + year / 10 % 10) ∷ (48 + year / 1 % 10) ∷ []
-digits-joined century year year_small century_small =
-    let n = 100 * century + year in
-    let first : 48 + n / 1000 % 10 ≡ 48 + century / 10 % 10 = omega arith in
-    let second : 48 + n / 100 % 10 ≡ 48 + century / 1 % 10 = omega arith in
-    let third : 48 + n / 10 % 10 ≡ 48 + year / 10 % 10 = omega arith in
-    let fourth : 48 + n / 1 % 10 ≡ 48 + year / 1 % 10 = omega arith in
+pub four_digits : (n : ℕ) → digits 4 n ≡ digits 2 (n / 100) ++ digits 2 (n % 100)
+four_digits n =
+    let first : n / 1000 % 10 ≡ n / 100 / 10 % 10 = omega arith in
+    let second : n / 100 % 10 ≡ n / 100 / 1 % 10 = omega arith in
+    let third : n / 10 % 10 ≡ n % 100 / 10 % 10 = omega arith in
+    let fourth : n / 1 % 10 ≡ n % 100 / 1 % 10 = omega arith in
     rw (first, second, third, fourth) refl
+
+pub digits-joined : (century year : ℕ) → year < 100 → digits 4 (100 * century + year) ≡ digits 2 century ++ digits 2 year
+digits-joined century year year_small =
+    let before : (100 * century + year) / 100 ≡ century = omega arith in
+    let behind : (100 * century + year) % 100 ≡ year = omega arith in
+    four_digits (100 * century + year) ∙ ap (λ n. digits 2 n ++ digits 2 ((100 * century + year) % 100)) before ∙ ap (λ n. digits 2 century ++ digits 2 n) behind
 
 -- so many elements from a place on
 abbrev pub elements : ℕ → ℕ → List ℕ → List ℕ
@@ -46,11 +50,11 @@ glued_text : (text : List ℕ) → length text ≡ 10 →
 unfolding glued
 glued_text text long = elements_all 10 0 text long
 
-glued_digits : (century year month day : ℕ) → century < 100 → year < 100 →
+glued_digits : (century year month day : ℕ) → year < 100 →
     glued (digits 2 century) (digits 2 year) 45 (digits 2 month) 45 (digits 2 day) ≡ date_text (civil_date (100 * century + year) month day)
 unfolding glued
-glued_digits century year month day century_small year_small =
-    ap (λ four. four ++ codes "-" ++ digits 2 month ++ codes "-" ++ digits 2 day) (sym (digits-joined century year year_small century_small))
+glued_digits century year month day year_small =
+    ap (λ four. four ++ codes "-" ++ digits 2 month ++ codes "-" ++ digits 2 day) (sym (digits-joined century year year_small))
 
 same_glued : {century century' year year' month month' day day' : List ℕ} {before_month before_month' before_day before_day' : ℕ} →
     century ≡ century' → year ≡ year' → before_month ≡ before_month' → month ≡ month' → before_day ≡ before_day' → day ≡ day' →
@@ -65,4 +69,4 @@ pub spelled : (text : List ℕ) (century year month day : ℕ) → length text �
 spelled text century year month day long century_small year_small century_is year_is month_dash month_is day_dash day_is =
     glued_text text long
     ∙ same_glued (sym century_is) (sym year_is) month_dash (sym month_is) day_dash (sym day_is)
-    ∙ glued_digits century year month day century_small year_small
+    ∙ glued_digits century year month day year_small

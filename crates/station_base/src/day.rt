@@ -6,7 +6,7 @@ ghost use Rattle.station_base.specs.Digits.{digits};
 ghost use Rattle.jiff_core.specs.Calendar.{days_from_civil};
 
 use crate::calendar::{CivilDate, date_of_day, day_of_stamps};
-use crate::digits::digit;
+use crate::digits::{four_digits, two_digits};
 
 /// A day from 1999-12-31 to 2127-12-31, in days since 1970-01-01.
 #[derive(Clone, Copy, Debug, PartialEq, Eq, PartialOrd, Ord, Hash)]
@@ -31,19 +31,10 @@ impl DayNumber {
             → days_from_civil (pos date.year) date.month date.day ≡ self.now.0 → result ≡ date_text date }
     {
         let date = date_of_day(self.0.unsigned_abs());
-        let (year, month, day) = (date.year, u16::from(date.month), u16::from(date.day));
-        [
-            digit(year, 1000),
-            digit(year, 100),
-            digit(year, 10),
-            digit(year, 1),
-            b'-',
-            digit(month, 10),
-            digit(month, 1),
-            b'-',
-            digit(day, 10),
-            digit(day, 1),
-        ]
+        let [y1, y2, y3, y4] = four_digits(date.year);
+        let [m1, m2] = two_digits(date.month);
+        let [d1, d2] = two_digits(date.day);
+        [y1, y2, y3, y4, b'-', m1, m2, b'-', d1, d2]
     }
 }
 
@@ -58,8 +49,8 @@ fn spelled_date(text: &[u8]) -> Option<CivilDate>
     if before_month != b'-' || before_day != b'-' {
         return None;
     }
-    let (century, year) = (two_digits(y1, y2)?, two_digits(y3, y4)?);
-    let (month, day) = (two_digits(m1, m2)?, two_digits(d1, d2)?);
+    let (century, year) = (number_of(y1, y2)?, number_of(y3, y4)?);
+    let (month, day) = (number_of(m1, m2)?, number_of(d1, d2)?);
     Some(CivilDate {
         year: 100 * u16::from(century) + u16::from(year),
         month,
@@ -68,7 +59,7 @@ fn spelled_date(text: &[u8]) -> Option<CivilDate>
 }
 
 // The number that two digits write.
-fn two_digits(tens: u8, units: u8) -> Option<u8>
+fn number_of(tens: u8, units: u8) -> Option<u8>
     ensures found { IfSome result (λ number. (number < 100) × (digits 2 number ≡ tens ∷ units ∷ [])) }
     ensures only { (number : ℕ) → number < 100 → digits 2 number ≡ tens ∷ units ∷ [] → result ≡ Some number }
 {

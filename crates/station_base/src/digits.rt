@@ -1,9 +1,37 @@
-ghost use Rattle.std.specs.Prelude.{◌≡◌, ◌+◌, ◌/◌, ◌%◌, ◌<◌};
+ghost use Rattle.std.specs.Prelude.{◌≡◌, ◌<◌};
+ghost use Rattle.station_base.specs.Digits.{digits};
 
-/// The decimal digit of a number at the place of that unit.
-pub fn digit(number: u16, unit: u16) -> u8
-    requires { 0 < unit }
-    ensures { result ≡ 48 + number / unit % 10 }
+// The two digits of each number below 100.
+static PAIRS: [u8; 200] = *b"\
+    00010203040506070809\
+    10111213141516171819\
+    20212223242526272829\
+    30313233343536373839\
+    40414243444546474849\
+    50515253545556575859\
+    60616263646566676869\
+    70717273747576777879\
+    80818283848586878889\
+    90919293949596979899";
+
+/// The two decimal digits of a number below 100.
+#[tactic(auto, using(crate::proofs::Pairs::pair_at))]
+pub fn two_digits(number: u8) -> [u8; 2]
+    requires { number < 100 }
+    ensures { result ≡ digits 2 number }
 {
-    b'0' + (number / unit % 10) as u8
+    let at = 2 * usize::from(number);
+    let (tens, units) = (PAIRS[at], PAIRS[at + 1]);
+    [tens, units]
+}
+
+/// The four decimal digits of a number below 10,000.
+#[tactic(auto, using(crate::proofs::Spelling::four_digits))]
+pub fn four_digits(number: u16) -> [u8; 4]
+    requires { number < 10_000 }
+    ensures { result ≡ digits 4 number }
+{
+    let [thousands, hundreds] = two_digits((number / 100) as u8);
+    let [tens, units] = two_digits((number % 100) as u8);
+    [thousands, hundreds, tens, units]
 }

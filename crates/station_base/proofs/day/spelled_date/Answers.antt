@@ -9,7 +9,7 @@ returns-in_err-year-clause-only c date spelled =
     let tens = ap (λ t. slice_index t 2) spelled.written in
     let units = ap (λ t. slice_index t 3) spelled.written in
     let written : digits 2 (date.year % 100) ≡ slice_index text 2 ∷ slice_index text 3 ∷ [] = rw (tens, units) (digits-low date.year) in
-    let some = c.two_digits-2.ensures.only (date.year % 100) (omega arith) written in
+    let some = c.number_of-2.ensures.only (date.year % 100) (omega arith) written in
     let was = c.in_err-year.was in
     cc
 
