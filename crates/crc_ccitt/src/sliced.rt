@@ -46,20 +46,20 @@ fn after_byte(rest: u16, byte: u8) -> u16
     (rest << 8) ^ table_entry(0, high ^ byte)
 }
 
-// The remainder after eight more bytes, each of which has a table of its own.
+// The remainder after eight more bytes, each of which has a table of its own. What does not wait for the rest is
+// added first.
 fn after_chunk(rest: u16, chunk: &[u8; 8]) -> u16
     ensures { result ≡ fold divided rest (message_bits chunk.now) }
 {
     let high = (rest >> 8) as u8;
     let low = (rest % 256) as u8;
-    table_entry(7, chunk[0] ^ high)
-        ^ table_entry(6, chunk[1] ^ low)
-        ^ table_entry(5, chunk[2])
+    let behind = table_entry(5, chunk[2])
         ^ table_entry(4, chunk[3])
         ^ table_entry(3, chunk[4])
         ^ table_entry(2, chunk[5])
         ^ table_entry(1, chunk[6])
-        ^ table_entry(0, chunk[7])
+        ^ table_entry(0, chunk[7]);
+    table_entry(7, chunk[0] ^ high) ^ table_entry(6, chunk[1] ^ low) ^ behind
 }
 
 // The check of a byte with so many bytes of zeros behind it.
