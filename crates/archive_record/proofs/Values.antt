@@ -20,3 +20,8 @@ unfolding places field_places
 values_all values bytes long each =
     ext_get_or None values (map (value_in bytes) places) long
     (λ k h. each k (omega arith) ∙ sym (get_or-map (value_in bytes) places k (place 0 Byte None) None (omega arith)))
+
+-- one of them
+pub value_of_field : (bytes : List ℕ) (field : ℕ) → field < 37 → get_or (map (value_in bytes) places) field None ≡ value_in bytes (place_of field)
+unfolding places field_places
+value_of_field bytes field within = get_or-map (value_in bytes) places field (place 0 Byte None) None within

@@ -2,6 +2,7 @@
 use Rattle.std.specs.Prelude.{ℕ, ℤ, ◌==◌, Bool, if◌then◌else◌, List, map, slice_index, Some, None}
 use Rattle.std.specs.List.{list_all}
 use Rattle.std.specs.declared.option.Option.{Option}
+use Rattle.station_base.specs.declared.row.Row.{Row}
 use Rattle.station_base.specs.CivilMinute.{CivilMinute}
 use Rattle.station_base.specs.Stamp.{stamp_of_words}
 use Rattle.archive_record.specs.declared.record_read.RecordRead.{RecordRead}
@@ -23,11 +24,15 @@ stamp_in bytes = stamp_of_words (word_at bytes 0) (word_at bytes 2)
 abbrev pub values_in : List ℕ → List (Option ℤ)
 values_in bytes = map (value_in bytes) places
 
+-- the row of a record of this stamp
+abbrev pub row_in : List ℕ → ℕ → CivilMinute → Row
+row_in bytes interval stamp =
+    record { stamp = stamp; interval = interval; values = values_in bytes; limited = 0 }
+
 -- a record of revision B, whose words may name no stamp
 abbrev pub dated : List ℕ → ℕ → Option CivilMinute → RecordRead
 dated bytes interval None = BadStamp (word_at bytes 0) (word_at bytes 2)
-dated bytes interval (Some stamp) =
-    ReadRow (record { stamp = stamp; interval = interval; values = values_in bytes; limited = 0 })
+dated bytes interval (Some stamp) = ReadRow (row_in bytes interval stamp)
 
 -- what the 52 bytes of a slot say, where records are written at that interval (Davis serial manual)
 unfoldable pub reading : List ℕ → ℕ → RecordRead

@@ -10,5 +10,5 @@ mod table;
 
 pub use place::RECORD_SIZE;
 pub use record::Rec52;
-pub use record_read::{RecordRead, read};
+pub use record_read::{RecordRead, SlotKind, kind_of, read, row_in, value_in};
 pub use record_write::write;
