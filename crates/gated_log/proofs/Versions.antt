@@ -1,10 +1,10 @@
 -- The versions of images.
-use Rattle.std.proofs.Common.{◌≡◌, ℕ, ◌≤◌, ◌<◌, true, false, Bool, List, ◌++◌, length, refl, ◌∙◌, ap, arith}
+use Rattle.std.proofs.Common.{◌≡◌, ℕ, ◌≤◌, true, false, Bool, List, ◌++◌, length, refl, ◌∙◌, ap, arith}
 use Rattle.std.specs.Prelude.{nat_lt, if◌then◌else◌}
 use Rattle.std.proofs.lemmas.Bool.{false≢true}
 use Rattle.gated_log.specs.declared.start.Purpose.{Purpose}
 use Rattle.gated_log.specs.declared.start.Purpose.TheVariants.{Read, Write}
-use Rattle.gated_log.specs.Log.{begins_first, holds, log_of}
+use Rattle.gated_log.specs.Log.{begins_first}
 use Rattle.gated_log.specs.Version.{version_in, version_of, is_refused}
 use Rattle.gated_log.specs.declared.version.Version.{Version}
 use Rattle.gated_log.specs.declared.version.Version.TheVariants.{First, Second}

@@ -12,8 +12,8 @@ const LONGEST: usize = 20_000;
 // The most changes of a disk here.
 const CHANGES: usize = 60;
 
-// How many calls of the first disk a copy of the seven rows makes: eight of a recovery, and a read for each day.
-const FROM_CALLS: u64 = 10;
+// How many calls of the first disk a copy of the seven rows makes: six of a recovery, and a read for each day.
+const FROM_CALLS: u64 = 8;
 
 // Seven rows of two days of July 2024, by their days and times.
 const TIMES: [(u16, u16); 7] = [(1, 5), (1, 10), (1, 15), (2, 5), (2, 10), (2, 15), (2, 20)];

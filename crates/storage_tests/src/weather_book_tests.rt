@@ -307,7 +307,7 @@ fn a_reader_beside_a_writer_finds_the_rows_before_or_after_an_add(
                     written_at,
                     opened_at,
                 )?;
-                // The length, the head, a gate, its number of slots, and the gate behind the first row.
+                // The length, the head, what stands from the first row on, what stands behind it, and the gate there.
                 assert_eq!(rt;
                     rows,
                     if opened_at <= 5 { after } else { 1 },

@@ -1,7 +1,7 @@
 use Rattle.std.proofs.Common.{◌≡◌, ◌+◌, ◌-◌, ◌*◌, ℕ, length, drop, refl, sym, ◌∙◌, ap, arith, get_or}
 use Rattle.gated_log.specs.Log.{breaks, batch_size}
 use Rattle.gated_log.proofs.Looking.{gate_alone, gate_and_more}
-use Rattle.gated_log.proofs.Walks.{gate_read, size_read, short_breaks}
+use Rattle.gated_log.proofs.Walks.{gate_read, size_read, short_breaks, walk_more}
 use Rattle.gated_log.proofs.walk.batch_at.Goals as goal
 
 pub returns-in-Failed-clause-went : goal.returns-in-Failed-clause-went
@@ -10,35 +10,35 @@ returns-in-Failed-clause-went g c = gate_alone g.D.Disk.medium (omega (arith, c.
 pub returns-then-gate-eq0-clause-went : goal.returns-then-gate-eq0-clause-went
 returns-then-gate-eq0-clause-went g c = gate_alone g.D.Disk.medium (omega (arith, c.read.auto.buf)) c.requires c.in-Done.ensures.went
 
-pub returns-then-len-place-lt-SIZE_END-clause-went : goal.returns-then-len-place-lt-SIZE_END-clause-went
-returns-then-len-place-lt-SIZE_END-clause-went g c = gate_alone g.D.Disk.medium (omega (arith, c.read.auto.buf)) c.requires c.in-Done.ensures.went
+pub returns-then-len-place-clause-went : goal.returns-then-len-place-clause-went
+returns-then-len-place-clause-went g c = gate_alone g.D.Disk.medium (omega (arith, c.read.auto.buf)) c.requires c.in-Done.ensures.went
 
-pub returns-then-len-place-lt-SIZE_END-clause-finds : goal.returns-then-len-place-lt-SIZE_END-clause-finds
-returns-then-len-place-lt-SIZE_END-clause-finds g c x told long =
+pub returns-then-len-place-clause-finds : goal.returns-then-len-place-clause-finds
+returns-then-len-place-clause-finds g c x told long =
     let p = c.args.place in let size = batch_size (drop p x) in
     let gate = gate_read x c.read.new.buf p (length c.read.new.buf) (c.in-Done.ensures.bytes x told) (omega (arith, c.read.auto.buf)) in (
       size,
       record {
         gate = omega (arith, gate, c.if-gate-eq0.false);
         size_is = refl;
-        breaks_or_not = short_breaks size (length x - p) (omega (arith, c.if-len-place-lt-SIZE_END.true, long));
+        breaks_or_not = short_breaks size (length x - p) (omega (arith, c.if-len-place.true, long));
       },
     )
 
 pub returns-in-Failed-read-clause-went : goal.returns-in-Failed-read-clause-went
 returns-in-Failed-read-clause-went g c =
     gate_and_more g.D.Disk.medium (omega (arith, c.read.auto.buf)) c.requires c.in-Done.ensures.went
-    (omega (arith, c.read-2.auto.buf, c.if-len-place-lt-SIZE_END.false)) c.in-Failed-read.ensures.went
+    (omega (arith, c.read-2.auto.buf, c.if-len-place.false)) c.in-Failed-read.ensures.went
 
 pub returns-then-broken-clause-went : goal.returns-then-broken-clause-went
 returns-then-broken-clause-went g c =
     gate_and_more g.D.Disk.medium (omega (arith, c.read.auto.buf)) c.requires c.in-Done.ensures.went
-    (omega (arith, c.read-2.auto.buf, c.if-len-place-lt-SIZE_END.false)) c.in-Done-read.ensures.went
+    (omega (arith, c.read-2.auto.buf, c.if-len-place.false)) c.in-Done-read.ensures.went
 
 pub returns-clause-went : goal.returns-clause-went
 returns-clause-went g c =
     gate_and_more g.D.Disk.medium (omega (arith, c.read.auto.buf)) c.requires c.in-Done.ensures.went
-    (omega (arith, c.read-2.auto.buf, c.if-len-place-lt-SIZE_END.false)) c.in-Done-read.ensures.went
+    (omega (arith, c.read-2.auto.buf, c.if-len-place.false)) c.in-Done-read.ensures.went
 
 pub returns-then-broken-clause-finds : goal.returns-then-broken-clause-finds
 returns-then-broken-clause-finds g c x told long =
@@ -56,14 +56,14 @@ returns-then-broken-clause-finds g c x told long =
     )
 
 pub returns-clause-finds : goal.returns-clause-finds
-returns-clause-finds g c x told long =
+returns-clause-finds g c x told long before walks =
     let p = c.args.place in let n = c.from-n.result in
     let gate = gate_read x c.read.new.buf p (length c.read.new.buf) (c.in-Done.ensures.bytes x told) (omega (arith, c.read.auto.buf)) in
     let w = c.read-2.new.buf in
     let size = size_read x w p (length w) (c.in-Done-read.ensures.bytes x (c.read.ensures.stays.reads ∙ told)) (omega (arith, c.read-2.auto.buf)) in
     let n_is : n ≡ get_or w 0 0 + 256 * get_or w 1 0 = omega (arith, c.from-n.ensures, c.read_u16.ensures) in
-    record {
+    walk_more x p before walks (omega (arith, c.requires, long)) n (record {
       gate = omega (arith, gate, c.if-gate-eq0.false);
       size_is = n_is ∙ size;
       breaks_or_not = ap (λ (k : ℕ). breaks n (k - p)) long ∙ sym c.is_broken-broken.ensures ∙ c.if-broken.false;
-    }
+    })
