@@ -10,7 +10,8 @@ use station_base::Period;
 
 // Lets the records of a run fall due: the first, and each next one a period later with the same values.
 pub fn run_falls_due(console: &mut Console, first: &Rec52, count: u32, period: Period)
-    ensures { (k : model.Console) → StandsFor console.old k → StandsFor console.new (due_all (run_from period (Some first.now) count) k) }
+    ensures { (k : model.Console) → StandsFor console.old k
+        → StandsFor console.new (due_all (run_from period (Some first.now) count) k) }
 {
     let mut next = Some(*first);
     for _ in 0..count {

@@ -43,7 +43,8 @@ pub fn serve<L: Link>(
     requires said { count.old.said ≡ 0 }
     ensures talk { Talks L.traffic link.old (ServesTurns result turns console.old console.new count.old count.new)
         (result ≡ ServeEnd.LinkFault) (result ≡ ServeEnd.OutOfMemory) link.new }
-    ensures still { AreStill L.traffic link.old (result ≡ ServeEnd.LinkFault) ⊤ (result ≡ ServeEnd.OutOfMemory) link.new }
+    ensures still { AreStill L.traffic link.old (result ≡ ServeEnd.LinkFault) ⊤
+        (result ≡ ServeEnd.OutOfMemory) link.new }
 {
     for _ in 0..turns {
         match take_turn(console, link, count) {
@@ -61,7 +62,8 @@ fn take_turn<L: Link>(console: &mut Console, link: &mut L, count: &mut Served) -
     requires said { count.old.said + 4099 * 256 < 2 ^ 64 }
     ensures talk { Talks L.traffic link.old (ServesTurns result 1 console.old console.new count.old count.new)
         (result ≡ ServeEnd.LinkFault) (result ≡ ServeEnd.OutOfMemory) link.new }
-    ensures still { AreStill L.traffic link.old (result ≡ ServeEnd.LinkFault) ⊤ (result ≡ ServeEnd.OutOfMemory) link.new }
+    ensures still { AreStill L.traffic link.old (result ≡ ServeEnd.LinkFault) ⊤
+        (result ≡ ServeEnd.OutOfMemory) link.new }
     ensures heard { count.new.heard ≤ count.old.heard + 256 }
     ensures said { count.new.said ≤ count.old.said + 4099 * 256 }
 {
@@ -88,7 +90,8 @@ fn answer_bytes<L: Link>(
     ensures talk { Talks L.traffic link.old
         (AnswersAll result (map Heard bytes.now) console.old console.new count.old count.new)
         (result ≡ ServeEnd.LinkFault) (result ≡ ServeEnd.OutOfMemory) link.new }
-    ensures still { AreStill L.traffic link.old (result ≡ ServeEnd.LinkFault) ⊤ (result ≡ ServeEnd.OutOfMemory) link.new }
+    ensures still { AreStill L.traffic link.old (result ≡ ServeEnd.LinkFault) ⊤
+        (result ≡ ServeEnd.OutOfMemory) link.new }
     ensures heard { count.new.heard ≡ count.old.heard }
     ensures said { count.new.said ≤ count.old.said + 4099 * length bytes.now }
 {
@@ -108,7 +111,8 @@ fn answer_wait<L: Link>(console: &mut Console, link: &mut L, count: &mut Served)
     requires { count.old.said + 4099 < 2 ^ 64 }
     ensures talk { Talks L.traffic link.old (AnswersAll result (Quiet ∷ []) console.old console.new count.old count.new)
         (result ≡ ServeEnd.LinkFault) (result ≡ ServeEnd.OutOfMemory) link.new }
-    ensures still { AreStill L.traffic link.old (result ≡ ServeEnd.LinkFault) ⊤ (result ≡ ServeEnd.OutOfMemory) link.new }
+    ensures still { AreStill L.traffic link.old (result ≡ ServeEnd.LinkFault) ⊤
+        (result ≡ ServeEnd.OutOfMemory) link.new }
     ensures heard { count.new.heard ≡ count.old.heard }
     ensures said { count.new.said ≤ count.old.said + 4099 }
 {
@@ -121,7 +125,8 @@ fn say<L: Link>(link: &mut L, reply: &Reply, count: &mut Served) -> ServeEnd
     requires { count.old.said + 4099 < 2 ^ 64 }
     ensures talk { Talks L.traffic link.old (SaysReply result reply.now.bytes.items count.old count.new)
         (result ≡ ServeEnd.LinkFault) (result ≡ ServeEnd.OutOfMemory) link.new }
-    ensures still { AreStill L.traffic link.old (result ≡ ServeEnd.LinkFault) ⊤ (result ≡ ServeEnd.OutOfMemory) link.new }
+    ensures still { AreStill L.traffic link.old (result ≡ ServeEnd.LinkFault) ⊤
+        (result ≡ ServeEnd.OutOfMemory) link.new }
     ensures heard { count.new.heard ≡ count.old.heard }
     ensures said { count.new.said ≤ count.old.said + 4099 }
 {

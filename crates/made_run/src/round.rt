@@ -48,7 +48,8 @@ pub fn plain_round(alloc: Global) -> Step
 // A round of a kind that is drawn. `OutOfMemory` where there is no memory for what befalls in it.
 pub fn drawn_round(alloc: Global, draws: &mut Draws) -> Result<Step, OutOfMemory>
     requires { draws.old.number < 2 ^ 31 }
-    ensures step { (period : ℕ) → IfOk result (λ step. step_seen period step ≡ round_of (kind_drawn draws.old.number) (next draws.old.number)) }
+    ensures step { (period : ℕ)
+        → IfOk result (λ step. step_seen period step ≡ round_of (kind_drawn draws.old.number) (next draws.old.number)) }
     ensures draws { OnOk result (draws.new.number ≡ after_kind (kind_drawn draws.old.number) (next draws.old.number)) }
     ensures below { draws.new.number < 2 ^ 31 }
 {

@@ -17,8 +17,8 @@ pub const MOST_MADE: u32 = 5000;
 // The records after which a round comes.
 const ROUND_RECORDS: u32 = 60;
 
-/// The steps of so many records, and of the rounds behind them, that are made from a seed. `OutOfMemory` where there is no
-/// memory for them.
+/// The steps of so many records, and of the rounds behind them, that are made from a seed. `OutOfMemory` where there is
+/// no memory for them.
 pub fn made_schedule(
     alloc: Global,
     period: Period,

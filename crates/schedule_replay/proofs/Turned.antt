@@ -9,6 +9,7 @@ use Rattle.disk_model.specs.declared.stopping.Stopping.{Stopping}
 use Rattle.station_session.specs.declared.session.Session.{Session}
 use Rattle.station_session.specs.Round.{round_host}
 use Rattle.station_session.specs.RoundAt.{left}
+use Rattle.station_session.specs.declared.round_end.RoundEnd.{RoundEnd}
 use Rattle.schedule_file.specs.declared.fates.Fates as code_fates
 use Rattle.schedule_file.specs.declared.schedule.step.Step as code_step
 use Rattle.schedule_file.specs.declared.schedule.step.Step.TheVariants as code
@@ -24,7 +25,8 @@ use Rattle.schedule_replay.specs.declared.turns.ReplayTurn.{ReplayTurn}
 use Rattle.schedule_replay.specs.declared.turns.ReplayTurn.TheVariants as turn
 use Rattle.schedule_replay.specs.Left.{left_by, left_in, left_to_open}
 use Rattle.schedule_replay.specs.Opening.{limits_of}
-use Rattle.schedule_replay.specs.Playing.{IsUnderWay, MayGoOn}
+use Rattle.schedule_replay.specs.Played.{Host}
+use Rattle.schedule_replay.specs.Playing.{IsOver, IsUnderWay, MayGoOn}
 use Rattle.schedule_replay.specs.Replayed.{TookPart}
 use Rattle.schedule_replay.specs.Replaying.{Course, IsNext, OpenedAhead, StandsAt, StandsBy}
 use Rattle.schedule_replay.specs.Resting.{GoesOn}
@@ -236,9 +238,34 @@ recovered_moves o o' session session' taken taken' none none' same closed goes =
     (subst (λ (z : Option Playing). Moves None z (is_some session) (is_some session') taken taken') (sym none') (inr (same, ap is_some closed, goes)))
 
 -- a round was begun, and took a turn
-pub begun_moves : (o q : Option Playing) (playing : Playing) (was_open is_open : Bool) (taken taken' : ℕ) → o ≡ None → was_open ≡ true → Moves (Some playing) q true is_open taken taken' → Moves o q was_open is_open taken taken'
-begun_moves o None playing was_open is_open taken taken' none goes m = subst (λ (z : Option Playing). Moves z None was_open is_open taken taken') (sym none) (inl m)
-begun_moves o (Some later) playing was_open is_open taken taken' none goes m = subst (λ (z : Option Playing). Moves z (Some later) was_open is_open taken taken') (sym none) (m, goes)
+pub begun_moves : (o q : Option Playing) (playing : Playing) (was_open then_open is_open : Bool) (taken taken' : ℕ) → o ≡ None → was_open ≡ true → Moves (Some playing) q then_open is_open taken taken' → Moves o q was_open is_open taken taken'
+begun_moves o None playing was_open then_open is_open taken taken' none goes m = subst (λ (z : Option Playing). Moves z None was_open is_open taken taken') (sym none) (inl m)
+begun_moves o (Some later) playing was_open then_open is_open taken taken' none goes m = subst (λ (z : Option Playing). Moves z (Some later) was_open is_open taken taken') (sym none) (m, goes)
+
+-- a round that is over, taken out of its run
+pub taken_out : (fates : code_fates.Fates) (old : Host) (end : RoundEnd) (before after out : Playing) (line : Sim) (disk : Stopping MemDisk) → after.stop ≡ before.stop → after ≡ out
+    → IsOver fates (stop_set before.stop) old end after.session after.report line disk → IsOver fates (stop_set out.stop) old end out.session out.report line disk
+taken_out fates old end before after out line disk stop same over =
+    subst (λ (z : Playing). IsOver fates (stop_set z.stop) old end z.session z.report line disk) same
+    (subst (λ (z : Option code_stop.Stop). IsOver fates (stop_set z) old end after.session after.report line disk) (sym stop) over)
+
+-- a round goes on, or it ends
+pub goes_on_moves : (o : Option Playing) (playing later : Playing) (was_open is_open : Bool) (taken : ℕ) → o ≡ Some playing → Moves o (Some later) was_open is_open taken taken
+goes_on_moves o playing later was_open is_open taken some = subst (λ (z : Option Playing). Moves z (Some later) was_open is_open taken taken) (sym some) refl
+
+pub ends_moves : (o q : Option Playing) (playing : Playing) (was_open is_open : Bool) (taken : ℕ) → o ≡ Some playing → q ≡ None → Moves o q was_open is_open taken (taken + 1)
+ends_moves o q playing was_open is_open taken some none =
+    subst (λ (z : Option Playing). Moves z q was_open is_open taken (taken + 1)) (sym some)
+    (subst (λ (z : Option Playing). Moves (Some playing) z was_open is_open taken (taken + 1)) (sym none) refl)
+
+-- what a round under way has left
+pub left_playing : (o : Option Playing) (playing : Playing) (p : ℕ) (steps : List code_step.Step) (taken : ℕ) (session : Option Session) → o ≡ Some playing → left_by o p steps taken session ≡ left playing.round + 2 + left_in p (drop (taken + 1) steps)
+left_playing o playing p steps taken session is = ap (λ (z : Option Playing). left_by z p steps taken session) is
+
+-- where it is known whether a round is under way
+pub none_under_way : (o : Option Playing) → is_some o ≡ false → o ≡ None
+none_under_way None not = refl
+none_under_way (Some playing) not = absurd cc
 
 pub none_plays : (o : Option Playing) → o ≡ None → is_some o ≡ true → ⊥
 none_plays o none some = let e : true ≡ false = sym some ∙ ap is_some none in cc

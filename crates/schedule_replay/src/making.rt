@@ -14,7 +14,8 @@ use station_base::Period;
 use station_sim::Sim;
 use std::alloc::Global;
 
-/// A line to a new console of this period, which sends this packet. `OutOfMemory` where there is no memory for the console.
+/// A line to a new console of this period, which sends this packet. `OutOfMemory` where there is no memory for the
+/// console.
 pub fn new_line(alloc: Global, period: Period, packet: LoopPacket) -> Result<Sim, OutOfMemory>
     ensures { IfOk result (λ line. LineAt (start (new_memory period) packet) line) }
 {
@@ -29,7 +30,8 @@ const EMPTY_BYTES: usize = 177;
 // The most bytes of the file that a record can take: its own slot, and thirteen of a day's summary before it.
 const RECORD_BYTES: usize = 14 * 176;
 
-// The changes that the openings, and the batches that are cut short, of 200 lines can make, and those of the last opening.
+// The changes that the openings, and the batches that are cut short, of 200 lines can make, and those of the last
+// opening.
 const OPENING_CHANGES: usize = 200 * 7 + 3;
 
 // The changes of a batch, which has a record or more.

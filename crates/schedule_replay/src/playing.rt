@@ -44,8 +44,8 @@ pub struct Played {
     pub unseen: Option<Unseen>,
 }
 
-// Begins a round of the session over the line under these fates, and over the disk, which stops within a change where a stop
-// is set. `OutOfMemory` where memory was refused.
+// Begins a round of the session over the line under these fates, and over the disk, which stops within a change where a
+// stop is set. `OutOfMemory` where memory was refused.
 pub fn begin_play(
     alloc: Global,
     mut session: Session,
@@ -88,8 +88,10 @@ impl Playing {
         requires may { MayGoOn self.old disk.old }
         ensures may { result ≡ Turn.More → MayGoOn self.new disk.new }
         ensures more { result ≡ Turn.More → (fates : code_fates.Fates) (stop : Option RunStop) (old : Host)
-            → IsUnderWay fates stop old self.old line.old disk.old → IsUnderWay fates stop old self.new line.new disk.new }
-        ensures ended { (end : RoundEnd) → result ≡ Turn.Ended end → (fates : code_fates.Fates) (stop : Option RunStop) (old : Host)
+            → IsUnderWay fates stop old self.old line.old disk.old
+            → IsUnderWay fates stop old self.new line.new disk.new }
+        ensures ended { (end : RoundEnd) → result ≡ Turn.Ended end
+            → (fates : code_fates.Fates) (stop : Option RunStop) (old : Host)
             → IsUnderWay fates stop old self.old line.old disk.old
             → IsOver fates stop old end self.new.session self.new.report line.new disk.new }
         ensures left { result ≡ Turn.More → left self.new.round < left self.old.round }

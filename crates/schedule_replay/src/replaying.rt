@@ -23,7 +23,8 @@ use std::alloc::Global;
 pub enum ReplayEnd {
     /// All steps were taken, the archive was opened where it was closed, and all is told.
     Done,
-    /// A delivery of a round was unseen: one that was harmed and passes for whole. What was before it is told, and its item.
+    /// A delivery of a round was unseen: one that was harmed and passes for whole. What was before it is told, and its
+    /// item.
     Unseen,
     /// A write failed. A front of what was to be told is.
     WriteFault,
@@ -31,8 +32,9 @@ pub enum ReplayEnd {
     OutOfMemory,
 }
 
-/// Replays a schedule: the records fall due at the modelled console, each round of the session is played over the line, and
-/// the archive is recovered from the disk, which stops where the schedule says so. What comes of it is written, item by item.
+/// Replays a schedule: the records fall due at the modelled console, each round of the session is played over the line,
+/// and the archive is recovered from the disk, which stops where the schedule says so. What comes of it is written,
+/// item by item.
 pub fn replay<K: Sink>(
     alloc: Global,
     settings: &Settings,
@@ -47,18 +49,26 @@ pub fn replay<K: Sink>(
         × IsNewDisk schedule.now.records eeprom packet disk.old }
 
     // The headline: what is written is the run of the schedule, and all of it is kept.
-    ensures done { result ≡ ReplayEnd.Done → (eeprom : List ℕ) (packet : LoopPacket) → LineAt (start eeprom packet) line.old
-        → IsReplayed false settings.now (start eeprom packet) (steps_in schedule.now) (K.outlet.taken out.old) (K.outlet.taken out.new) }
-    ensures unseen { result ≡ ReplayEnd.Unseen → (eeprom : List ℕ) (packet : LoopPacket) → LineAt (start eeprom packet) line.old
-        → IsReplayed true settings.now (start eeprom packet) (steps_in schedule.now) (K.outlet.taken out.old) (K.outlet.taken out.new) }
-    ensures cut_off { (result ≡ ReplayEnd.WriteFault) ⊎ (result ≡ ReplayEnd.OutOfMemory) → (eeprom : List ℕ) (packet : LoopPacket)
+    ensures done { result ≡ ReplayEnd.Done → (eeprom : List ℕ) (packet : LoopPacket)
         → LineAt (start eeprom packet) line.old
-        → IsCutOff settings.now (start eeprom packet) (steps_in schedule.now) (K.outlet.taken out.old) (K.outlet.taken out.new) }
+        → IsReplayed false settings.now (start eeprom packet) (steps_in schedule.now) (K.outlet.taken out.old)
+        (K.outlet.taken out.new) }
+    ensures unseen { result ≡ ReplayEnd.Unseen → (eeprom : List ℕ) (packet : LoopPacket)
+        → LineAt (start eeprom packet) line.old
+        → IsReplayed true settings.now (start eeprom packet) (steps_in schedule.now) (K.outlet.taken out.old)
+        (K.outlet.taken out.new) }
+    ensures cut_off { (result ≡ ReplayEnd.WriteFault) ⊎ (result ≡ ReplayEnd.OutOfMemory)
+        → (eeprom : List ℕ) (packet : LoopPacket)
+        → LineAt (start eeprom packet) line.old
+        → IsCutOff settings.now (start eeprom packet) (steps_in schedule.now) (K.outlet.taken out.old)
+        (K.outlet.taken out.new) }
 
     // Of one and the same run all this is so: it was written, all of it is kept, and the line and the disk that were
     // handed in took part in it.
-    ensures took_part { result ≡ ReplayEnd.Done → (eeprom : List ℕ) (packet : LoopPacket) → LineAt (start eeprom packet) line.old
-        → (run : IsReplayed false settings.now (start eeprom packet) (steps_in schedule.now) (K.outlet.taken out.old) (K.outlet.taken out.new))
+    ensures took_part { result ≡ ReplayEnd.Done → (eeprom : List ℕ) (packet : LoopPacket)
+        → LineAt (start eeprom packet) line.old
+        → (run : IsReplayed false settings.now (start eeprom packet) (steps_in schedule.now) (K.outlet.taken out.old)
+        (K.outlet.taken out.new))
         × TookPart settings.now (start eeprom packet) (steps_in schedule.now) run.items line.old line.new disk.new }
 
     ensures write_fault { Cause (K.outlet.faults out.old) (K.outlet.faults out.new) (result ≡ ReplayEnd.WriteFault) }
@@ -80,17 +90,27 @@ pub fn replay_steps<T: Teller>(
     requires line { (eeprom : List ℕ) × (packet : LoopPacket) × LineAt (start eeprom packet) line.old
         × IsNewDisk (length (records (steps_for settings.now.period steps.now))) eeprom packet disk.old }
 
-    ensures done { result ≡ ReplayEnd.Done → (eeprom : List ℕ) (packet : LoopPacket) → LineAt (start eeprom packet) line.old
-        → TellsRun T.telling false settings.now (start eeprom packet) (steps_for settings.now.period steps.now) teller.old teller.new }
-    ensures unseen { result ≡ ReplayEnd.Unseen → (eeprom : List ℕ) (packet : LoopPacket) → LineAt (start eeprom packet) line.old
-        → TellsRun T.telling true settings.now (start eeprom packet) (steps_for settings.now.period steps.now) teller.old teller.new }
-    ensures cut_off { (result ≡ ReplayEnd.WriteFault) ⊎ (result ≡ ReplayEnd.OutOfMemory) → (eeprom : List ℕ) (packet : LoopPacket)
+    ensures done { result ≡ ReplayEnd.Done → (eeprom : List ℕ) (packet : LoopPacket)
         → LineAt (start eeprom packet) line.old
-        → TellsFront T.telling settings.now (start eeprom packet) (steps_for settings.now.period steps.now) teller.old teller.new }
-    ensures took_part { result ≡ ReplayEnd.Done → (eeprom : List ℕ) (packet : LoopPacket) → LineAt (start eeprom packet) line.old
-        → (run : TellsRun T.telling false settings.now (start eeprom packet) (steps_for settings.now.period steps.now) teller.old teller.new)
-        × TookPart settings.now (start eeprom packet) (steps_for settings.now.period steps.now) run.items line.old line.new disk.new }
-    ensures write_fault { Cause (T.telling.faults teller.old) (T.telling.faults teller.new) (result ≡ ReplayEnd.WriteFault) }
+        → TellsRun T.telling false settings.now (start eeprom packet) (steps_for settings.now.period steps.now)
+        teller.old teller.new }
+    ensures unseen { result ≡ ReplayEnd.Unseen → (eeprom : List ℕ) (packet : LoopPacket)
+        → LineAt (start eeprom packet) line.old
+        → TellsRun T.telling true settings.now (start eeprom packet) (steps_for settings.now.period steps.now)
+        teller.old teller.new }
+    ensures cut_off { (result ≡ ReplayEnd.WriteFault) ⊎ (result ≡ ReplayEnd.OutOfMemory)
+        → (eeprom : List ℕ) (packet : LoopPacket)
+        → LineAt (start eeprom packet) line.old
+        → TellsFront T.telling settings.now (start eeprom packet) (steps_for settings.now.period steps.now)
+        teller.old teller.new }
+    ensures took_part { result ≡ ReplayEnd.Done → (eeprom : List ℕ) (packet : LoopPacket)
+        → LineAt (start eeprom packet) line.old
+        → (run : TellsRun T.telling false settings.now (start eeprom packet) (steps_for settings.now.period steps.now)
+        teller.old teller.new)
+        × TookPart settings.now (start eeprom packet) (steps_for settings.now.period steps.now) run.items
+        line.old line.new disk.new }
+    ensures write_fault { Cause (T.telling.faults teller.old) (T.telling.faults teller.new)
+        (result ≡ ReplayEnd.WriteFault) }
     ensures still { result ≢ ReplayEnd.WriteFault → T.telling.faults teller.new ≡ T.telling.faults teller.old }
 {
     let mut run = ReplayRun::new(alloc, settings);

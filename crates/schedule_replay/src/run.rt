@@ -1,4 +1,5 @@
-ghost use Rattle.std.specs.Prelude.{◌≡◌, ◌≢◌, ◌+◌, ◌*◌, ◌≤◌, ◌^◌, ◌<◌, ℕ, true, false, not, List, [], ◌∷◌, length, None, IfOk, OnOk, OnErr, Err, is_some};
+ghost use Rattle.std.specs.Prelude.{◌≡◌, ◌≢◌, ◌+◌, ◌*◌, ◌≤◌, ◌^◌, ◌<◌, ℕ, true, false, not, List, [], ◌∷◌, length};
+ghost use Rattle.std.specs.Prelude.{None, IfOk, OnOk, OnErr, Err, is_some};
 ghost use Rattle.causes.specs.Cause.{Cause};
 ghost use Rattle.station_base.specs.declared.row.Row.{Row};
 ghost use Rattle.settings_file.specs.StationSettings.{StationSettings};
@@ -18,7 +19,8 @@ ghost use Rattle.schedule_replay.specs.Left.{left_to_open};
 ghost use Rattle.station_replay.specs.Keeping.{Archive};
 ghost use Rattle.station_replay.specs.Room.{line_of};
 ghost use Rattle.station_replay.specs.Round.{Ending};
-ghost use Rattle.schedule_replay.specs.Standing.{HasSaid, HoldsAt, IsTold, LeadsTo, IsNoRound, LineAt, MayOpen, MayRun, Readies, StandsThere, WasBegun, open_step, round_step};
+ghost use Rattle.schedule_replay.specs.Standing.{HasSaid, HoldsAt, IsTold, LeadsTo, IsNoRound, LineAt, MayOpen};
+ghost use Rattle.schedule_replay.specs.Standing.{MayRun, Readies, StandsThere, WasBegun, open_step, round_step};
 ghost use Rattle.schedule_file.specs.declared.fates.Fates as code_fates;
 ghost use Rattle.schedule_replay.specs.Accepted.{IsInRange};
 ghost use Rattle.schedule_replay.specs.Steps.{step_of};
@@ -40,8 +42,8 @@ use station_session::{RoundEnd, Session};
 use station_sim::Sim;
 use std::alloc::Global;
 
-/// A run of a schedule: its session, where the archive is open and no round is under way, the rounds so far, and how many
-/// rows were told.
+/// A run of a schedule: its session, where the archive is open and no round is under way, the rounds so far, and how
+/// many rows were told.
 #[derive(Drop)]
 pub struct Run {
     pub session: Option<Session>,
@@ -63,8 +65,8 @@ impl Run {
         }
     }
 
-    /// Opens the archive, on a disk that stops within one of the changes of the opening where a stop is set, and tells what
-    /// that gives.
+    /// Opens the archive, on a disk that stops within one of the changes of the opening where a stop is set, and tells
+    /// what that gives.
     pub fn open<T: Teller>(
         &mut self,
         alloc: Global,
@@ -76,11 +78,13 @@ impl Run {
         requires may { MayOpen settings.now self.old disk.old }
         requires stop { IsStop (stop_set stop) }
         ensures ok { OnOk result ((openings : ℕ) (s : Stage) → HoldsAt openings settings.now s self.old disk.old
-            → LeadsTo T.telling (openings + 1) settings.now (open_step stop) s self.new disk.new teller.old teller.new) }
+            → LeadsTo T.telling (openings + 1) settings.now (open_step stop) s self.new disk.new
+            teller.old teller.new) }
         ensures err { OnErr result ((openings : ℕ) (s : Stage) → HoldsAt openings settings.now s self.old disk.old
             → IsCut T.telling settings.now (open_step stop) s teller.old teller.new) }
         ensures limits { limits_of disk.new ≡ limits_of disk.old }
-        ensures cause { Cause (T.telling.faults teller.old) (T.telling.faults teller.new) (result ≡ Err Cut.WriteFault) }
+        ensures cause { Cause (T.telling.faults teller.old) (T.telling.faults teller.new)
+            (result ≡ Err Cut.WriteFault) }
         ensures still { result ≢ Err Cut.WriteFault → T.telling.faults teller.new ≡ T.telling.faults teller.old }
     {
         self.session = None;
@@ -109,13 +113,15 @@ impl Run {
         teller: &mut T,
     ) -> Result<Session, Cut>
         requires may { MayOpen settings.now self.old disk.old }
-        ensures ok { IfOk result (λ session. (openings : ℕ) (s : Stage) → HoldsAt openings settings.now s self.old disk.old
+        ensures ok { IfOk result (λ session. (openings : ℕ) (s : Stage)
+            → HoldsAt openings settings.now s self.old disk.old
             → Readies openings settings.now s self.new session disk.new
             × T.telling.tells teller.old (first s.is_open s) teller.new) }
         ensures err { OnErr result ((openings : ℕ) (s : Stage) → HoldsAt openings settings.now s self.old disk.old
             → T.telling.breaks_off teller.old (first s.is_open s) teller.new) }
         ensures limits { limits_of disk.new ≡ limits_of disk.old }
-        ensures cause { Cause (T.telling.faults teller.old) (T.telling.faults teller.new) (result ≡ Err Cut.WriteFault) }
+        ensures cause { Cause (T.telling.faults teller.old) (T.telling.faults teller.new)
+            (result ≡ Err Cut.WriteFault) }
         ensures still { result ≢ Err Cut.WriteFault → T.telling.faults teller.new ≡ T.telling.faults teller.old }
     {
         if let Some(session) = self.session.take() {
@@ -138,11 +144,13 @@ impl Run {
         requires { IsReadable session.now disk.old }
         ensures tells { (settings : StationSettings) (rows : List Row) → GoesOn settings rows session.now disk.old
             → TellsAll T.telling teller.old (Item.Opened rows self.old.written ∷ []) result teller.new }
-        ensures written { OnOk result ((rows : List Row) → book.StandsFor (book_of session.now) rows → self.new.written ≡ length rows) }
+        ensures written { OnOk result ((rows : List Row) → book.StandsFor (book_of session.now) rows
+            → self.new.written ≡ length rows) }
         ensures disk { IsOnlyRead disk.old disk.new }
         ensures session { self.new.session ≡ self.old.session }
         ensures rounds { self.new.rounds ≡ self.old.rounds }
-        ensures cause { Cause (T.telling.faults teller.old) (T.telling.faults teller.new) (result ≡ Err Cut.WriteFault) }
+        ensures cause { Cause (T.telling.faults teller.old) (T.telling.faults teller.new)
+            (result ≡ Err Cut.WriteFault) }
         ensures still { result ≢ Err Cut.WriteFault → T.telling.faults teller.new ≡ T.telling.faults teller.old }
     {
         teller.opened(session, disk, self.written)?;
@@ -166,7 +174,8 @@ impl Run {
             → T.telling.breaks_off teller.old (first s.is_open s) teller.new) }
         ensures is_open { OnOk result (is_some self.new.session ≡ true) }
         ensures limits { limits_of disk.new ≡ limits_of disk.old }
-        ensures cause { Cause (T.telling.faults teller.old) (T.telling.faults teller.new) (result ≡ Err Cut.WriteFault) }
+        ensures cause { Cause (T.telling.faults teller.old) (T.telling.faults teller.new)
+            (result ≡ Err Cut.WriteFault) }
         ensures still { result ≢ Err Cut.WriteFault → T.telling.faults teller.new ≡ T.telling.faults teller.old }
     {
         let session = self.ready(alloc, settings, disk, teller)?;
@@ -174,7 +183,8 @@ impl Run {
         Ok(())
     }
 
-    /// Ends a round that ended so, and tells what it gives. Answers whether a delivery was unseen, with which the run ends.
+    /// Ends a round that ended so, and tells what it gives. Answers whether a delivery was unseen, with which the run
+    /// ends.
     pub fn end_round<T: Teller>(
         &mut self,
         end: RoundEnd,
@@ -183,21 +193,26 @@ impl Run {
         disk: &mut Stopping<MemDisk>,
         teller: &mut T,
     ) -> Result<bool, Cut>
-        requires may { (settings : StationSettings) × (records : ℕ) × (openings : ℕ) × (s : Stage) × (fates : code_fates.Fates) × (old : Host)
+        requires may { (settings : StationSettings) × (records : ℕ) × (openings : ℕ) × (s : Stage)
+            × (fates : code_fates.Fates) × (old : Host)
             × WasBegun records openings settings s fates old self.old
-            × IsOver fates (stop_set playing.stop) old end playing.session playing.report line.old disk.old × (self.old.rounds < 1000) }
-        ensures ok { IfOk result (λ unseen. (records openings : ℕ) (settings : StationSettings) (s : Stage) (fates : code_fates.Fates) (old : Host)
+            × IsOver fates (stop_set playing.stop) old end playing.session playing.report line.old disk.old
+            × (self.old.rounds < 1000) }
+        ensures ok { IfOk result (λ unseen. (records openings : ℕ) (settings : StationSettings) (s : Stage)
+            (fates : code_fates.Fates) (old : Host)
             → WasBegun records openings settings s fates old self.old
             → IsOver fates (stop_set playing.stop) old end playing.session playing.report line.old disk.old
             → After T.telling unseen settings (round_step fates playing.stop) s
             (λ is u. (HoldsAt openings settings u self.new disk.new × LineAt u line.new × HasSaid is old.link line.new)
             × (limits_of disk.new ≡ limits_of old.disk)) teller.old teller.new) }
-        ensures err { OnErr result ((records openings : ℕ) (settings : StationSettings) (s : Stage) (fates : code_fates.Fates) (old : Host)
+        ensures err { OnErr result ((records openings : ℕ) (settings : StationSettings) (s : Stage)
+            (fates : code_fates.Fates) (old : Host)
             → WasBegun records openings settings s fates old self.old
             → IsOver fates (stop_set playing.stop) old end playing.session playing.report line.old disk.old
             → IsCut T.telling settings (round_step fates playing.stop) s teller.old teller.new) }
         ensures is_still { OnOk result (IsStill line.old disk.old line.new disk.new) }
-        ensures cause { Cause (T.telling.faults teller.old) (T.telling.faults teller.new) (result ≡ Err Cut.WriteFault) }
+        ensures cause { Cause (T.telling.faults teller.old) (T.telling.faults teller.new)
+            (result ≡ Err Cut.WriteFault) }
         ensures still { result ≢ Err Cut.WriteFault → T.telling.faults teller.new ≡ T.telling.faults teller.old }
     {
         let Ok(played) = end_play(end, playing.report, line, disk) else {
@@ -225,18 +240,23 @@ impl Run {
         requires may { MayRun settings.now (step_of settings.now.period step.now) self.old line.old disk.old }
         requires range { IsInRange settings.now.period step.now }
         requires no_round { IsNoRound step.now }
-        ensures ok { OnOk result ((records openings : ℕ) (s : Stage) → HoldsAt openings settings.now s self.old disk.old → LineAt s line.old
+        ensures ok { OnOk result ((records openings : ℕ) (s : Stage) → HoldsAt openings settings.now s self.old disk.old
+            → LineAt s line.old
             → StandsThere records openings settings.now (step_of settings.now.period step.now) s disk.old
             → After T.telling false settings.now (step_of settings.now.period step.now) s
-            (λ is u. HoldsAt (openings + line_of (step_of settings.now.period step.now)) settings.now u self.new disk.new × LineAt u line.new × HasSaid is line.old line.new)
+            (λ is u. HoldsAt (openings + line_of (step_of settings.now.period step.now)) settings.now u
+            self.new disk.new × LineAt u line.new × HasSaid is line.old line.new)
             teller.old teller.new) }
-        ensures err { OnErr result ((records openings : ℕ) (s : Stage) → HoldsAt openings settings.now s self.old disk.old → LineAt s line.old
+        ensures err { OnErr result ((records openings : ℕ) (s : Stage)
+            → HoldsAt openings settings.now s self.old disk.old → LineAt s line.old
             → StandsThere records openings settings.now (step_of settings.now.period step.now) s disk.old
             → IsCut T.telling settings.now (step_of settings.now.period step.now) s teller.old teller.new) }
         ensures limits { limits_of disk.new ≡ limits_of disk.old }
         ensures talk { line.new.talk.items ≡ line.old.talk.items }
-        ensures closes { left_to_open self.new.session ≤ left_to_open self.old.session + line_of (step_of settings.now.period step.now) }
-        ensures cause { Cause (T.telling.faults teller.old) (T.telling.faults teller.new) (result ≡ Err Cut.WriteFault) }
+        ensures closes { left_to_open self.new.session
+            ≤ left_to_open self.old.session + line_of (step_of settings.now.period step.now) }
+        ensures cause { Cause (T.telling.faults teller.old) (T.telling.faults teller.new)
+            (result ≡ Err Cut.WriteFault) }
         ensures still { result ≢ Err Cut.WriteFault → T.telling.faults teller.new ≡ T.telling.faults teller.old }
     {
         match step {
@@ -264,16 +284,19 @@ impl Run {
     ) -> Result<(), Cut>
         requires { IsTellable (stop_set stop) session played.now disk.old }
         ensures ok { OnOk result ((settings : StationSettings) (openings : ℕ) (r : Rounded) (a : Archive)
-            → IsToldOf settings openings (stop_set stop) session played.now disk.old r a → r.number ≡ self.old.rounds → r.written ≡ self.old.written
+            → IsToldOf settings openings (stop_set stop) session played.now disk.old r a → r.number ≡ self.old.rounds
+            → r.written ≡ self.old.written
             → IsTold settings openings r a self.old.written self.new disk.new
             × T.telling.tells teller.old (Item.Ran r ∷ []) teller.new) }
         ensures err { OnErr result ((settings : StationSettings) (openings : ℕ) (r : Rounded) (a : Archive)
-            → IsToldOf settings openings (stop_set stop) session played.now disk.old r a → r.number ≡ self.old.rounds → r.written ≡ self.old.written
+            → IsToldOf settings openings (stop_set stop) session played.now disk.old r a → r.number ≡ self.old.rounds
+            → r.written ≡ self.old.written
             → T.telling.breaks_off teller.old (Item.Ran r ∷ []) teller.new) }
         ensures limits { limits_of disk.new ≡ limits_of disk.old }
         ensures moment { stopping_medium.moment disk.new ≡ stopping_medium.moment disk.old }
         ensures rounds { self.new.rounds ≡ self.old.rounds }
-        ensures cause { Cause (T.telling.faults teller.old) (T.telling.faults teller.new) (result ≡ Err Cut.WriteFault) }
+        ensures cause { Cause (T.telling.faults teller.old) (T.telling.faults teller.new)
+            (result ≡ Err Cut.WriteFault) }
         ensures still { result ≢ Err Cut.WriteFault → T.telling.faults teller.new ≡ T.telling.faults teller.old }
     {
         self.session = None;

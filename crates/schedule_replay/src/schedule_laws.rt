@@ -15,15 +15,18 @@ use schedule_file::{Schedule, Step};
 
 /// A schedule that some text says, for a period that a console has, keeps the rules of a run.
 pub fn accepted_schedules()
-    ensures { (bytes : List ℕ) (schedule : Schedule) → IsPeriod schedule.period → AllByRecursion HasRecord schedule.steps.items
+    ensures { (bytes : List ℕ) (schedule : Schedule) → IsPeriod schedule.period
+        → AllByRecursion HasRecord schedule.steps.items
         → ReadsAs (steps_of bytes schedule.period) (Ok schedule) → IsAccepted schedule }
 {}
 
 /// A run has so many records, each a period after the one before, and all with the values of the first.
 pub fn what_a_run_is()
     ensures count { (period count : ℕ) (first : List ℕ) → length (run_records period first count) ≡ count }
-    ensures records { (period count place : ℕ) (first : List ℕ) (row : Row) → IsRecord first → reading first period ≡ ReadRow row
-        → IsRun period first count → place < count → ReadsLater period place row (slice_index_or (run_records period first count) place []) }
+    ensures records { (period count place : ℕ) (first : List ℕ) (row : Row) → IsRecord first
+        → reading first period ≡ ReadRow row
+        → IsRun period first count → place < count
+        → ReadsLater period place row (slice_index_or (run_records period first count) place []) }
 {}
 
 /// What holds of a schedule that was read from some text. The schedule is looked at, and nothing else happens.

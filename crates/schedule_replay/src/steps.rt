@@ -14,12 +14,13 @@ use serial_link::Sent;
 use station_base::Period;
 use station_sim::Sim;
 
-/// Lets a record or those of a run fall due, or ticks pass; a step that opens a session or makes a round does nothing here.
-/// `OutOfMemory` comes where there was no room for what a tick's reply brings.
+/// Lets a record or those of a run fall due, or ticks pass; a step that opens a session or makes a round does nothing
+/// here. `OutOfMemory` comes where there was no room for what a tick's reply brings.
 pub fn wait(line: &mut Sim, step: &Step, period: Period) -> Result<(), OutOfMemory>
     requires range { IsInRange period step.now }
     requires fates { fates_of line.old.fates ≡ no_fates }
-    ensures stands { OnOk result ((w : Line) → StandsFor line.old w → StandsFor line.new (passed (step_of period step.now) w)) }
+    ensures stands { OnOk result ((w : Line) → StandsFor line.old w
+        → StandsFor line.new (passed (step_of period step.now) w)) }
     ensures fates { fates_of line.new.fates ≡ fates_of line.old.fates }
     ensures talk { line.new.talk.items ≡ line.old.talk.items }
 {
@@ -43,7 +44,8 @@ pub fn wait(line: &mut Sim, step: &Step, period: Period) -> Result<(), OutOfMemo
 /// Lets the records of a run fall due: the first, and each next one a period later with the same values.
 pub fn run_falls_due(line: &mut Sim, first: &Rec52, count: u32, period: Period)
     requires stamps { IsRun period first.now count }
-    ensures stands { (w : Line) → StandsFor line.old w → StandsFor line.new (waited (run_records period first.now count) w) }
+    ensures stands { (w : Line) → StandsFor line.old w
+        → StandsFor line.new (waited (run_records period first.now count) w) }
     ensures fates { fates_of line.new.fates ≡ fates_of line.old.fates }
     ensures talk { line.new.talk.items ≡ line.old.talk.items }
 {

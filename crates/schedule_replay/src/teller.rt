@@ -36,7 +36,8 @@ pub trait Teller {
 
     /// The disk stopped within this change of an opening, counted from 1 on.
     fn open_stopped(&mut self, change: u64) -> Result<(), Cut>
-        ensures tells { (rows : List Row) → TellsAll telling self.old (Item.OpenStopped change rows ∷ []) result self.new }
+        ensures tells { (rows : List Row)
+            → TellsAll telling self.old (Item.OpenStopped change rows ∷ []) result self.new }
         ensures cause { Cause (telling.faults self.old) (telling.faults self.new) (result ≡ Err Cut.WriteFault) }
         ensures still { result ≢ Err Cut.WriteFault → telling.faults self.new ≡ telling.faults self.old };
 

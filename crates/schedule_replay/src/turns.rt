@@ -1,4 +1,5 @@
-ghost use Rattle.std.specs.Prelude.{◌≡◌, ◌≢◌, ◌⊎◌, ◌+◌, ◌^◌, ◌<◌, ◌≤◌, ℕ, true, [], List, None, Some, length, drop, is_some};
+ghost use Rattle.std.specs.Prelude.{◌≡◌, ◌≢◌, ◌⊎◌, ◌+◌, ◌^◌, ◌<◌, ◌≤◌, ℕ, true, [], List, None, Some, length, drop};
+ghost use Rattle.std.specs.Prelude.{is_some};
 ghost use Rattle.causes.specs.Cause.{Cause};
 ghost use Rattle.loop_packet.specs.declared.packet.LoopPacket.{LoopPacket};
 ghost use Rattle.disk_model.specs.declared.mem_disk.MemDisk.{MemDisk};
@@ -64,7 +65,8 @@ impl ReplayRun {
     pub fn new(alloc: Global, settings: &Settings) -> ReplayRun
         ensures settings { result.settings ≡ settings.now }
         ensures turns { result.turns ≡ 0 }
-        ensures begins { (steps : List code_step.Step) (eeprom : List ℕ) (packet : LoopPacket) (line : Sim) (disk : Stopping MemDisk)
+        ensures begins { (steps : List code_step.Step) (eeprom : List ℕ) (packet : LoopPacket) (line : Sim)
+            (disk : Stopping MemDisk)
             → AreAccepted settings.now.period steps → LineAt (start eeprom packet) line
             → IsNewDisk (length (records (steps_for settings.now.period steps))) eeprom packet disk
             → Replaying eeprom packet steps [] line line disk disk result }
@@ -88,9 +90,9 @@ impl ReplayRun {
         self.turns
     }
 
-    /// Takes one turn, and tells what it gives. A turn is one step that makes no round; one recovery, ahead of a round or of
-    /// the end, where the archive is closed; one turn of the round under way, the first with its begin, the last with its
-    /// line; or the end.
+    /// Takes one turn, and tells what it gives. A turn is one step that makes no round; one recovery, ahead of a round
+    /// or of the end, where the archive is closed; one turn of the round under way, the first with its begin, the last
+    /// with its line; or the end.
     pub fn turn<T: Teller>(
         &mut self,
         steps: &[Step],
@@ -99,14 +101,18 @@ impl ReplayRun {
         teller: &mut T,
     ) -> ReplayTurn
         requires { MayTurn steps.now line.old disk.old self.old }
-        ensures more { result ≡ ReplayTurn.More → (eeprom : List ℕ) (packet : LoopPacket) (items : List Item) (before : Sim) (made : Stopping MemDisk)
+        ensures more { result ≡ ReplayTurn.More
+            → (eeprom : List ℕ) (packet : LoopPacket) (items : List Item) (before : Sim) (made : Stopping MemDisk)
             → Replaying eeprom packet steps.now items before line.old made disk.old self.old
-            → TakesTurn T.telling eeprom packet steps.now items before line.new made disk.new self.new teller.old teller.new }
-        ensures ended { result ≡ ReplayTurn.Ended → (eeprom : List ℕ) (packet : LoopPacket) (items : List Item) (before : Sim) (made : Stopping MemDisk)
+            → TakesTurn T.telling eeprom packet steps.now items before line.new made disk.new self.new
+            teller.old teller.new }
+        ensures ended { result ≡ ReplayTurn.Ended
+            → (eeprom : List ℕ) (packet : LoopPacket) (items : List Item) (before : Sim) (made : Stopping MemDisk)
             → Replaying eeprom packet steps.now items before line.old made disk.old self.old
             → EndsRun T.telling self.old.settings (start eeprom packet) (steps_for self.old.settings.period steps.now)
             items before line.new disk.new teller.old teller.new }
-        ensures unseen { result ≡ ReplayTurn.Unseen → (eeprom : List ℕ) (packet : LoopPacket) (items : List Item) (before : Sim) (made : Stopping MemDisk)
+        ensures unseen { result ≡ ReplayTurn.Unseen
+            → (eeprom : List ℕ) (packet : LoopPacket) (items : List Item) (before : Sim) (made : Stopping MemDisk)
             → Replaying eeprom packet steps.now items before line.old made disk.old self.old
             → BreaksRun T.telling self.old.settings (start eeprom packet) (steps_for self.old.settings.period steps.now)
             items teller.old teller.new }
@@ -120,13 +126,15 @@ impl ReplayRun {
         ensures left { result ≡ ReplayTurn.More → left_of steps.now self.new < left_of steps.now self.old }
         ensures one_turn { result ≡ ReplayTurn.More → IsOneTurn self.old self.new }
         ensures says_or_stores { result ≡ ReplayTurn.More → SaysOrStores line.old disk.old line.new disk.new }
-        ensures one_call { result ≡ ReplayTurn.More → is_some self.new.playing ≡ true → MakesOneCall line.old disk.old line.new disk.new }
+        ensures one_call { result ≡ ReplayTurn.More → is_some self.new.playing ≡ true
+            → MakesOneCall line.old disk.old line.new disk.new }
         ensures ends_open { result ≡ ReplayTurn.Ended → is_some self.old.run.session ≡ true }
-        ensures write_fault { Cause (T.telling.faults teller.old) (T.telling.faults teller.new) (result ≡ ReplayTurn.WriteFault) }
+        ensures write_fault { Cause (T.telling.faults teller.old) (T.telling.faults teller.new)
+            (result ≡ ReplayTurn.WriteFault) }
         ensures still { result ≢ ReplayTurn.WriteFault → T.telling.faults teller.new ≡ T.telling.faults teller.old }
     {
-        if let Some(playing) = self.playing.take() {
-            return self.play_on(playing, line, disk, teller);
+        if self.playing.is_some() {
+            return self.play_on(line, disk, teller);
         }
         let Some(step) = steps.get(self.taken) else {
             return self.close(disk, teller);
@@ -163,7 +171,8 @@ impl ReplayRun {
         ensures says_or_stores { result ≡ ReplayTurn.More → SaysOrStores line.old disk.old line.new disk.new }
         ensures playing { self.new.playing ≡ None }
         ensures not_ended { result ≢ ReplayTurn.Ended }
-        ensures write_fault { Cause (T.telling.faults teller.old) (T.telling.faults teller.new) (result ≡ ReplayTurn.WriteFault) }
+        ensures write_fault { Cause (T.telling.faults teller.old) (T.telling.faults teller.new)
+            (result ≡ ReplayTurn.WriteFault) }
         ensures still { result ≢ ReplayTurn.WriteFault → T.telling.faults teller.new ≡ T.telling.faults teller.old }
     {
         match self
@@ -181,12 +190,14 @@ impl ReplayRun {
 
     // Opens the archive ahead of a round, or of the end.
     fn recover<T: Teller>(&mut self, disk: &mut Stopping<MemDisk>, teller: &mut T) -> ReplayTurn
-        requires may { (c : Course) × (items : List Item) × (line : Sim) × StandsWith None c items self.old line disk.old
+        requires may { (c : Course) × (items : List Item) × (line : Sim)
+            × StandsWith None c items self.old line disk.old
             × OpensNext (steps_for self.old.settings.period (drop self.old.taken c.steps)) }
         requires closed { self.old.run.session ≡ None }
         requires none { self.old.playing ≡ None }
         requires countable { self.old.turns + 1 < 2 ^ 64 }
-        ensures turns_to { (c : Course) (items : List Item) (line : Sim) → StandsWith None c items self.old line disk.old
+        ensures turns_to { (c : Course) (items : List Item) (line : Sim)
+            → StandsWith None c items self.old line disk.old
             → OpensNext (steps_for self.old.settings.period (drop self.old.taken c.steps))
             → TurnsTo T.telling result c self.old.settings items line disk.new self.new teller.old teller.new }
         ensures settings { self.new.settings ≡ self.old.settings }
@@ -195,7 +206,8 @@ impl ReplayRun {
         ensures is_open { result ≡ ReplayTurn.More → is_some self.new.run.session ≡ true }
         ensures playing { self.new.playing ≡ None }
         ensures not_ended { result ≢ ReplayTurn.Ended }
-        ensures write_fault { Cause (T.telling.faults teller.old) (T.telling.faults teller.new) (result ≡ ReplayTurn.WriteFault) }
+        ensures write_fault { Cause (T.telling.faults teller.old) (T.telling.faults teller.new)
+            (result ≡ ReplayTurn.WriteFault) }
         ensures still { result ≢ ReplayTurn.WriteFault → T.telling.faults teller.new ≡ T.telling.faults teller.old }
     {
         match self.run.recover(self.alloc, &self.settings, disk, teller) {
@@ -225,20 +237,26 @@ impl ReplayRun {
             → TurnsTo T.telling result c self.old.settings items line.new disk.new self.new teller.old teller.new }
         ensures settings { self.new.settings ≡ self.old.settings }
         ensures turns { result ≡ ReplayTurn.More → self.new.turns ≡ self.old.turns + 1 }
-        ensures left { result ≡ ReplayTurn.More → (steps : List code_step.Step) → IsNextRound steps self.old.taken fates.now stop
+        ensures left { result ≡ ReplayTurn.More → (steps : List code_step.Step)
+            → IsNextRound steps self.old.taken fates.now stop
             → left_of steps self.new < left_of steps self.old }
         ensures one_turn { result ≡ ReplayTurn.More → IsOneTurn self.old self.new }
         ensures says_or_stores { result ≡ ReplayTurn.More → SaysOrStores line.old disk.old line.new disk.new }
-        ensures one_call { result ≡ ReplayTurn.More → is_some self.new.playing ≡ true → MakesOneCall line.old disk.old line.new disk.new }
+        ensures one_call { result ≡ ReplayTurn.More → is_some self.new.playing ≡ true
+            → MakesOneCall line.old disk.old line.new disk.new }
         ensures not_ended { result ≢ ReplayTurn.Ended }
-        ensures write_fault { Cause (T.telling.faults teller.old) (T.telling.faults teller.new) (result ≡ ReplayTurn.WriteFault) }
+        ensures write_fault { Cause (T.telling.faults teller.old) (T.telling.faults teller.new)
+            (result ≡ ReplayTurn.WriteFault) }
         ensures still { result ≢ ReplayTurn.WriteFault → T.telling.faults teller.new ≡ T.telling.faults teller.old }
     {
         let Some(session) = self.run.session.take() else {
             return self.recover(disk, teller);
         };
         match begin_play(self.alloc, session, fates, stop, line, disk) {
-            Ok(playing) => self.play_on(playing, line, disk, teller),
+            Ok(playing) => {
+                self.playing = Some(playing);
+                self.play_on(line, disk, teller)
+            }
             Err(_) => ReplayTurn::OutOfMemory,
         }
     }
@@ -246,61 +264,73 @@ impl ReplayRun {
     // Takes one turn of the round under way, the last with its line.
     fn play_on<T: Teller>(
         &mut self,
-        mut playing: Playing,
         line: &mut Sim,
         disk: &mut Stopping<MemDisk>,
         teller: &mut T,
     ) -> ReplayTurn
-        requires may { (c : Course) × (items : List Item) × StandsWith (Some playing) c items self.old line.old disk.old }
-        requires none { self.old.playing ≡ None }
+        requires may { (c : Course) × (items : List Item)
+            × StandsWith self.old.playing c items self.old line.old disk.old }
+        requires under_way { is_some self.old.playing ≡ true }
         requires countable { (self.old.taken + 1 < 2 ^ 64) × (self.old.turns + 1 < 2 ^ 64) }
-        ensures turns_to { (c : Course) (items : List Item) → StandsWith (Some playing) c items self.old line.old disk.old
+        ensures turns_to { (c : Course) (items : List Item)
+            → StandsWith self.old.playing c items self.old line.old disk.old
             → TurnsTo T.telling result c self.old.settings items line.new disk.new self.new teller.old teller.new }
         ensures settings { self.new.settings ≡ self.old.settings }
         ensures turns { result ≡ ReplayTurn.More → self.new.turns ≡ self.old.turns + 1 }
-        ensures left { result ≡ ReplayTurn.More → (steps : List code_step.Step) → left_of steps self.new
-            < left playing.round + 2 + left_in self.old.settings.period (drop (self.old.taken + 1) steps) }
-        ensures moves { result ≡ ReplayTurn.More → Moves (Some playing) self.new.playing true (is_some self.new.run.session) self.old.taken self.new.taken }
+        ensures left { result ≡ ReplayTurn.More → (steps : List code_step.Step)
+            → left_of steps self.new < left_of steps self.old }
+        ensures one_turn { result ≡ ReplayTurn.More → IsOneTurn self.old self.new }
         ensures says_or_stores { result ≡ ReplayTurn.More → SaysOrStores line.old disk.old line.new disk.new }
-        ensures one_call { result ≡ ReplayTurn.More → is_some self.new.playing ≡ true → MakesOneCall line.old disk.old line.new disk.new }
+        ensures one_call { result ≡ ReplayTurn.More → is_some self.new.playing ≡ true
+            → MakesOneCall line.old disk.old line.new disk.new }
         ensures not_ended { result ≢ ReplayTurn.Ended }
-        ensures write_fault { Cause (T.telling.faults teller.old) (T.telling.faults teller.new) (result ≡ ReplayTurn.WriteFault) }
+        ensures write_fault { Cause (T.telling.faults teller.old) (T.telling.faults teller.new)
+            (result ≡ ReplayTurn.WriteFault) }
         ensures still { result ≢ ReplayTurn.WriteFault → T.telling.faults teller.new ≡ T.telling.faults teller.old }
     {
+        let Some(playing) = &mut self.playing else {
+            unreachable!()
+        };
         match playing.turn(line, disk) {
             Turn::More => {
-                self.playing = Some(playing);
                 self.turns += 1;
                 ReplayTurn::More
             }
-            Turn::Ended(end) => match self.run.end_round(end, playing, line, disk, teller) {
-                Ok(false) => {
-                    self.taken += 1;
-                    self.turns += 1;
-                    ReplayTurn::More
+            Turn::Ended(end) => {
+                let playing = self.playing.take().unwrap();
+                match self.run.end_round(end, playing, line, disk, teller) {
+                    Ok(false) => {
+                        self.taken += 1;
+                        self.turns += 1;
+                        ReplayTurn::More
+                    }
+                    Ok(true) => ReplayTurn::Unseen,
+                    Err(cut) => cut_off(cut),
                 }
-                Ok(true) => ReplayTurn::Unseen,
-                Err(cut) => cut_off(cut),
-            },
+            }
         }
     }
 
     // Tells the end, or opens the archive ahead of it.
     fn close<T: Teller>(&mut self, disk: &mut Stopping<MemDisk>, teller: &mut T) -> ReplayTurn
-        requires may { (c : Course) × (items : List Item) × (line : Sim) × StandsWith None c items self.old line disk.old
+        requires may { (c : Course) × (items : List Item) × (line : Sim)
+            × StandsWith None c items self.old line disk.old
             × (length c.steps ≤ self.old.taken) }
         requires none { self.old.playing ≡ None }
         requires countable { self.old.turns + 1 < 2 ^ 64 }
-        ensures turns_to { (c : Course) (items : List Item) (line : Sim) → StandsWith None c items self.old line disk.old
+        ensures turns_to { (c : Course) (items : List Item) (line : Sim)
+            → StandsWith None c items self.old line disk.old
             → length c.steps ≤ self.old.taken
             → TurnsTo T.telling result c self.old.settings items line disk.new self.new teller.old teller.new }
         ensures settings { self.new.settings ≡ self.old.settings }
         ensures turns { result ≡ ReplayTurn.More → self.new.turns ≡ self.old.turns + 1 }
-        ensures left { result ≡ ReplayTurn.More → (steps : List code_step.Step) → left_of steps self.new < left_of steps self.old }
+        ensures left { result ≡ ReplayTurn.More → (steps : List code_step.Step)
+            → left_of steps self.new < left_of steps self.old }
         ensures one_turn { result ≡ ReplayTurn.More → IsOneTurn self.old self.new }
         ensures playing { self.new.playing ≡ None }
         ensures ends_open { result ≡ ReplayTurn.Ended → is_some self.old.run.session ≡ true }
-        ensures write_fault { Cause (T.telling.faults teller.old) (T.telling.faults teller.new) (result ≡ ReplayTurn.WriteFault) }
+        ensures write_fault { Cause (T.telling.faults teller.old) (T.telling.faults teller.new)
+            (result ≡ ReplayTurn.WriteFault) }
         ensures still { result ≢ ReplayTurn.WriteFault → T.telling.faults teller.new ≡ T.telling.faults teller.old }
     {
         let Some(session) = self.run.session.take() else {

@@ -103,7 +103,7 @@ returns-in-Ok-clause-left g c more steps n =
 pub returns-in-Ok-clause-one_turn : goal.returns-in-Ok-clause-one_turn
 returns-in-Ok-clause-one_turn g c more =
     let some : c.args.self.now.run.session ≡ Some c.in-Some.session = search rules in
-    begun_moves c.args.self.now.playing c.play_on.new.self.playing c.in-Ok.playing (is_some c.args.self.now.run.session) (is_some c.play_on.new.self.run.session) c.args.self.now.taken c.play_on.new.self.taken c.requires.none (ap is_some some) (c.play_on.ensures.moves more)
+    begun_moves c.args.self.now.playing c.play_on.new.self.playing c.in-Ok.playing (is_some c.args.self.now.run.session) (is_some c.take.new.self) (is_some c.play_on.new.self.run.session) c.args.self.now.taken c.play_on.new.self.taken c.requires.none (ap is_some some) (c.play_on.ensures.one_turn more)
 
 pub returns-in-Ok-clause-one_call : goal.returns-in-Ok-clause-one_call
 returns-in-Ok-clause-one_call g c more some =
