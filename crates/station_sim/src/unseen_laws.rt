@@ -9,8 +9,8 @@ ghost use Rattle.station_sim.specs.Talk.{ConsoleTalk};
 ghost use Rattle.station_sim.specs.Unseen.{IsUnseenMessage, IsUnseenReply, NamesFirst};
 ghost use Rattle.station_sim.specs.UnseenTalk.{HasUnseen};
 
-/// A message of the host is named as the first unseen delivery just if none was named before it, it came otherwise than it was sent,
-/// and the console obeyed what came.
+/// A message of the host is named as the first unseen delivery just if none was named before it, it came otherwise
+/// than it was sent, and the console obeyed what came.
 pub fn unseen_messages()
     ensures counted { (f : Fates) (message : List ℕ) (w : Line) → let number = w.messages + 1 in
         NamesFirst (IsUnseenMessage message (delivered (f.host number) message) w.console) (from_host number)
@@ -23,18 +23,19 @@ pub fn unseen_messages()
         → IsUnseenMessage message (delivered (f.host number) message) w.console }
 {}
 
-/// A reply of the console is named as the first unseen delivery just if none was named before it, it came otherwise than it was sent,
-/// and what came is taken for whole.
+/// A reply of the console is named as the first unseen delivery just if none was named before it, it came otherwise
+/// than it was sent, and what came is taken for whole.
 pub fn unseen_replies()
     ensures { (f : Fates) (o : model.Outcome) (w : Line) → let number = w.replies + 1 in
         NamesFirst (IsUnseenReply o (delivered (f.reply number) o.bytes)) (from_console number)
         w.unseen (happens f o w).unseen }
 {}
 
-/// A talk names an unseen delivery just if one of its deliveries is unseen, and what it names is one of these. What was named stays.
+/// A talk names an unseen delivery just if one of its deliveries is unseen, and what it names is one of these. What was
+/// named stays.
 pub fn unseen_deliveries()
-    ensures named { (f : Fates) (talk : List TalkItem) (w v : Line) (which : Unseen) → w.unseen ≡ None → ConsoleTalk f talk w v
-        → v.unseen ≡ Some which → HasUnseen f talk w which }
+    ensures named { (f : Fates) (talk : List TalkItem) (w v : Line) (which : Unseen) → w.unseen ≡ None
+        → ConsoleTalk f talk w v → v.unseen ≡ Some which → HasUnseen f talk w which }
     ensures none { (f : Fates) (talk : List TalkItem) (w v : Line) → ConsoleTalk f talk w v → v.unseen ≡ None
         → (which : Unseen) → ¬ (HasUnseen f talk w which) }
     ensures stays { (f : Fates) (talk : List TalkItem) (w v : Line) (which : Unseen) → ConsoleTalk f talk w v

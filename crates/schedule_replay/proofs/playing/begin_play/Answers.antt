@@ -1,6 +1,8 @@
 use Rattle.std.proofs.Common.{◌≡◌, [], true, false, refl, sym, ap, ◌∙◌, arith}
+use Rattle.schedule_file.specs.Lists.{fates_of}
 use Rattle.station_session.specs.Round.{round_host}
 use Rattle.station_session.proofs.Beginning.{under_way}
+use Rattle.station_sim.specs.declared.sim.Sim.{Sim}
 use Rattle.schedule_replay.proofs.RoundPlayed.{same_fates}
 use Rattle.schedule_replay.proofs.playing.begin_play.Goals as goal
 
@@ -12,9 +14,9 @@ returns-in-Ready c =
         began = round_host c.begin.new.self c.start.new.self c.arm.new.disk;
         begins = record {
           starts = c.start.ensures.stands;
-          fates_are = c.start.ensures.fates ∙ same_fates c.in_ok-copy.field-0 c.args.fates.now c.in_ok-copy.ensures.host c.in_ok-copy.ensures.replies c.in_ok-copy.ensures.lates c.in_ok-copy.ensures.mids;
-          mids_are = ap (λ x. x.items) c.start.ensures.mids ∙ c.in_ok-copy.ensures.mids;
-          said = c.start.ensures.talk;
+          fates_are = ap (λ (s : Sim). fates_of s.fates) c.start.ensures.others ∙ same_fates c.in_ok-copy.field-0 c.args.fates.now c.in_ok-copy.ensures.host c.in_ok-copy.ensures.replies c.in_ok-copy.ensures.lates c.in_ok-copy.ensures.mids;
+          mids_are = ap (λ (s : Sim). s.fates.mids.items) c.start.ensures.others ∙ c.in_ok-copy.ensures.mids;
+          said = ap (λ (s : Sim). s.talk.items) c.start.ensures.others;
           armed = c.arm.ensures.state;
           stays = c.arm.ensures.stays;
           is_a_stop = c.requires.stop;
@@ -28,7 +30,7 @@ returns-in-Ready c =
       may = record { fits = b.is_begun.0; room = omega (arith, c.requires.room, c.arm.ensures.stays.at) };
       left = b.is_begun.2;
       stop_is = refl;
-      still = (c.start.ensures.talk, c.arm.ensures.stays.at);
+      still = (ap (λ (s : Sim). s.talk.items) c.start.ensures.others, c.arm.ensures.stays.at);
     }
 
 pub unreachable-requires : goal.unreachable-requires

@@ -1,3 +1,5 @@
+use Rattle.std.proofs.Common.{ap}
+use Rattle.station_sim.specs.declared.sim.Sim.{Sim}
 use Rattle.schedule_replay.proofs.RoundPlayed.{plays}
 use Rattle.schedule_replay.proofs.TurnPlayed.{rest_still}
 use Rattle.schedule_replay.proofs.playing.end_play.Goals as goal
@@ -23,8 +25,8 @@ returns-in_default c = record {
         harmed_is = c.harmed.ensures;
         unseen_is = c.unseen.ensures;
         finishes = c.finish.ensures.stands;
-        said_after = c.finish.ensures.talk;
+        said_after = ap (λ (s : Sim). s.talk.items) c.finish.ensures.others;
       }) records openings settings s may;
   fates = c.finish.ensures.fates;
-  is_still = (c.finish.ensures.talk, rest_still c.args.disk.now c.rest.new.disk c.rest.ensures.went_on c.rest.ensures.stopped);
+  is_still = (ap (λ (s : Sim). s.talk.items) c.finish.ensures.others, rest_still c.args.disk.now c.rest.new.disk c.rest.ensures.went_on c.rest.ensures.stopped);
 }

@@ -1,4 +1,6 @@
 use Rattle.std.proofs.Common.{◌≡◌, ℕ, suc, ◌+◌, ◌-◌, List, ◌∷◌, [], Option, Some, None, refl, sym, ap, ◌∙◌, subst, arith}
+use Rattle.schedule_file.specs.Lists.{fates_of}
+use Rattle.station_sim.specs.declared.sim.Sim.{Sim}
 use Rattle.station_sim.specs.Line.{waited}
 use Rattle.station_sim.specs.Standing.{StandsFor}
 use Rattle.schedule_replay.specs.Runs.{run_records, IsRun}
@@ -45,8 +47,8 @@ loop-preserved c =
     ap (λ (o : Option (List ℕ)). left_of period o (c.args.count - c.loop.counter)) c.in-Some.is ∙ ap (run_records period rec) some in
     record {
       left = next.0;
-      fates = c.due.ensures.fates ∙ c.loop.invariant.fates;
-      talk = c.due.ensures.talk ∙ c.loop.invariant.talk;
+      fates = ap (λ (s : Sim). fates_of s.fates) c.due.ensures.others ∙ c.loop.invariant.fates;
+      talk = ap (λ (s : Sim). s.talk.items) c.due.ensures.others ∙ c.loop.invariant.talk;
       stands = λ w s.
           let at = c.loop.invariant.stands w s in
           let v = at.0 in (
