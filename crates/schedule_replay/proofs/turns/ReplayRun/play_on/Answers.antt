@@ -1,4 +1,4 @@
-use Rattle.std.proofs.Common.{◌≡◌, ◌+◌, ◌++◌, [], true, false, Bool, List, None, Some, Option, inl, refl, length, sym, subst, ap, ◌∙◌, append-nil, arith, rules}
+use Rattle.std.proofs.Common.{◌≡◌, ◌+◌, ◌++◌, [], true, false, Bool, List, None, Some, Option, inl, length, sym, subst, ap, ◌∙◌, append-nil, arith, rules}
 use Rattle.std.specs.Prelude.{is_some}
 use Rattle.std.proofs.lemmas.Option.{same_Some}
 use Rattle.station_replay.specs.Replay.{Item, Stage, first, opened, start}
