@@ -4,7 +4,7 @@ use Rattle.settings_file.specs.StationSettings.{StationSettings}
 use Rattle.schedule_file.specs.Fates.{Fates}
 use Rattle.station_replay.specs.Schedule.{Stop, Step}
 use Rattle.station_replay.specs.Replay.{Rounded, Item, Stage, IsRound, Does, Runs, Opens, IsReplay, IsBegun, first, opened, stops_opening, closing}
-use Rattle.station_replay.specs.Kept.{AllRounds}
+use Rattle.station_replay.specs.Acknowledged.{AllRounds}
 
 module _ (settings : StationSettings) (P : Rounded → Type 0) (law : (f : Fates) (left : ℕ → List (List ℕ)) (stop : Option Stop) (s : Stage) (x : Rounded) (u : Stage) → IsRound settings f left stop s x u → P x) where
   joined : (xs ys : List Item) → AllRounds P xs → AllRounds P ys → AllRounds P (xs ++ ys)
@@ -12,7 +12,7 @@ module _ (settings : StationSettings) (P : Rounded → Type 0) (law : (f : Fates
   joined (Item.Opened rows n ∷ xs) ys h k = joined xs ys h k
   joined (Item.OpenStopped c rows ∷ xs) ys h k = joined xs ys h k
   joined (Item.Ran x ∷ xs) ys h k = (h.0, joined xs ys h.1 k)
-  joined (Item.Unsaid n u ∷ xs) ys h k = tt
+  joined (Item.Unsaid n u ∷ xs) ys h k = joined xs ys h k
   joined (Item.Ended rows ∷ xs) ys h k = joined xs ys h k
 
   -- an opening is no round

@@ -1,5 +1,5 @@
 -- The talk of a round's attempts, and what is unseen in it.
-use Rattle.std.proofs.Common.{◌≡◌, ℕ, ◌+◌, ◌⊎◌, inl, inr, List, [], ◌∷◌, ◌++◌, Option, Some, refl, sym, ◌∙◌, ap}
+use Rattle.std.proofs.Common.{◌≡◌, ℕ, ◌+◌, ◌⊎◌, inl, inr, List, [], ◌∷◌, Option, Some, refl, sym, ◌∙◌, ap}
 use Rattle.settings_file.specs.StationSettings.{StationSettings}
 use Rattle.station_session.specs.Attempts.{all_said}
 use Rattle.station_sim.specs.declared.unseen.Unseen.{Unseen}

@@ -13,7 +13,7 @@ use Rattle.dmpaft_driver.specs.OneAttempt.{Acknowledges}
 use Rattle.station_session.specs.Attempts.{Tried, kept_batches}
 use Rattle.station_session.specs.Records.{stored_rows}
 use Rattle.station_replay.specs.Round.{Attempted}
-use Rattle.station_replay.specs.Replay.{Rounded}
+use Rattle.station_replay.specs.Replay.{Rounded, Item}
 
 -- the rows behind some attempts of which each kept all its batches
 abbrev pub rows_behind : StationSettings → List Row → List Attempted → List Row
@@ -46,6 +46,15 @@ abbrev pub AreJustAcknowledged : Option CivilMinute → Tried → List (List (Li
 AreJustAcknowledged after t kept =
     (pages : List (List ℕ)) × AreAcknowledged (stamp_frame_of after) t.said t.place pages
     × (kept ≡ batches after t.place pages)
+
+-- each round of some items has this
+abbrev pub AllRounds : (Rounded → Type 0) → List Item → Type 0
+AllRounds p [] = Unit {0}
+AllRounds p (Item.Opened rows n ∷ items) = AllRounds p items
+AllRounds p (Item.OpenStopped change rows ∷ items) = AllRounds p items
+AllRounds p (Item.Ran round ∷ items) = p round × AllRounds p items
+AllRounds p (Item.Unsaid number which ∷ items) = AllRounds p items
+AllRounds p (Item.Ended rows ∷ items) = AllRounds p items
 
 -- in each attempt of a round just the batches of the acknowledged pages were kept, by the end that it answered
 abbrev pub KeepsJustAcknowledged : StationSettings → Rounded → Type 0

@@ -4,8 +4,7 @@ ghost use Rattle.settings_file.specs.StationSettings.{StationSettings};
 ghost use Rattle.dmpaft_driver.specs.Batch.{batches};
 ghost use Rattle.dmpaft_driver.specs.declared.outcome.DumpEnd.{DumpEnd};
 ghost use Rattle.station_session.specs.Attempts.{IsTried, Tried, kept_batches};
-ghost use Rattle.station_replay.specs.Acknowledged.{AreJustAcknowledged, KeepsJustAcknowledged, TakesOneMore};
-ghost use Rattle.station_replay.specs.Kept.{AllRounds};
+ghost use Rattle.station_replay.specs.Acknowledged.{AllRounds, AreJustAcknowledged, KeepsJustAcknowledged, TakesOneMore};
 ghost use Rattle.station_replay.specs.Replay.{IsBegun, IsReplay, Item, Stage};
 ghost use Rattle.station_replay.specs.Schedule.{Step};
 
