@@ -23,9 +23,7 @@ use Rattle.station_sim.specs.Delivery.{delivered}
 use Rattle.station_sim.specs.Joining.{and_then_some}
 use Rattle.station_sim.specs.Line.{Line, begins_with_ack, completes, counted, earlier, flies, from_console, from_host, happens, hears, is_harmed, joins, pages, passes, replied, says}
 use Rattle.station_sim.specs.Talk.{console_talk, started, step}
-use Rattle.station_replay.specs.Keeping.{Archive}
-use Rattle.station_replay.specs.Replay.{Breaks, IsBroken, Item, Stage}
-use Rattle.station_replay.specs.Round.{Attempted, Ending, Tries}
+use Rattle.station_replay.specs.Replay.{IsBroken, Item, Stage}
 use Rattle.station_replay.specs.Schedule.{Stop}
 use Rattle.station_replay.proofs.Framing.{hearing_is, waiting_is}
 use Rattle.made_run.proofs.Replies.{Fair, IsFair, fair_hear, fair_tick}
@@ -146,26 +144,9 @@ module _ (f : Fates) (plain : IsPlain f) where
       let o = tick w.console in
       goes_seen t g.0 v g.2 (ap (λ (x : Line). x.unseen) q.2 ∙ joins_seen o.kind o (flies w q.0) (fair_tick w.console) none)
 
-  tries_seen : (settings : StationSettings) (stop : Option Stop) (n m : ℕ) (a : Archive) (w : Line) (ts : List Attempted) (end : Ending) (kept at : Archive) (v : Line) → Tries settings f stop n m a w ts end kept at v → w.unseen ≡ None → v.unseen ≡ None
-  tries_seen settings stop n m a w [] end kept at v (three, gave, k, l, is) none = ap (λ (x : Line). x.unseen) is ∙ none
-  tries_seen settings stop n m a w (t ∷ ts) end kept at v (less, (x, b, k, inl (g, keeps, failed, again))) none = tries_seen settings stop (n + 1) g b x ts end kept at v again (goes_seen t.made.said w x k.talks none)
-  tries_seen settings stop n m a w (t ∷ ts) end kept at v (less, (x, b, k, inr (inl (g, keeps, whole, last, ok, kb, lb, is)))) none = ap (λ (y : Line). y.unseen) is ∙ goes_seen t.made.said w x k.talks none
-  tries_seen settings stop n m a w (t ∷ ts) end kept at v (less, (x, b, k, inr (inr (inl (keeps, refused, last, full, kb, lb, is))))) none = ap (λ (y : Line). y.unseen) is ∙ goes_seen t.made.said w x k.talks none
-  tries_seen settings stop n m a w (t ∷ ts) end kept at v (less, (x, b, k, inr (inr (inr (keeps, refused, last, stops, lb, is))))) none = ap (λ (y : Line). y.unseen) is ∙ goes_seen t.made.said w x k.talks none
-
-  breaks_seen : (settings : StationSettings) (stop : Option Stop) (n m : ℕ) (a : Archive) (w : Line) (ts : List Attempted) (v : Line) → Breaks settings f stop n m a w ts v → w.unseen ≡ None → v.unseen ≡ None
-  breaks_seen settings stop n m a w [] v h none = absurd h
-  breaks_seen settings stop n m a w (t ∷ ts) v (less, (x, b, k, inl (g, keeps, failed, again))) none = breaks_seen settings stop (n + 1) g b x ts v again (goes_seen t.made.said w x k.talks none)
-  breaks_seen settings stop n m a w (t ∷ ts) v (less, (x, b, k, inr (inl (g, keeps, flood, last, is)))) none = ap (λ (y : Line). y.unseen) is ∙ goes_seen t.made.said w x k.talks none
-  breaks_seen settings stop n m a w (t ∷ ts) v (less, (x, b, k, inr (inr (g, keeps, fault, last, is)))) none = ap (λ (y : Line). y.unseen) is ∙ goes_seen t.made.said w x k.talks none
-
   -- no round is broken by an unseen delivery
   pub none_broken : (settings : StationSettings) (stop : Option Stop) (s : Stage) (i : Item) → IsBroken settings f stop s i → ⊥
-  none_broken settings stop s i h = go h.tries
-    where
-      wrong : h.line.unseen ≡ None → ⊥
-      wrong none = let e : Some h.which ≡ None = sym h.unseen ∙ none in cc
-
-      go : ((end : Ending) × (kept : Archive) × (at : Archive) × Tries settings f stop 0 0 s.archive (started s.line) h.tried end kept at h.line) ⊎ Breaks settings f stop 0 0 s.archive (started s.line) h.tried h.line → ⊥
-      go (inl (end, kept, at, tries)) = wrong (tries_seen settings stop 0 0 s.archive (started s.line) h.tried end kept at h.line tries refl)
-      go (inr breaks) = wrong (breaks_seen settings stop 0 0 s.archive (started s.line) h.tried h.line breaks refl)
+  none_broken settings stop s i h =
+      let none : h.line.unseen ≡ None = goes_seen _ (started s.line) h.line h.talks refl in
+      let e : Some h.which ≡ None = sym h.unseen ∙ none in
+      cc

@@ -18,7 +18,7 @@ use Rattle.station_replay.specs.Replay.{Does, IsBegun, IsBroken, IsReplay, IsRou
 use Rattle.station_replay.specs.Room.{line_of, lines}
 use Rattle.station_replay.specs.Schedule.{IsSchedule, Step, Stop, records}
 use Rattle.station_replay.specs.Stopped.{IsStop}
-use Rattle.station_replay.specs.Texts.{tried_of}
+use Rattle.station_replay.specs.Round.{tried_of}
 use Rattle.station_replay.proofs.Leaving.{total_few}
 use Rattle.station_replay.proofs.Roomy.{room_law, round_in_run}
 use Rattle.station_replay.proofs.Running.{begun_law, schedules_law}

@@ -18,7 +18,7 @@ use Rattle.station_sim.specs.Standing.{StandsFor}
 use Rattle.station_replay.specs.Keeping.{Archive}
 use Rattle.station_replay.specs.Replay.{IsBroken, Item, Stage, after_round, first, is_stop, opened}
 use Rattle.station_replay.specs.Schedule.{Step, Stop, no_fates}
-use Rattle.station_replay.specs.Texts.{tried_of}
+use Rattle.station_replay.specs.Round.{tried_of}
 use Rattle.station_session.specs.Attempts.{all_said}
 use Rattle.station_replay.proofs.Leaving.{total_few}
 use Rattle.station_replay.proofs.Stops.{slots_is}

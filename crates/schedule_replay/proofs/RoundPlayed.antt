@@ -39,14 +39,13 @@ use Rattle.station_sim.specs.Standing.{StandsFor}
 use Rattle.station_sim.specs.Talk.{ConsoleTalk, started}
 use Rattle.station_sim.specs.Telling.{told}
 use Rattle.station_replay.specs.Keeping.{Archive}
-use Rattle.station_replay.specs.Round.{Attempted, Ending, finished}
+use Rattle.station_replay.specs.Round.{Attempted, Ending, finished, tried_of}
 use Rattle.station_replay.specs.Replay.{Item, Rounded, Stage, IsBroken, after_round, is_stop}
 use Rattle.station_replay.specs.Room.{AreFew}
 use Rattle.station_replay.specs.Schedule.{Stop}
 use Rattle.station_replay.specs.Session.{AreRound, EndsAs, IsKnown, NotPast, StopsAt, left_after}
 use Rattle.station_replay.specs.Stopped.{HasRoom, IsStop, armed_by}
-use Rattle.station_replay.specs.Texts.{tried_of}
-use Rattle.station_replay.proofs.Bridge.{broken_law, session_law}
+use Rattle.station_replay.proofs.Bridge.{session_law}
 use Rattle.station_replay.proofs.Passing.{calls_keep, chain_takes, round_passes}
 use Rattle.station_replay.proofs.Leaving.{all_read, kept_read, rows_after, total_few}
 use Rattle.station_replay.proofs.Stops.{chain_stopped, has_armed, has_length, round_goes, round_stops, round_sure, slots_is, changes_after, total_grows}
@@ -181,24 +180,17 @@ module _ (fates : code.Fates) (stop : Option Stop) (s0 s2 : Session) (l0 l1 l2 l
 
   -- a round with an unseen delivery
   broken : (which : Unseen) → went.0.unseen ≡ Some which → IsBroken (settings_of s0) (fates_of fates) stop s (Item.Unsaid (s.rounds + 1) which)
-  broken which un = by end refl
+  broken which un = record { tried = sv.tries; end = end; line = went.0; attempts = sv.attempts; talks = went.1; fits = fit; not_past = passes; ends = by end refl; which = which; unseen = un; is = refl }
     where
-      whole : end ≢ round_end.DiskFault → IsKnown end → IsBroken (settings_of s0) (fates_of fates) stop s (Item.Unsaid (s.rounds + 1) which)
-      whole none known =
-          let y = session_law (settings_of s0) (fates_of fates) stop s.archive (started s.line) went.0 sv.tries end sv.attempts fit went.1 known (record { before = passes; at = λ e. absurd (none e) }) in
-          record { tried = y.tried; line = went.0; tries = inl (y.ending, y.kept, y.left, y.tries); which = which; unseen = un; is = refl }
+      known : (e : RoundEnd) → end ≡ e → IsKnown e → IsKnown end ⊎ (end ≡ round_end.Flood)
+      known e is k = inl (subst IsKnown (sym is) k)
 
-      part : (end ≡ round_end.Flood) ⊎ (end ≡ round_end.DiskFault) → IsBroken (settings_of s0) (fates_of fates) stop s (Item.Unsaid (s.rounds + 1) which)
-      part how =
-          let y = broken_law (settings_of s0) (fates_of fates) stop s.archive (started s.line) went.0 sv.tries end sv.attempts fit went.1 how passes in
-          record { tried = y.0; line = went.0; tries = inr y.1; which = which; unseen = un; is = refl }
-
-      by : (e : RoundEnd) → end ≡ e → IsBroken (settings_of s0) (fates_of fates) stop s (Item.Unsaid (s.rounds + 1) which)
-      by round_end.Done e = whole (λ z. let y : round_end.Done ≡ round_end.DiskFault = sym e ∙ z in cc) (subst IsKnown (sym e) tt)
-      by round_end.GaveUp e = whole (λ z. let y : round_end.GaveUp ≡ round_end.DiskFault = sym e ∙ z in cc) (subst IsKnown (sym e) tt)
-      by round_end.ArchiveFull e = whole (λ z. let y : round_end.ArchiveFull ≡ round_end.DiskFault = sym e ∙ z in cc) (subst IsKnown (sym e) tt)
-      by round_end.Flood e = part (inl e)
-      by round_end.DiskFault e = part (inr e)
+      by : (e : RoundEnd) → end ≡ e → IsKnown end ⊎ (end ≡ round_end.Flood)
+      by round_end.Done e = known round_end.Done e tt
+      by round_end.GaveUp e = known round_end.GaveUp e tt
+      by round_end.ArchiveFull e = known round_end.ArchiveFull e tt
+      by round_end.DiskFault e = known round_end.DiskFault e tt
+      by round_end.Flood e = inr e
       by round_end.LinkFault e = absurd (not_link e)
       by round_end.Stale e = absurd (not_stale e)
       by round_end.OutOfMemory e = absurd (c.memory e)

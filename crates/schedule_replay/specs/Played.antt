@@ -23,7 +23,7 @@ use Rattle.station_replay.specs.Schedule.{Stop}
 use Rattle.station_replay.specs.Replay.{Item, Rounded, Stage, IsRound, IsBroken, is_stop}
 use Rattle.station_replay.specs.Room.{AreFew}
 use Rattle.station_replay.specs.Session.{EndsAs, given_in}
-use Rattle.station_replay.specs.Texts.{tried_of}
+use Rattle.station_replay.specs.Round.{tried_of}
 use Rattle.schedule_replay.specs.declared.playing.Played.{Played}
 use Rattle.schedule_replay.specs.Opening.{limits_of}
 use Rattle.schedule_replay.specs.Resting.{AtRest, GoesOn, IsRoomFor}

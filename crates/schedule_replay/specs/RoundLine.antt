@@ -1,9 +1,9 @@
 -- What a line tells of a round.
 use Rattle.std.specs.Prelude.{ℕ, ◌≡◌, false, List, ◌++◌, length, codes}
 use Rattle.station_session.specs.Attempts.{page_count, skip_count}
-use Rattle.station_replay.specs.Round.{Ending}
+use Rattle.station_replay.specs.Round.{Ending, tried_of}
 use Rattle.station_replay.specs.Replay.{Rounded, is_stop}
-use Rattle.station_replay.specs.Texts.{counted, ending_text, rows_counted, tried_of}
+use Rattle.station_replay.specs.Texts.{counted, ending_text, rows_counted}
 use Rattle.schedule_replay.specs.declared.round_line.RoundEnding.{RoundEnding}
 use Rattle.schedule_replay.specs.declared.round_line.RoundEnding.TheVariants.{Done, GaveUp, Full, Stopped}
 use Rattle.schedule_replay.specs.declared.round_line.RoundLine.{RoundLine}

@@ -20,7 +20,7 @@ use Rattle.station_replay.specs.Schedule.{Step, no_fates}
 use Rattle.station_replay.specs.Replay.{Does, Item, Rounded, Stage, is_stop, opened}
 use Rattle.station_replay.specs.Keeping.{Archive}
 use Rattle.station_replay.specs.Stopped.{IsStop}
-use Rattle.station_replay.specs.Texts.{tried_of}
+use Rattle.station_replay.specs.Round.{tried_of}
 use Rattle.schedule_replay.specs.declared.run.Run.{Run}
 use Rattle.schedule_replay.specs.Opening.{CanOpen, limits_of}
 use Rattle.schedule_replay.specs.Played.{Host, IsCounted, MayPlay}

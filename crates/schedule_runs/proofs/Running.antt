@@ -18,7 +18,7 @@ use Rattle.station_replay.specs.Replay.{Rounded, Item, Stage, on_line, opening, 
 use Rattle.station_replay.specs.Replay.{stops_opening, cut_short, Opens, is_stop, after_round, IsRound, Does, Runs}
 use Rattle.station_replay.specs.Replay.{IsBroken, closing, start, IsUnseen, IsReplay}
 use Rattle.station_replay.specs.Session.{NotPast, ComesAt, IsKnown, AreRound}
-use Rattle.station_replay.proofs.Bridge.{session_law, broken_law}
+use Rattle.station_replay.proofs.Bridge.{session_law}
 use Rattle.station_replay.proofs.Roomy.{round_in_run}
 use Rattle.schedule_runs.proofs.Rounding.{IsFollowed, Rounds, round_ends}
 
@@ -98,23 +98,19 @@ module _ (settings : StationSettings) where
     -- with one unseen the run ends there
     unseen_round : (s : Stage) (r : RoundFrom s) (which : Unseen) → r.line.unseen ≡ Some which
         → IsBroken settings f stop s (Item.Unsaid (s.rounds + 1) which)
-    unseen_round s r which unseen = by_end r.followed
-      where
-        by_end : IsFollowed r.end → IsBroken settings f stop s (Item.Unsaid (s.rounds + 1) which)
-        by_end (inl known) =
-            let y = known_round s r known in
-            record {
-              tried = y.tried;
-              line = r.line;
-              tries = inl (y.ending, y.kept, y.left, y.tries);
-              which = which;
-              unseen = unseen;
-              is = refl;
-            }
-        by_end (inr flood) =
-            let y = broken_law settings f stop s.archive (started s.line) r.line r.tried r.end r.attempts r.fits r.talks
-            (inl flood) (counted s r) in
-            record { tried = y.0; line = r.line; tries = inr y.1; which = which; unseen = unseen; is = refl }
+    unseen_round s r which unseen = record {
+      tried = r.tried;
+      end = r.end;
+      line = r.line;
+      attempts = r.attempts;
+      talks = r.talks;
+      fits = r.fits;
+      not_past = counted s r;
+      ends = r.followed;
+      which = which;
+      unseen = unseen;
+      is = refl;
+    }
 
   module _ (eeprom : List ℕ) (packet : LoopPacket) (steps : List Step) (ok : IsSchedule steps) where
     -- these steps give these items, and lead from the start to this stage

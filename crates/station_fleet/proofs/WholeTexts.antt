@@ -19,9 +19,9 @@ use Rattle.weather_reports.specs.Line.{line_of, lines_from, sum_line, sum_text}
 use Rattle.weather_reports.specs.Report.{all_day_lines, day_lines, later_lines}
 use Rattle.station_session.specs.Attempts.{page_count, skip_count}
 use Rattle.station_sim.specs.declared.unseen.Unseen.{Unseen}
-use Rattle.station_replay.specs.Round.{Ending}
+use Rattle.station_replay.specs.Round.{Ending, tried_of}
 use Rattle.station_replay.specs.Replay.{Item, Rounded}
-use Rattle.station_replay.specs.Texts.{counted, days_text, end_line, ending_text, open_line, open_stop_line, round_line, rows_behind, rows_counted, rows_text, side_text, text, text_of, tried_of, unseen_line}
+use Rattle.station_replay.specs.Texts.{counted, days_text, end_line, ending_text, open_line, open_stop_line, round_line, rows_behind, rows_counted, rows_text, side_text, text, text_of, unseen_line}
 
 -- Behind these bytes a line begins, wherever the first of them stands.
 record Closes (bytes : List ℕ) : Type 0 where

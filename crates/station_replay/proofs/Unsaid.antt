@@ -1,5 +1,5 @@
 -- The talk of a round's attempts, and what is unseen in it.
-use Rattle.std.proofs.Common.{◌≡◌, ℕ, ◌+◌, ◌⊎◌, inl, inr, List, [], ◌∷◌, Option, Some, refl, sym, ◌∙◌, ap}
+use Rattle.std.proofs.Common.{◌≡◌, ℕ, ◌+◌, inl, inr, List, [], ◌∷◌, Option, Some, refl, sym, ◌∙◌, ap}
 use Rattle.settings_file.specs.StationSettings.{StationSettings}
 use Rattle.station_session.specs.Attempts.{all_said}
 use Rattle.station_sim.specs.declared.unseen.Unseen.{Unseen}
@@ -10,10 +10,9 @@ use Rattle.station_sim.specs.Talk.{ConsoleTalk, console_talk, started}
 use Rattle.station_sim.specs.UnseenTalk.{HasUnseen}
 use Rattle.station_sim.proofs.UnseenTalk.{talk_names, talk_none}
 use Rattle.station_replay.specs.Keeping.{Archive}
-use Rattle.station_replay.specs.Replay.{Breaks, IsBroken, IsRound, Item, Rounded, Stage}
-use Rattle.station_replay.specs.Round.{Attempted, Ending, Tries}
+use Rattle.station_replay.specs.Replay.{IsBroken, IsRound, Item, Rounded, Stage}
+use Rattle.station_replay.specs.Round.{Attempted, Ending, Tries, tried_of}
 use Rattle.station_replay.specs.Schedule.{Stop}
-use Rattle.station_replay.specs.Texts.{tried_of}
 
 -- the talk of an attempt that is the last
 last_talk : (f : Fates) (t : Attempted) (ts : List Attempted) (w x v : Line) → ConsoleTalk f t.made.said w x → ts ≡ [] → v ≡ x → ConsoleTalk f (all_said (tried_of (t ∷ ts))) w v
@@ -31,24 +30,9 @@ module _ (settings : StationSettings) (f : Fates) (stop : Option Stop) where
   tries_talk n m a w (t ∷ ts) end kept at v (less, (x, b, k, inr (inr (inl (keeps, refused, last, full, kb, lb, is))))) = last_talk f t ts w x v k.talks last is
   tries_talk n m a w (t ∷ ts) end kept at v (less, (x, b, k, inr (inr (inr (keeps, refused, last, stops, lb, is))))) = last_talk f t ts w x v k.talks last is
 
-  breaks_talk : (n m : ℕ) (a : Archive) (w : Line) (ts : List Attempted) (v : Line) → Breaks settings f stop n m a w ts v → ConsoleTalk f (all_said (tried_of ts)) w v
-  breaks_talk n m a w [] v h = absurd h
-  breaks_talk n m a w (t ∷ ts) v (less, (x, b, k, inl (g, keeps, failed, again))) =
-      talks_join f t.made.said (all_said (tried_of ts)) w x v k.talks (breaks_talk (n + 1) g b x ts v again)
-  breaks_talk n m a w (t ∷ ts) v (less, (x, b, k, inr (inl (g, keeps, flood, last, is)))) = last_talk f t ts w x v k.talks last is
-  breaks_talk n m a w (t ∷ ts) v (less, (x, b, k, inr (inr (g, keeps, fault, last, is)))) = last_talk f t ts w x v k.talks last is
-
   -- a round that an unseen delivery broke names one of its own
-  pub broken_names : (s : Stage) (i : Item) → (broken : IsBroken settings f stop s i) → HasUnseen f (all_said (tried_of broken.tried)) (started s.line) broken.which
-  broken_names s i broken = by broken.tries
-    where
-      named : ConsoleTalk f (all_said (tried_of broken.tried)) (started s.line) broken.line → HasUnseen f (all_said (tried_of broken.tried)) (started s.line) broken.which
-      named talk = talk_names f (all_said (tried_of broken.tried)) (started s.line) broken.line broken.which refl talk broken.unseen
-
-      by : ((end : Ending) × (kept : Archive) × (at : Archive) × Tries settings f stop 0 0 s.archive (started s.line) broken.tried end kept at broken.line) ⊎ Breaks settings f stop 0 0 s.archive (started s.line) broken.tried broken.line
-          → HasUnseen f (all_said (tried_of broken.tried)) (started s.line) broken.which
-      by (inl (end, kept, at, tries)) = named (tries_talk 0 0 s.archive (started s.line) broken.tried end kept at broken.line tries)
-      by (inr breaks) = named (breaks_talk 0 0 s.archive (started s.line) broken.tried broken.line breaks)
+  pub broken_names : (s : Stage) (i : Item) → (broken : IsBroken settings f stop s i) → HasUnseen f (all_said broken.tried) (started s.line) broken.which
+  broken_names s i broken = talk_names f (all_said broken.tried) (started s.line) broken.line broken.which refl broken.talks broken.unseen
 
   -- and another round has none
   pub round_none : (left : ℕ → List (List ℕ)) (s u : Stage) (r : Rounded) → IsRound settings f left stop s r u → (which : Unseen) → ¬ (HasUnseen f (all_said (tried_of r.tried)) (started s.line) which)

@@ -7,14 +7,14 @@ ghost use Rattle.station_sim.specs.Talk.{started};
 ghost use Rattle.station_sim.specs.UnseenTalk.{HasUnseen};
 ghost use Rattle.station_replay.specs.Schedule.{Stop};
 ghost use Rattle.station_replay.specs.Replay.{IsBroken, IsRound, Item, Rounded, Stage};
-ghost use Rattle.station_replay.specs.Texts.{tried_of};
+ghost use Rattle.station_replay.specs.Round.{tried_of};
 
 /// A run ends at a round just for an unseen delivery: what such a round names is one of the unseen deliveries of its attempts, and a
 /// round that a run goes on from has none.
 pub fn unseen_rounds()
     ensures named { (settings : StationSettings) (f : Fates) (stop : Option Stop) (s : Stage) (i : Item)
         → (broken : IsBroken settings f stop s i)
-        → HasUnseen f (all_said (tried_of broken.tried)) (started s.line) broken.which }
+        → HasUnseen f (all_said broken.tried) (started s.line) broken.which }
     ensures none { (settings : StationSettings) (f : Fates) (left : ℕ → List (List ℕ)) (stop : Option Stop) (s u : Stage) (r : Rounded)
         → IsRound settings f left stop s r u → (which : Unseen)
         → ¬ (HasUnseen f (all_said (tried_of r.tried)) (started s.line) which) }
