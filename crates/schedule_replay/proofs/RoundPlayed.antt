@@ -40,7 +40,7 @@ use Rattle.station_sim.specs.Talk.{ConsoleTalk, started}
 use Rattle.station_sim.specs.Telling.{told}
 use Rattle.station_replay.specs.Keeping.{Archive}
 use Rattle.station_replay.specs.Round.{Attempted, Ending, finished, tried_of}
-use Rattle.station_replay.specs.Replay.{Item, Rounded, Stage, IsBroken, after_round, is_stop}
+use Rattle.station_replay.specs.Replay.{Item, Rounded, Stage, IsBroken, after_round, is_stop, left_by_round}
 use Rattle.station_replay.specs.Room.{AreFew}
 use Rattle.station_replay.specs.Schedule.{Stop}
 use Rattle.station_replay.specs.Session.{AreRound, EndsAs, IsKnown, NotPast, StopsAt, left_after}
@@ -235,20 +235,20 @@ module _ (fates : code.Fates) (stop : Option Stop) (s0 s2 : Session) (l0 l1 l2 l
   begun_changes = c.stays.at ∙ may.disk.rests.changes_are
 
   -- a round without unseen delivery, its disk and its session being as it leaves them
-  played_out : (y : AreRound (settings_of s0) (fates_of fates) stop 0 0 s.archive (started s.line) sv.tries end went.0) → went.0.unseen ≡ None → AtRest openings y.left d3 → limits_of d3 ≡ limits_of d0
-      → (is_stop y.ending ≡ false → GoesOn (settings_of s0) y.left.rows s2 d3)
+  played_out : (y : AreRound (settings_of s0) (fates_of fates) stop s.archive (started s.line) sv.tries end went.0) → StopsAt stop end (kept_count (batches_given sv.tries)) → went.0.unseen ≡ None → AtRest openings (left_by_round (settings_of s0) stop s sv.tries) d3 → limits_of d3 ≡ limits_of d0
+      → (is_stop y.ending ≡ false → GoesOn (settings_of s0) (left_by_round (settings_of s0) stop s sv.tries).rows s2 d3)
       → IsPlayedOut (settings_of s0) (fates_of fates) (left_in fates.mids.items) stop openings s (round_host s0 l0 d0) (record { end = end; report = report; harmed = harmed; unseen = unseen }) (round_host s2 l3 d3)
-  played_out y un rest limits goes =
+  played_out y at un rest limits goes =
       let fin = finished (left_in fates.mids.items) went.0 in
-      let r : Rounded = record { number = s.rounds + 1; tried = y.tried; end = y.ending; before = s.archive.rows; kept = y.kept.rows; rows = y.left.rows; harmed = went.0.harmed; written = s.written } in
-      let arc = archive_after (is_stop y.ending) s y.left fin in
+      let r : Rounded = record { number = s.rounds + 1; tried = y.tried; end = y.ending; before = s.archive.rows; kept = s.archive.rows ++ stored_rows (settings_of s0) (kept_records (batches_given sv.tries)); rows = (left_by_round (settings_of s0) stop s sv.tries).rows; harmed = went.0.harmed; written = s.written } in
+      let arc = archive_after (is_stop y.ending) s (left_by_round (settings_of s0) stop s sv.tries) fin in
       let kept_rows = kept_read (batches_given sv.tries) (all_read (last_stamp s.archive.rows) sv.tries) in
       let count = same_count (settings_of s0) (kept_records (batches_given sv.tries)) kept_rows in
-      let long = ap length y.rows ∙ length-append s.archive.rows (stored_rows (settings_of s0) (kept_records (batches_given sv.tries))) in
+      let long = length-append s.archive.rows (stored_rows (settings_of s0) (kept_records (batches_given sv.tries))) in
       record {
         round = r;
-        next = after_round (is_stop y.ending) s y.left fin;
-        is_round = record { kept = y.kept; archive = y.left; line = went.0; tries = y.tries; seen = un; is = refl; next = refl };
+        next = after_round (is_stop y.ending) s (left_by_round (settings_of s0) stop s sv.tries) fin;
+        is_round = record { made = sv.tries; end = end; line = went.0; attempts = sv.attempts; fits = fit; stops = at; ends = y.ends; made_are = y.made; told = y.told; seen = un; is = refl; next = refl };
         tells = record {
           attempts = sv.made ∙ ap length (sym y.made) ∙ tried_count y.tried;
           pages = sv.tally.pages ∙ ap page_count (sym y.made);
@@ -258,7 +258,7 @@ module _ (fates : code.Fates) (stop : Option Stop) (s0 s2 : Session) (l0 l1 l2 l
           ends = y.ends;
         };
         said = c.said_after ∙ same_Some _ _ sv.adds.told ∙ ap (λ x. x ++ all_said sv.tries) c.said_before ∙ ap (λ x. l0.talk.items ++ all_said x) (sym y.made);
-        line = subst (StandsFor l3) (sym (line_after (is_stop y.ending) s y.left fin)) finished_line;
+        line = subst (StandsFor l3) (sym (line_after (is_stop y.ending) s (left_by_round (settings_of s0) stop s sv.tries) fin)) finished_line;
         disk = subst (λ (x : Archive). AtRest openings x d3) (sym arc) rest;
         limits = limits;
         session = λ still. subst (λ (x : Archive). GoesOn (settings_of s0) x.rows s2 d3) (sym arc) (goes still);
@@ -311,13 +311,13 @@ module _ (fates : code.Fates) (stop : Option Stop) (s0 s2 : Session) (l0 l1 l2 l
           bytes = omega (arith, limit_bytes, at_bytes, takes.bytes, bytes_same, may.disk.room.bytes, slots_new, slots_old, long, count, few.kept);
         };
       } in
-      played_out y un (subst (λ (z : Archive). AtRest openings z d3) (sym y.left_is) rest) limits_are
-      (λ still. subst (λ (z : Archive). GoesOn (settings_of s0) z.rows s2 d3) (sym y.left_is) (record {
+      played_out y q.0 un rest limits_are
+      (λ still. record {
         stands = subst (StandsOn stopping_medium (book_of s2) d3) (sym rows_are) (stands_stays (book_of s2) d2 d3 (rows_with (settings_of s0) s.archive.rows (batches_given sv.tries)) on2 off.stays);
         settings_are = c.leaves.settings;
         most = c.leaves.most ∙ may.session.most;
         fresh = c.leaves.marked ∙ stale_as end _ none ∙ may.session.fresh;
-      }))
+      })
 
   -- a round that a stop ended
   stopped_at : (k : Stop) → stop ≡ Some k → went.0.unseen ≡ None → end ≡ round_end.DiskFault → AreFew records s.archive.rows (batches_given sv.tries)
@@ -339,7 +339,7 @@ module _ (fates : code.Fates) (stop : Option Stop) (s0 s2 : Session) (l0 l1 l2 l
       let stops_at : StopsAt stop end (kept_count (batches_given sv.tries))
       = subst (λ (z : Option Stop). StopsAt z end (kept_count (batches_given sv.tries))) (sym stop_is) (subst (λ (e : RoundEnd). StopsAt (Some k) e (kept_count (batches_given sv.tries))) (sym is) q.0) in
       let y = session_law (settings_of s0) (fates_of fates) stop s.archive (started s.line) went.0 sv.tries end sv.attempts fit went.1 (subst IsKnown (sym is) tt) stops_at in
-      let left_is : y.left ≡ left_after (settings_of s0) (Some k) 0 s.archive (batches_given sv.tries) = y.left_is ∙ ap (λ (z : Option Stop). left_after (settings_of s0) z 0 s.archive (batches_given sv.tries)) stop_is in
+      let left_is : left_by_round (settings_of s0) stop s sv.tries ≡ left_after (settings_of s0) (Some k) 0 s.archive (batches_given sv.tries) = ap (λ (z : Option Stop). left_after (settings_of s0) z 0 s.archive (batches_given sv.tries)) stop_is in
       let ends : EndsAs (Some k) round_end.DiskFault y.ending = subst (λ (e : RoundEnd). EndsAs (Some k) e y.ending) is (subst (λ (z : Option Stop). EndsAs z end y.ending) stop_is y.ends) in
       let keeps = calls_keep (changes_for (settings_of s0) sv.stores.failed s.archive.rows (batches_given sv.tries)) (stopping_state_of d1) (stopping_state_of d2) sv.stores.went_on.state in
       let limits_are : limits_of d3 ≡ limits_of d0 = ap (λ (z : StoppingState). z.inner.limits) again.state ∙ keeps.limits ∙ ap (λ z. z.limits) inner_same in
@@ -368,7 +368,7 @@ module _ (fates : code.Fates) (stop : Option Stop) (s0 s2 : Session) (l0 l1 l2 l
           bytes = omega (arith, at_bytes, ap (λ z. z.bytes) limits_same);
         };
       } in
-      played_out y un (subst (λ (z : Archive). AtRest openings z d3) (sym left_is) rest) limits_are
+      played_out y stops_at un (subst (λ (z : Archive). AtRest openings z d3) (sym left_is) rest) limits_are
       (λ still. absurd (let z : is_stop (Ending.Stopped k.change) ≡ false = ap is_stop (sym ends) ∙ still in cc))
 
   -- a round of whichever end

@@ -7,7 +7,8 @@ use Rattle.weather_book.specs.Rising.{last_stamp}
 use Rattle.station_session.specs.declared.round_end.RoundEnd.{RoundEnd}
 use Rattle.station_session.specs.declared.round_end.RoundEnd.TheVariants as round_end
 use Rattle.station_session.specs.Attempts.{all_batches}
-use Rattle.station_session.specs.Batches.{kept_count}
+use Rattle.station_session.specs.Batches.{kept_count, kept_records}
+use Rattle.station_session.specs.Records.{stored_rows}
 use Rattle.station_sim.specs.declared.unseen.Unseen.{Unseen}
 use Rattle.schedule_file.specs.Fates.{Fates}
 use Rattle.station_sim.specs.Line.{waited}
@@ -15,9 +16,9 @@ use Rattle.station_sim.specs.Talk.{idles, started}
 use Rattle.station_replay.specs.Schedule.{Stop, Step, IsSchedule, no_fates}
 use Rattle.station_replay.specs.Round.{finished}
 use Rattle.station_replay.specs.Replay.{Rounded, Item, Stage, on_line, opening, opened, recovered, first}
-use Rattle.station_replay.specs.Replay.{stops_opening, cut_short, Opens, is_stop, after_round, IsRound, Does, Runs}
+use Rattle.station_replay.specs.Replay.{stops_opening, cut_short, Opens, is_stop, after_round, left_by_round, IsRound, Does, Runs}
 use Rattle.station_replay.specs.Replay.{IsBroken, closing, start, IsUnseen, IsReplay}
-use Rattle.station_replay.specs.Session.{NotPast, ComesAt, IsKnown, AreRound}
+use Rattle.station_replay.specs.Session.{NotPast, ComesAt, IsKnown, StopsAt}
 use Rattle.station_replay.proofs.Bridge.{session_law}
 use Rattle.station_replay.proofs.Roomy.{round_in_run}
 use Rattle.schedule_runs.proofs.Rounding.{IsFollowed, Rounds, round_ends}
@@ -59,36 +60,42 @@ module _ (settings : StationSettings) where
         let n = kept_count (all_batches (last_stamp s.archive.rows) r.tried) in
         let same : 0 + n ≡ n = omega arith in subst (NotPast stop) same r.not_past
 
-    -- it is one of a run, where its end is known
-    known_round : (s : Stage) (r : RoundFrom s) → IsKnown r.end
-        → AreRound settings f stop 0 0 s.archive (started s.line) r.tried r.end r.line
-    known_round s r known =
+    -- a fault of the disk is the stop
+    stopped : (s : Stage) (r : RoundFrom s) → StopsAt stop r.end (kept_count (all_batches (last_stamp s.archive.rows) r.tried))
+    stopped s r =
         let n = kept_count (all_batches (last_stamp s.archive.rows) r.tried) in
         let same : 0 + n ≡ n = omega arith in
-        session_law settings f stop s.archive (started s.line) r.line r.tried r.end r.attempts r.fits r.talks known
-        (record { before = counted s r; at = λ e. subst (ComesAt stop) same (r.at e) })
+        record { before = counted s r; at = λ e. subst (ComesAt stop) same (r.at e) }
 
-    -- with no delivery unseen it gives an item
+    -- with no delivery unseen it gives an item, where its end is known
     seen_round : (s : Stage) (r : RoundFrom s) → IsKnown r.end → r.line.unseen ≡ None
         → (x : Rounded) × (u : Stage) × IsRound settings f left stop s x u
     seen_round s r known seen =
-        let y = known_round s r known in (
+        let y = session_law settings f stop s.archive (started s.line) r.line r.tried r.end r.attempts r.fits r.talks known
+        (stopped s r) in
+        let behind = left_by_round settings stop s r.tried in (
           record {
             number = s.rounds + 1;
             tried = y.tried;
             end = y.ending;
             before = s.archive.rows;
-            kept = y.kept.rows;
-            rows = y.left.rows;
+            kept = s.archive.rows
+                ++ stored_rows settings (kept_records (all_batches (last_stamp s.archive.rows) r.tried));
+            rows = behind.rows;
             harmed = r.line.harmed;
             written = s.written;
           },
-          after_round (is_stop y.ending) s y.left (finished left r.line),
+          after_round (is_stop y.ending) s behind (finished left r.line),
           record {
-            kept = y.kept;
-            archive = y.left;
+            made = r.tried;
+            end = r.end;
             line = r.line;
-            tries = y.tries;
+            attempts = r.attempts;
+            fits = r.fits;
+            stops = stopped s r;
+            ends = y.ends;
+            made_are = y.made;
+            told = y.told;
             seen = seen;
             is = refl;
             next = refl;

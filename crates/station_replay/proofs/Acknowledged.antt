@@ -28,8 +28,10 @@ use Rattle.station_sim.specs.Line.{Line}
 use Rattle.station_sim.specs.Talk.{started}
 use Rattle.station_replay.specs.Acknowledged.{rows_behind, rows_with, KeepsAcknowledged, AreAcknowledged, AreJustAcknowledged, KeepsJustAcknowledged, TakesOneMore}
 use Rattle.station_replay.specs.Schedule.{Stop}
-use Rattle.station_replay.specs.Keeping.{Archive, Keeping}
-use Rattle.station_replay.specs.Round.{Ending, Attempted, Tries}
+use Rattle.station_replay.specs.Keeping.{Archive}
+use Rattle.station_replay.proofs.Trying.{Keeping, Tries}
+use Rattle.station_replay.proofs.Bridge.{followed}
+use Rattle.station_replay.specs.Round.{Ending, Attempted}
 use Rattle.station_replay.specs.Replay.{Rounded, Stage, IsRound}
 use Rattle.station_replay.specs.Kept.{AreFront}
 use Rattle.station_replay.proofs.Giving.{and_rows, Parted, keeps_part}
@@ -147,9 +149,10 @@ module _ (settings : StationSettings) (f : Fates) (stop : Option Stop) where
   -- each attempt of a round by the rules
   round_within : (left : ℕ → List (List ℕ)) (s : Stage) (x : Rounded) (u : Stage) → IsRound settings f left stop s x u → (earlier : List Attempted) (t : Attempted) (later : List Attempted) → x.tried ≡ earlier ++ t ∷ later
       → Within settings (rows_behind settings x.before earlier) t x.kept
-  round_within left s x u k earlier t later is =
-      let before : x.before ≡ s.archive.rows = ap (λ (y : Rounded). y.before) k.is in
-      let kept : x.kept ≡ k.kept.rows = ap (λ (y : Rounded). y.kept) k.is in
+  round_within left s x u round earlier t later is =
+      let k = followed settings f stop left s x u round in
+      let before : x.before ≡ s.archive.rows = k.before_is in
+      let kept : x.kept ≡ k.kept.rows = k.kept_is in
       let w = within 0 0 s.archive (started s.line) x.tried x.end k.kept k.archive k.line k.tries earlier t later is in
       subst (λ (rows : List Row). Within settings (rows_behind settings rows earlier) t x.kept) (sym before) (subst (λ (rows : List Row). Within settings (rows_behind settings s.archive.rows earlier) t rows) (sym kept) w)
 

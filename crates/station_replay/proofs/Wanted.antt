@@ -170,7 +170,7 @@ module _ (settings : StationSettings) (f : Fates) (ok : AreSound f) (left : ℕ 
       let o = went settings f None m a w p.0 t tried none parts.0 tt p.1 in
       let plain : IsPlain o.x.made.end = subst IsPlain (sym o.failed.1) tt in
       let u = goes_unseen f (all_said ts) p.0 v p.2 un in
-      let k = keeps_part settings None m a o.x.batches (Rattle.station_replay.specs.Keeping.Keeping.Goes o.count o.b) o.keeps in
+      let k = keeps_part settings None m a o.x.batches (Rattle.station_replay.proofs.Trying.Keeping.Goes o.count o.b) o.keeps in
       let one = one_law settings f ok left falls all up r more whole a.rows o.b.rows w p.0 o.x calm sound now (stamp_of settings r rises are d a.rows g) o.is_attempted plain u (records_in o.x.batches) k.0 ([], append-nil (records_in o.x.batches)) in
       let q = round_few (n + 1) o.count (d ++ pairs_of o.x.dumps o.x.gained) o.b p.0 v ts end
       (subst (λ z. Attempts (n + 1) z ts end) o.stamp again)

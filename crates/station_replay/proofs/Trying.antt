@@ -1,0 +1,65 @@
+-- The attempts of a round of a run, batch after batch, as the laws of a run take them.
+use Rattle.std.proofs.Common.{◌≡◌, ℕ, ◌+◌, ◌-◌, ◌/◌, ◌<◌, ◌==◌, Bool, true, false, if◌then◌else◌, ◌⊎◌, List, [], ◌∷◌, length, Option, Some, None}
+use Rattle.std.specs.Prelude.{nat_lt}
+use Rattle.settings_file.specs.StationSettings.{StationSettings}
+use Rattle.dmpaft_driver.specs.declared.outcome.DumpEnd.TheVariants as dump_end
+use Rattle.dmpaft_driver.specs.declared.outcome.Trouble.{Trouble}
+use Rattle.schedule_file.specs.Fates.{Fates}
+use Rattle.station_sim.specs.Line.{Line}
+use Rattle.station_replay.specs.Schedule.{Stop}
+use Rattle.station_replay.specs.Keeping.{Archive, appended, stopped, with_batch}
+use Rattle.station_replay.specs.Round.{Ending, Attempted, IsAttempted, EndsStopped}
+
+-- what becomes of a batch
+pub data Answer : Type 0 where
+  Stored : (archive : Archive) → Answer
+  Full : Answer
+  Stops : (archive : Archive) → Answer
+
+-- the stop, where it comes within the batch after so many
+abbrev pub reached : Option Stop → ℕ → Option Stop
+reached None stored = None
+reached (Some s) stored = if (s.change - 1) / 4 == stored then Some s else None
+
+abbrev pub answer_by : Bool → Option Stop → StationSettings → ℕ → Archive → List (List ℕ) → Answer
+answer_by true s settings stored a batch = Full
+answer_by false None settings stored a batch = Stored (appended settings a batch)
+answer_by false (Some s) settings stored a batch = Stops (stopped settings s stored a batch)
+
+-- a batch, so many stored before it in this round: it is judged as full before the stop
+abbrev pub answer : StationSettings → Option Stop → ℕ → Archive → List (List ℕ) → Answer
+answer settings stop stored a batch = answer_by (nat_lt settings.most (length (with_batch settings a batch)))
+    (reached stop stored) settings stored a batch
+
+-- how the keeping of an attempt's batches ends: all stored, or a refusal at the last
+pub data Keeping : Type 0 where
+  Goes : (stored : ℕ) → (archive : Archive) → Keeping
+  Fills : (archive : Archive) → Keeping
+  -- what stood before the batch of the stop, and what the stop left
+  Breaks : (before : Archive) → (after : Archive) → Keeping
+
+-- the batches of an attempt, one after another
+abbrev pub Keeps : StationSettings → Option Stop → ℕ → Archive → List (List (List ℕ)) → Keeping → Type 0
+Keeps settings stop stored a [] k = k ≡ Keeping.Goes stored a
+Keeps settings stop stored a (batch ∷ more) k =
+    ((b : Archive) × (answer settings stop stored a batch ≡ Answer.Stored b)
+    × Keeps settings stop (stored + 1) b more k)
+    ⊎ ((answer settings stop stored a batch ≡ Answer.Full) × (more ≡ []) × (k ≡ Keeping.Fills a))
+    ⊎ ((b : Archive) × (answer settings stop stored a batch ≡ Answer.Stops b) × (more ≡ []) × (k ≡ Keeping.Breaks a b))
+
+-- The attempts of a round from here, n made and so many batches stored before: how it ends, what
+-- was kept before the end, what is left of the archive, and the line.
+abbrev pub Tries : StationSettings → Fates → Option Stop → ℕ → ℕ → Archive → Line → List Attempted → Ending
+    → Archive → Archive → Line → Type 0
+Tries settings f stop n stored a w [] end kept left v = (n ≡ 3) × (end ≡ Ending.GaveUp) × (kept ≡ a) × (left ≡ a)
+    × (v ≡ w)
+Tries settings f stop n stored a w (t ∷ ts) end kept left v = (n < 3) × ((u : Line) × (b : Archive)
+    × IsAttempted f a.rows w t b.rows u
+    × (((m : ℕ) × Keeps settings stop stored a t.batches (Keeping.Goes m b) × ((trouble : Trouble) × (t.made.end
+    ≡ dump_end.Failed trouble)) × Tries settings f stop (n + 1) m b u ts end kept left v)
+    ⊎ ((m : ℕ) × Keeps settings stop stored a t.batches (Keeping.Goes m b) × (t.made.end ≡ dump_end.Whole) × (ts
+    ≡ []) × (end ≡ Ending.Ok) × (kept ≡ b) × (left ≡ b) × (v ≡ u))
+    ⊎ (Keeps settings stop stored a t.batches (Keeping.Fills b) × (t.made.end ≡ dump_end.Full) × (ts ≡ []) × (end
+    ≡ Ending.Full) × (kept ≡ b) × (left ≡ b) × (v ≡ u))
+    ⊎ (Keeps settings stop stored a t.batches (Keeping.Breaks kept b) × (t.made.end ≡ dump_end.DiskFault) × (ts
+    ≡ []) × EndsStopped stop end × (left ≡ b) × (v ≡ u))))
