@@ -1,23 +1,22 @@
 -- The summary of rows that were measured: its bounds, and the types of its numbers.
-use Rattle.std.proofs.Common.{◌≡◌, ◌⊎◌, inl, inr, ℕ, ℤ, pos, zero, suc, ◌+◌, ◌*◌, ◌^◌, ◌≤◌, ◌<◌, Bool, true, false, cond, List, [], ◌∷◌, length, get_or, Option, Some, None, refl, ap, sym, subst, ◌∙◌, arith}
-use Rattle.std.specs.Prelude.{All, IfSome, FitsSigned, unsigned_abs, int_lt, ◌+ℤ◌, ◌*ℤ◌}
-use Rattle.std.specs.Int.{w32, w64}
+use Rattle.std.proofs.Common.{◌≡◌, ◌⊎◌, inl, inr, ℕ, ℤ, pos, suc, ◌+◌, ◌*◌, ◌≤◌, ◌<◌, Bool, true, false, cond, List, [], ◌∷◌, length, get_or, Option, Some, None, sym, subst, arith}
+use Rattle.std.specs.Prelude.{All, IfSome, unsigned_abs, int_lt, ◌*ℤ◌}
+use Rattle.std.specs.Int.{w32}
 use Rattle.std.proofs.lemmas.Bool.{cases_lt}
 use Rattle.std.proofs.Math.ListN.{get_or-eq_default}
 use Rattle.std.proofs.lemmas.Int.{fits_signed_from_abs}
-use Rattle.std.proofs.lemmas.List.Elements.{All-cons, All-nil, All-head, All-tail}
+use Rattle.std.proofs.lemmas.List.Elements.{All-head, All-tail}
 use Rattle.std.proofs.lemmas.List.FromFn.{length-map-range_with_len}
 use Rattle.std.proofs.lemmas.List.Sums.{sum_by-cons}
-use Rattle.station_base.specs.CivilMinute.{CivilMinute, IsCivilMinute}
+use Rattle.station_base.specs.CivilMinute.{IsCivilMinute}
 use Rattle.station_base.specs.RowLine.{IsPrintable}
 use Rattle.station_base.proofs.Periods.{period_bound}
 use Rattle.station_base.specs.declared.row.Row.{Row}
 use Rattle.daily_summary.specs.declared.field_sum.FieldSum.{FieldSum}
-use Rattle.daily_summary.specs.declared.summary.DaySummary.{DaySummary}
-use Rattle.daily_summary.specs.Bounds.{IsSum, IsSumOf, IsInBounds}
+use Rattle.daily_summary.specs.Bounds.{IsSumOf, IsInBounds}
 use Rattle.daily_summary.specs.Measured.{IsMeasured}
 use Rattle.daily_summary.specs.Parts.{IsTyped, AreTyped}
-use Rattle.daily_summary.specs.Readings.{Reading, reading, value_of, with_value, readings, lesser, greater, least, greatest, total, weighted, time}
+use Rattle.daily_summary.specs.Readings.{Reading, value_of, with_value, readings, least, greatest, total, weighted, time}
 use Rattle.daily_summary.specs.Summary.{field_sum, summary_of}
 use Rattle.daily_summary.proofs.Fields.{field_is, printable_at}
 use Rattle.daily_summary.proofs.Summing.{abs_add, near, near_times, fits_below, least_period}

@@ -1,7 +1,8 @@
-ghost use Rattle.std.specs.Prelude.{◌≡◌, ◌+◌, ◌≤◌, Some, IfSome, int_lt, if◌then◌else◌};
+ghost use Rattle.std.specs.Prelude.{◌≡◌, ◌+◌, ◌*◌, ◌≤◌, ◌<◌, Some, IfSome, int_lt, if◌then◌else◌};
+ghost use Rattle.station_base.specs.Period.{IsPeriod};
 ghost use Rattle.station_base.specs.RowLine.{IsPrintable};
 ghost use Rattle.daily_summary.specs.Bounds.{IsSum, IsSumOf};
-ghost use Rattle.daily_summary.specs.Joined.{count_of, joined, merged, sum_of_row, sum_of_value};
+ghost use Rattle.daily_summary.specs.Joined.{AreEqualButGreatest, AreEqualButLeast, count_of, joined, merged, sum_of_row, sum_of_value};
 
 use station_base::{Row, Stamp};
 
@@ -28,13 +29,21 @@ pub struct FieldSum {
     pub sumtime: u64,
 }
 
+// How many seconds a value of a row weighs.
+fn seconds_of(row: &Row) -> u32
+    ensures seconds { result ≡ 60 * row.now.interval }
+    ensures period { IsPeriod row.now.interval }
+{
+    SECONDS_OF_MINUTE * u32::from(row.interval.minutes())
+}
+
 // What one value of a row comes to.
 pub(crate) fn sum_of_row(row: &Row, value: i32) -> FieldSum
     requires { IsPrintable (Some value) }
     ensures exact { result ≡ sum_of_row row.now value }
     ensures bounds { IsSumOf 1 result }
 {
-    let seconds = SECONDS_OF_MINUTE * u32::from(row.interval.minutes());
+    let seconds = seconds_of(row);
     FieldSum {
         least: value,
         least_at: row.stamp,
@@ -47,106 +56,95 @@ pub(crate) fn sum_of_row(row: &Row, value: i32) -> FieldSum
     }
 }
 
-// The same of a value that may be missing.
-pub(crate) fn sum_of_value(row: &Row, value: Option<i32>) -> Option<FieldSum>
-    requires { IsPrintable value }
-    ensures exact { result ≡ sum_of_value row.now value }
-    ensures bounds { IfSome result (IsSumOf 1) }
-{
-    let value = value?;
-    Some(sum_of_row(row, value))
-}
-
-// A value with the stamp of its row.
-#[derive(Clone, Copy)]
-struct Extreme {
-    value: i32,
-    at: Stamp,
-}
-
-impl Extreme {
-    // The lesser of this and a later one, and of equal ones the earlier.
-    fn lesser(self, later: Extreme) -> Extreme
-        ensures { result ≡ (if int_lt later.value self.value then later else self) }
-    {
-        if later.value < self.value {
-            later
-        } else {
-            self
-        }
-    }
-
-    // The greater of this and a later one, and of equal ones the earlier.
-    fn greater(self, later: Extreme) -> Extreme
-        ensures { result ≡ (if int_lt self.value later.value then later else self) }
-    {
-        if self.value < later.value {
-            later
-        } else {
-            self
-        }
-    }
-}
-
 impl FieldSum {
-    // The least value.
-    fn least(&self) -> Extreme
-        ensures value { result.value ≡ self.now.least }
-        ensures at { result.at ≡ self.now.least_at }
+    // Keeps the lesser of its least value and a later one, and of equal ones the earlier.
+    fn lower_to(&mut self, value: i32, at: Stamp)
+        ensures least { self.new.least ≡ (if int_lt value self.old.least then value else self.old.least) }
+        ensures at { self.new.least_at ≡ (if int_lt value self.old.least then at else self.old.least_at) }
+        ensures others { AreEqualButLeast self.old self.new }
     {
-        Extreme {
-            value: self.least,
-            at: self.least_at,
+        if value < self.least {
+            self.least = value;
+            self.least_at = at;
         }
     }
 
-    // The greatest value.
-    fn greatest(&self) -> Extreme
-        ensures value { result.value ≡ self.now.greatest }
-        ensures at { result.at ≡ self.now.greatest_at }
+    // Keeps the greater of its greatest value and a later one, and of equal ones the earlier.
+    fn raise_to(&mut self, value: i32, at: Stamp)
+        ensures greatest { self.new.greatest ≡ (if int_lt self.old.greatest value then value else self.old.greatest) }
+        ensures at { self.new.greatest_at ≡ (if int_lt self.old.greatest value then at else self.old.greatest_at) }
+        ensures others { AreEqualButGreatest self.old self.new }
     {
-        Extreme {
-            value: self.greatest,
-            at: self.greatest_at,
+        if self.greatest < value {
+            self.greatest = value;
+            self.greatest_at = at;
         }
+    }
+
+    // Adds a value of a row behind those that were added.
+    fn push(&mut self, row: &Row, value: i32)
+        requires earlier { IsSum self.old }
+        requires fewer { self.old.count < 1048576 }
+        requires printable { IsPrintable (Some value) }
+        ensures exact { self.new ≡ joined self.old (sum_of_row row.now value) }
+        ensures bounds { IsSumOf (self.old.count + 1) self.new }
+    {
+        let seconds = seconds_of(row);
+        self.lower_to(value, row.stamp);
+        self.raise_to(value, row.stamp);
+        self.sum += i64::from(value);
+        self.count += 1;
+        self.wsum += i64::from(value) * i64::from(seconds);
+        self.sumtime += u64::from(seconds);
+    }
+
+    // Adds what later values come to.
+    fn join(&mut self, later: &FieldSum)
+        requires earlier { IsSum self.old }
+        requires later { IsSum later.now }
+        requires few { self.old.count + later.now.count ≤ 1048576 }
+        ensures exact { self.new ≡ joined self.old later.now }
+        ensures bounds { IsSum self.new }
+    {
+        self.lower_to(later.least, later.least_at);
+        self.raise_to(later.greatest, later.greatest_at);
+        self.sum += later.sum;
+        self.count += later.count;
+        self.wsum += later.wsum;
+        self.sumtime += later.sumtime;
     }
 }
 
-// What values and later ones come to together.
-fn joined(earlier: &FieldSum, later: &FieldSum) -> FieldSum
-    requires earlier { IsSum earlier.now }
-    requires later { IsSum later.now }
-    requires few { earlier.now.count + later.now.count ≤ 1048576 }
-    ensures exact { result ≡ joined earlier.now later.now }
-    ensures bounds { IsSum result }
+// Adds a value of a row behind those that were added, if the row has it.
+pub(crate) fn add(sum: &mut Option<FieldSum>, row: &Row, value: Option<i32>)
+    requires earlier { IfSome sum.old IsSum }
+    requires fewer { count_of sum.old < 1048576 }
+    requires printable { IsPrintable value }
+    ensures exact { sum.new ≡ merged sum.old (sum_of_value row.now value) }
+    ensures bounds { IfSome sum.new (IsSumOf (count_of sum.old + 1)) }
 {
-    let least = earlier.least().lesser(later.least());
-    let greatest = earlier.greatest().greater(later.greatest());
-    FieldSum {
-        least: least.value,
-        least_at: least.at,
-        greatest: greatest.value,
-        greatest_at: greatest.at,
-        sum: earlier.sum + later.sum,
-        count: earlier.count + later.count,
-        wsum: earlier.wsum + later.wsum,
-        sumtime: earlier.sumtime + later.sumtime,
+    let Some(value) = value else {
+        return;
+    };
+    match sum {
+        Some(sum) => sum.push(row, value),
+        None => *sum = Some(sum_of_row(row, value)),
     }
 }
 
-// The same where either may have no value.
-pub(crate) fn merged(earlier: &Option<FieldSum>, later: &Option<FieldSum>) -> Option<FieldSum>
-    requires earlier { IfSome earlier.now IsSum }
+// Adds what later values come to, if there are any.
+pub(crate) fn merge(sum: &mut Option<FieldSum>, later: &Option<FieldSum>)
+    requires earlier { IfSome sum.old IsSum }
     requires later { IfSome later.now IsSum }
-    requires few { count_of earlier.now + count_of later.now ≤ 1048576 }
-    ensures exact { result ≡ merged earlier.now later.now }
-    ensures bounds { IfSome result (IsSumOf (count_of earlier.now + count_of later.now)) }
+    requires few { count_of sum.old + count_of later.now ≤ 1048576 }
+    ensures exact { sum.new ≡ merged sum.old later.now }
+    ensures bounds { IfSome sum.new (IsSumOf (count_of sum.old + count_of later.now)) }
 {
-    let Some(before) = earlier else {
-        return *later;
+    let Some(later) = later else {
+        return;
     };
-    let Some(behind) = later else {
-        return *earlier;
-    };
-    Some(joined(before, behind))
+    match sum {
+        Some(sum) => sum.join(later),
+        None => *sum = Some(*later),
+    }
 }

@@ -4,7 +4,7 @@ ghost use Rattle.station_base.specs.declared.row.Row.{Row};
 ghost use Rattle.daily_summary.specs.Bounds.{IsInBounds, IsSum};
 ghost use Rattle.daily_summary.specs.Summary.{summary_of, tenths};
 
-use crate::field_sum::{FieldSum, merged, sum_of_value};
+use crate::field_sum::{FieldSum, add, merge};
 use station_base::{FIELD_COUNT, FieldId, Row};
 
 /// What rows come to in each field: those of a day, or of the days of a month (after the daily summaries of WeeWX).
@@ -40,8 +40,7 @@ impl DaySummary {
         ensures rows { self.new.rows ≡ self.old.rows + 1 }
     {
         for (field, value) in row.values.iter().enumerate() {
-            let sum = sum_of_value(row, *value);
-            self.fields[field] = merged(&self.fields[field], &sum);
+            add(&mut self.fields[field], row, *value);
         }
         self.rows += 1;
     }
@@ -57,7 +56,7 @@ impl DaySummary {
         ensures rows { self.new.rows ≡ self.old.rows + later.now.rows }
     {
         for field in 0..FIELD_COUNT {
-            self.fields[field] = merged(&self.fields[field], &later.fields[field]);
+            merge(&mut self.fields[field], &later.fields[field]);
         }
         self.rows += later.rows;
     }

@@ -1,4 +1,4 @@
-use Rattle.std.proofs.Common.{arith, ◌≤◌, ◌*◌, pos}
+use Rattle.std.proofs.Common.{arith, ◌≤◌, pos}
 use Rattle.std.specs.Prelude.{unsigned_abs, FitsSigned, ◌*ℤ◌}
 use Rattle.std.specs.Int.{w32, w64}
 use Rattle.std.proofs.lemmas.Int.{to_z-of_z, fits_signed_from_abs}
@@ -9,10 +9,11 @@ use Rattle.daily_summary.proofs.field_sum.sum_of_row.Goals as goal
 pub returns-clause-bounds : goal.returns-clause-bounds
 returns-clause-bounds c =
     let z = c.args.value in
-    let n = 60 * c.from-seconds.result in
+    let n = c.seconds_of-seconds.result in
+    let seconds = c.seconds_of-seconds.ensures.seconds in
     let small : unsigned_abs z ≤ 2000000 = near z c.requires in
-    let short = least_period c.minutes.result c.minutes.ensures.period in
-    let long = period_bound c.minutes.result c.minutes.ensures.period in
+    let short = least_period c.args.row.now.interval c.seconds_of-seconds.ensures.period in
+    let long = period_bound c.args.row.now.interval c.seconds_of-seconds.ensures.period in
     let times = near_times z n small in
     let f0 : FitsSigned w32 z = fits_signed_from_abs w32 z (omega arith) in
     let f1 : FitsSigned w64 z = fits_below z 2000000 small (omega arith) in
