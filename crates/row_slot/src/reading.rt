@@ -5,9 +5,9 @@ ghost use Rattle.row_slot.specs.Slot.{is_marked, number_at, row_in, slot_of};
 ghost use Rattle.row_slot.specs.WellFormed.{IsWellFormed};
 
 use crate::layout::{BATCH, DATE, GATE, INTERVAL, KIND, ROW, ROW_SIZE, SPARE, TIME};
-use crate::values::{are_missing, limited_in, values_in};
+use crate::values::{are_missing, limited_in, read_values};
 use byteorder::{ByteOrder, LittleEndian};
-use station_base::{Period, Row, Stamp};
+use station_base::{FIELD_COUNT, Period, Row, Stamp};
 
 /// The row of a slot, and none where the slot is ill-formed: its kind is not that of a row, a byte that should be 0 is
 /// not, its words name no stamp, its interval is no period, a value is beyond 2,000,000 either way or not 0 where it is
@@ -27,17 +27,20 @@ pub fn read(slot: &[u8; ROW_SIZE]) -> Option<Row>
     }
     let stamp = Stamp::from_words(word_at(slot, DATE), word_at(slot, TIME))?;
     let interval = Period::from_minutes(word_at(slot, INTERVAL))?;
-    let values = values_in(slot)?;
-    let limited = limited_in(slot);
-    if !are_missing(limited, &values) {
-        return None;
-    }
-    Some(Row {
+    let mut row = Row {
         stamp,
         interval,
-        values,
-        limited,
-    })
+        values: [None; FIELD_COUNT],
+        limited: limited_in(slot),
+    };
+    let allowed = read_values(slot, &mut row.values);
+    if !allowed {
+        return None;
+    }
+    if !are_missing(row.limited, &row.values) {
+        return None;
+    }
+    Some(row)
 }
 
 // Whether the slot is one of a row, and its bytes that belong to no part are 0.

@@ -1,4 +1,5 @@
 ghost use Rattle.std.specs.Prelude.{◌≡◌, ◌+◌, ◌*◌, ◌<◌, drop, length};
+ghost use Rattle.std.specs.Bool.{then_some};
 ghost use Rattle.station_base.specs.FieldSet.{are_missing};
 ghost use Rattle.row_slot.specs.Slot.{number_at};
 ghost use Rattle.row_slot.specs.Values.{is_allowed, number_in, numbers_of, presence_of, spelled, values_in};
@@ -37,25 +38,25 @@ pub fn spelled(values: &[Option<i32>; FIELD_COUNT]) -> [u8; LIMITED - VALUES]
     bytes
 }
 
-// The values of the fields, where each is allowed and no bit is set for further fields.
+// Reads the values of the fields into a row's. Whether each is allowed, and no bit is set for further fields; if not, what
+// was read means nothing.
 #[tactic(auto, unfolding(crate::specs::Values::values_in))]
-pub fn values_in(slot: &[u8; ROW_SIZE]) -> Option<[Option<i32>; FIELD_COUNT]>
-    ensures { result ≡ values_in 37 (number_at 8 12 slot.now) (drop 20 slot.now) }
+pub fn read_values(slot: &[u8; ROW_SIZE], values: &mut [Option<i32>; FIELD_COUNT]) -> bool
+    ensures { values_in 37 (number_at 8 12 slot.now) (drop 20 slot.now) ≡ then_some result values.new }
 {
     let presence = presence_in(slot);
-    let mut values = [None; FIELD_COUNT];
     for field in 0..FIELD_COUNT {
         let has_value = presence >> field & 1 == 1;
         let number = number_of(slot, field);
         if !is_allowed(has_value, number) {
-            return None;
+            return false;
         }
         values[field] = has_value.then_some(number);
     }
     if presence >> FIELD_COUNT != 0 {
-        return None;
+        return false;
     }
-    Some(values)
+    true
 }
 
 /// The bits of a slot for the fields that limits made missing, whether the slot is well-formed or not.

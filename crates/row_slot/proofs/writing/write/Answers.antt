@@ -1,4 +1,4 @@
-use Rattle.std.proofs.Common.{◌≡◌, ◌++◌, ◌*◌, ℕ, List, ◌∙◌, ap, take, refl, length, arith, rules}
+use Rattle.std.proofs.Common.{◌≡◌, ◌++◌, ℕ, List, ◌∙◌, ap, take, refl, length, arith}
 use Rattle.byteorder.specs.Endian.{little_bytes}
 use Rattle.row_slot.specs.Slot.{head_of, slot_of}
 use Rattle.row_slot.specs.Values.{spelled, numbers_of}

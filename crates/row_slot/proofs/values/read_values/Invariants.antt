@@ -1,6 +1,6 @@
 use Rattle.std.proofs.Common.{◌≡◌, length, drop}
 use Rattle.row_slot.proofs.Fields.{AreAllowed, Tells}
-use Rattle.row_slot.proofs.values.values_in.Given as goal
+use Rattle.row_slot.proofs.values.read_values.Given as goal
 
 abbrev pub invariant-loop-field : goal.invariant-loop-field
 invariant-loop-field l = record {
