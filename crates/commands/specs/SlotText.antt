@@ -1,5 +1,5 @@
 -- The lines of the slots of a page.
-use Rattle.std.specs.Prelude.{ℕ, ℤ, List, [], ◌++◌, Some, None, codes, slice_index_or, All}
+use Rattle.std.specs.Prelude.{ℕ, ℤ, List, [], ◌++◌, Some, None, codes, slice_index_or}
 use Rattle.std.specs.declared.option.Option.{Option}
 use Rattle.station_base.specs.declared.row.Row.{Row}
 use Rattle.station_base.specs.NumberText.{number_text, signed_text}
@@ -7,9 +7,9 @@ use Rattle.station_base.specs.RowLine.{row_line}
 use Rattle.station_base.specs.Stamp.{stamp_text}
 use Rattle.archive_record.specs.declared.record_read.RecordRead.{RecordRead}
 use Rattle.archive_record.specs.declared.record_read.RecordRead.TheVariants as record_read
-use Rattle.archive_record.specs.Record.{IfRow}
-use Rattle.quality.specs.Corrected.{corrected_row, IsReading, IsUnlimited}
-use Rattle.commands.specs.Style.{RowStyle, short, corrected}
+use Rattle.archive_record.specs.Reading.{reading}
+use Rattle.quality.specs.Corrected.{corrected_row}
+use Rattle.commands.specs.Style.{RowStyle, short, corrected, period_of}
 
 -- a dash where it is missing
 abbrev pub temperature_text : Option ℤ → List ℕ
@@ -34,10 +34,6 @@ slot_text style page place (record_read.BadStamp date time) =
     place_text page place ++ codes " stamp " ++ number_text date ++ codes " " ++ number_text time ++ codes "\n"
 slot_text style page place (record_read.Row row) = row_text style row
 
--- the values of a row are ones that a record can hold
-abbrev pub IsReadable : RecordRead → Type 0
-IsReadable read = IfRow read (λ row. All IsReading row.values)
-
--- and limits have made none of them missing
-abbrev pub IsUncorrected : RecordRead → Type 0
-IsUncorrected read = IfRow read IsUnlimited
+-- the line of a slot of a page, of which these are the bytes
+abbrev pub slot_line : RowStyle → ℕ → ℕ → List ℕ → List ℕ
+slot_line style page place bytes = slot_text style page place (reading bytes (period_of style))

@@ -9,7 +9,6 @@ ghost use Rattle.commands.specs.StyleRead.{style_of};
 use crate::slot_text::push_slot;
 use crate::style::Style;
 use crate::waiting::make_room;
-use archive_record::read;
 use run_output::{Ending, PAGE_ROOM, ROOM, Status, Text};
 use station_base::{push_bytes, push_number};
 use station_io::{Put, Sink};
@@ -47,10 +46,8 @@ fn push_page(text: &mut Text, number: u32, style: &Style<'_>, page: &Page<'_>)
     requires { array_vec_len text.old + PAGE_ROOM ≤ ROOM }
     ensures { text.new.items ≡ text.old.items ++ page_text (style_of style.now) number page.now }
 {
-    let interval = style.period();
     for place in 0..SLOTS {
-        let slot = read(page.slot(place), interval);
-        push_slot(text, number, place, style, &slot);
+        push_slot(text, number, place, style, page.slot(place));
     }
 }
 

@@ -1,13 +1,15 @@
-ghost use Rattle.std.specs.Prelude.{◌≡◌, ◌+◌, ◌≤◌, ◌++◌, All};
+ghost use Rattle.std.specs.Prelude.{◌≡◌, ◌+◌, ◌≤◌, ◌++◌, None, codes, slice_index_or};
 ghost use Rattle.arrayvec.specs.ArrayVec.{array_vec_len};
-ghost use Rattle.quality.specs.Corrected.{IsReading, IsUnlimited};
-ghost use Rattle.commands.specs.SlotText.{row_text};
-ghost use Rattle.commands.specs.Style.{period_of, short};
+ghost use Rattle.station_base.specs.Stamp.{stamp_text};
+ghost use Rattle.archive_record.specs.Reading.{row_in, values_in};
+ghost use Rattle.commands.specs.SlotText.{row_text, temperature_text};
+ghost use Rattle.commands.specs.Style.{period_of};
 
+use archive_record::{RECORD_SIZE, row_in, value_in};
 use quality::corrected;
 use run_output::{ROOM, Text};
 use settings_file::Settings;
-use station_base::{LINE_ROOM, Period, Row, push_bytes, push_signed};
+use station_base::{FieldId, LINE_ROOM, Stamp, push_bytes, push_signed};
 
 /// How the rows of a file of pages are written.
 #[derive(Drop)]
@@ -18,52 +20,49 @@ pub enum Style<'a> {
     Corrected(&'a Settings),
 }
 
-// The minutes between two records where no settings say them, which the short style does not write.
-const SHORT_PERIOD: u16 = 5;
-
 // The number of the field that the short style writes.
 const OUTSIDE_TEMPERATURE: usize = 0;
 
 impl<'a> Style<'a> {
     ghost use Rattle.commands.specs.StyleRead.{style_of};
 
-    /// How many minutes lie between two records.
-    pub fn period(&self) -> Period
-        ensures { result ≡ period_of (style_of self.now) }
-    {
-        match self {
-            Style::Short => Period::from_minutes(SHORT_PERIOD).unwrap(),
-            Style::Corrected(settings) => settings.period(),
-        }
-    }
-
-    /// Appends the line of a row.
-    pub fn push_row(&self, text: &mut Text, row: &Row)
+    /// Appends the line of the record with this stamp.
+    pub fn push_record(&self, text: &mut Text, stamp: Stamp, bytes: &[u8; RECORD_SIZE])
         requires room { array_vec_len text.old + LINE_ROOM ≤ ROOM }
-        requires reading { All IsReading row.now.values }
-        requires unlimited { IsUnlimited row.now }
-        ensures line { text.new.items ≡ text.old.items ++ row_text (style_of self.now) row.now }
+        ensures line { text.new.items
+            ≡ text.old.items ++ row_text (style_of self.now) (row_in bytes.now (period_of (style_of self.now)) stamp) }
         ensures length { array_vec_len text.new ≤ array_vec_len text.old + LINE_ROOM }
     {
         match self {
-            Style::Short => push_short(text, row),
-            Style::Corrected(settings) => push_bytes(text, &corrected(settings, row).line()),
+            Style::Short => push_short(text, stamp, outside_temperature(bytes)),
+            Style::Corrected(settings) => {
+                let row = row_in(bytes, settings.period(), stamp);
+                push_bytes(text, &corrected(settings, &row).line());
+            }
         }
     }
 }
 
+// What a record tells of the outside temperature.
+fn outside_temperature(bytes: &[u8; RECORD_SIZE]) -> Option<i32>
+    ensures { result ≡ slice_index_or (values_in bytes.now) 0 None }
+{
+    value_in(bytes, FieldId::from_index(OUTSIDE_TEMPERATURE).unwrap())
+}
+
 // Appends stamp and outside temperature.
 #[tactic(auto, using(station_base::proofs::NumberWidths::number_text_width))]
-fn push_short(text: &mut Text, row: &Row)
+fn push_short(text: &mut Text, stamp: Stamp, temperature: Option<i32>)
     requires room { array_vec_len text.old + LINE_ROOM ≤ ROOM }
-    ensures line { text.new.items ≡ text.old.items ++ row_text short row.now }
+    ensures line { text.new.items
+        ≡ text.old.items ++ stamp_text stamp ++ codes " " ++ temperature_text temperature ++ codes "\n" }
     ensures length { array_vec_len text.new ≤ array_vec_len text.old + LINE_ROOM }
 {
-    push_bytes(text, &row.stamp.text());
-    push_bytes(text, b" ");
-    match row.values[OUTSIDE_TEMPERATURE] {
+    push_bytes(text, &stamp.text());
+    text.push(b' ');
+    match temperature {
         Some(tenths) => push_signed(text, tenths),
-        None => push_bytes(text, b"-"),
+        None => text.push(b'-'),
     }
-    push_bytes(text, b"\n");
+    text.push(b'\n');
 }
