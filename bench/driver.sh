@@ -164,9 +164,7 @@ copy_crates driver "$CRATES"
 build
 PYTHONPATH=bench:tools python3 - out/bench/driver_before out/bench/driver <<'MEASURE'
 import binascii
-import re
 import statistics
-import subprocess
 import sys
 from datetime import datetime, timedelta
 
@@ -188,16 +186,15 @@ with open(path, 'wb') as file:
         file.write(make_pages.page(n, slots[5 * n:5 * n + 5]))
 
 
+def way_of(program, times):
+    return runs.Way('dump', [program, path] + ['again'] * times)
+
+
 def seconds(program, times):
-    of = runs.run([program, path] + ['again'] * times)
-    assert of.said == f'{PAGES * times}\n', of.said
-    return of.user + of.system
-
-
-def instructions(program, times):
-    words = ['valgrind', '--tool=callgrind', '--callgrind-out-file=/dev/null', program, path] + ['again'] * times
-    of = subprocess.run(words, capture_output=True, text=True, check=True)
-    return int(re.search(r'Collected : (\d+)', of.stderr)[1])
+    way = way_of(program, times)
+    said = runs.output(way).decode()
+    assert said == f'{PAGES * times}\n', said
+    return runs.run(way).processor
 
 
 taken = {program: {1: [], 1 + MORE: []} for program in (before, now)}
@@ -207,6 +204,6 @@ for turn in range(TURNS):
             all_seconds.append(seconds(program, times))
 for name, program in ('before', before), ('now', now):
     once, more = (statistics.median(of) for of in taken[program].values())
-    counted = instructions(program, 1 + COUNTED) - instructions(program, 1)
+    counted = runs.by_callgrind(way_of(program, 1 + COUNTED)) - runs.by_callgrind(way_of(program, 1))
     print(f'{name}: {counted / COUNTED / PAGES:.0f} instructions, {(more - once) / MORE / PAGES * 1e6:.2f} us for a page')
 MEASURE

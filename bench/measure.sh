@@ -1,4 +1,4 @@
-# Sourced by what measures the crates through a program of its own.
+# Sourced by bench/driver.sh, which measures crates through a program of its own.
 
 # Copies the crates to out/bench/NAME, with a crate `measure` over the crates named that takes the place of
 # `station_replay` and of those that stand on it, and sets `copy` to that folder. Of an earlier copy only what was proved
@@ -76,14 +76,4 @@ use Rattle.measure.proofs.counter.last_of.Given as goal
 abbrev pub invariant-loop-row : goal.invariant-loop-row
 invariant-loop-row l = last_stamp stamp_in (drop l.row-index l.rows) l.last ≡ last_stamp stamp_in l.rows l.initial.last
 PROOF
-}
-
-# Sets `archive` to a file of 1,048,575 rows and `adding` to the program that made it. bench/archive.sh makes them where
-# they are missing.
-find_large_archive() {
-    archive=out/bench/archive/files/large
-    adding=out/bench/archive/crates/measure/out/measure
-    if [ ! -s "$archive" ] || [ ! -x "$adding" ]; then
-        bash bench/archive.sh
-    fi
 }
