@@ -44,6 +44,8 @@ LOST_PAGE = 'reply 4 lost'
 
 MICROSECONDS = 1_000_000
 MEBIBYTE = 1 << 20
+WHOLE = 100  # from so many microseconds on they are printed without digits behind the point
+DIGITS = 2
 
 
 class Work(NamedTuple):
@@ -215,7 +217,7 @@ def beside_text(work, taken):
 def item_text(works, taken):
     """The program's time for one item, at each share."""
     each = [MICROSECONDS * seconds(work, of[0]) / work.count for work, of in zip(works, taken)]
-    return f'{", ".join(f"{one:.3g}" for one in each)} µs a {works[-1].item}'
+    return f'{"; ".join(f"{one:,.{DIGITS if one < WHOLE else 0}f}" for one in each)} µs a {works[-1].item}'
 
 
 def instruction_text(work):
