@@ -6,11 +6,9 @@ ghost use Rattle.disk_model.specs.declared.mem_disk.MemDisk.{MemDisk};
 ghost use Rattle.disk_model.specs.declared.stopping.Stopping.{Stopping};
 ghost use Rattle.station_replay.specs.Replay.{Item, OpensNext, start};
 ghost use Rattle.station_replay.specs.Schedule.{records};
-ghost use Rattle.station_session.specs.RoundAt.{left};
 ghost use Rattle.schedule_file.specs.declared.schedule.step.Step as code_step;
 ghost use Rattle.station_sim.specs.declared.sim.Sim.{Sim};
 ghost use Rattle.schedule_replay.specs.Accepted.{AreAccepted};
-ghost use Rattle.schedule_replay.specs.Left.{left_in};
 ghost use Rattle.schedule_replay.specs.Playing.{MakesOneCall, SaysOrStores};
 ghost use Rattle.schedule_replay.specs.Replayed.{IsNewDisk};
 ghost use Rattle.schedule_replay.specs.Standing.{IsNextRound, IsNoRound, LineAt};
@@ -58,8 +56,9 @@ pub struct ReplayRun {
 }
 
 impl ReplayRun {
-    ghost use Rattle.schedule_replay.specs.Replaying.{Course, IsNext, MayTurn, Replaying, StandsWith, TakesTurn, left_of};
-    ghost use Rattle.schedule_replay.specs.Turns.{IsOneTurn, Moves, TurnsTo};
+    ghost use Rattle.schedule_replay.specs.Replaying.{Course, IsNext, MayTurn, Replaying, StandsWith, TakesTurn};
+    ghost use Rattle.schedule_replay.specs.Replaying.{left_of};
+    ghost use Rattle.schedule_replay.specs.Turns.{IsOneTurn, TurnsTo};
 
     /// A run with these settings that begins. No memory is taken.
     pub fn new(alloc: Global, settings: &Settings) -> ReplayRun
