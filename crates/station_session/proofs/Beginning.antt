@@ -1,5 +1,5 @@
 -- A round that is begun.
-use Rattle.std.proofs.Common.{◌≡◌, ◌+◌, ◌≤◌, false, List, [], length, vec_len, vec_capacity, refl, sym, ◌∙◌, ap, arith, Option}
+use Rattle.std.proofs.Common.{◌-◌, ◌≡◌, ◌+◌, ◌≤◌, false, List, [], length, vec_len, vec_capacity, refl, sym, ◌∙◌, ap, arith, Option}
 use Rattle.station_base.specs.CivilMinute.{CivilMinute}
 use Rattle.weather_book.specs.Book.{last_of, spare}
 use Rattle.dmpaft_driver.specs.Pump.{Hearing, Over, Settling, begun}
@@ -22,8 +22,10 @@ use Rattle.station_session.specs.Round.{round_host}
 use Rattle.station_session.specs.Turning.{desk}
 use Rattle.station_session.specs.UnderWay.{UnderWay}
 use Rattle.station_session.specs.declared.round.Begun.TheVariants as begun_as
+use Rattle.station_session.specs.Attempts.{most_attempts}
+use Rattle.station_session.specs.declared.limits.TheConstants.{MOST_BATCHES, MOST_ROWS}
 
-pub round_begun : (last : Option CivilMinute) (round : Round) → Shows no_tally last (begun last Settling) round.pump → round.more ≡ 2 → round.troubles.items ≡ [] → RoundAt last [] [] round
+pub round_begun : (last : Option CivilMinute) (round : Round) → Shows no_tally last (begun last Settling) round.pump → round.more ≡ most_attempts - 1 → round.troubles.items ≡ [] → RoundAt last [] [] round
 round_begun last round shows more none = record {
   tries = [];
   failed = tt;
@@ -42,7 +44,7 @@ round_begun last round shows more none = record {
 }
 
 pub fits_begun : (session : Session) (round : Round) (report : Report) → RoundAt (last_of session.book) [] [] round → is_stale session ≡ false → report.attempts + round.more ≡ 3 → report.tally ≡ round.pump.tally
-    → report.troubles.items ≡ round.troubles.items → report.marks.items ≡ [] → 7695 ≤ spare session.book → 1539 ≤ vec_capacity report.marks → Fits session round report
+    → report.troubles.items ≡ round.troubles.items → report.marks.items ≡ [] → MOST_ROWS ≤ spare session.book → MOST_BATCHES ≤ vec_capacity report.marks → Fits session round report
 fits_begun session round report at fresh attempts tally troubles none rows marks =
     let count : vec_len report.marks ≡ 0 = omega (arith, report.marks.ok.0, ap (λ (x : List Mark). length x) none) in
     record {

@@ -11,9 +11,10 @@ use Rattle.wake_retry.proofs.Bounding.{bounded_joins, bounded_within}
 use Rattle.dmpaft_driver.proofs.Bounding.{attempts_are_bounded}
 use Rattle.station_session.specs.declared.report.Report.{Report}
 use Rattle.station_session.specs.declared.round_end.RoundEnd.{RoundEnd}
-use Rattle.station_session.specs.Attempts.{Tried, IsTried, Attempts, all_said, stamp_after}
+use Rattle.station_session.specs.Attempts.{Tried, IsTried, Attempts, all_said, stamp_after, most_attempts}
 use Rattle.station_session.specs.Bounds.{GrowsWithin}
 use Rattle.station_session.specs.Round.{RoundHost, Serves}
+use Rattle.dmpaft_driver.specs.Bounds.{most_heard, most_said}
 
 -- so many attempts
 abbrev AreAttempts : ℕ → List TalkItem → Type 0
@@ -32,7 +33,7 @@ one_before count s t one others more few =
     (bounded_joins 101669940 2069 (101669940 * count) (2069 * count) s t one others)
 
 -- the attempts of a round from here, so many being made and so many left
-attempts_bounded : (made left : ℕ) (last : Option CivilMinute) (tries : List Tried) (end : RoundEnd) → made + left ≡ 3 → Attempts made last tries end → AreAttempts left (all_said tries)
+attempts_bounded : (made left : ℕ) (last : Option CivilMinute) (tries : List Tried) (end : RoundEnd) → made + left ≡ most_attempts → Attempts made last tries end → AreAttempts left (all_said tries)
 attempts_bounded made left last [] end three h = none_after left
 attempts_bounded made left last (t ∷ ts) end three (less, tried, inl (failed, more)) =
     let n : ℕ = left - 1 in
@@ -43,6 +44,6 @@ attempts_bounded made left last (t ∷ ts) end three (less, tried, inr (ends, no
 
 -- what one round adds to its link's talk
 pub round_is_bounded : {L D : Type 0} (traffic : Traffic L) (medium : Medium D) (rows : List Row) (end : RoundEnd) (old new : RoundHost L D) (report : Report) → Serves traffic medium rows end old new report
-    → GrowsWithin traffic 305009820 6207 old.link new.link
+    → GrowsWithin traffic (most_attempts * most_heard) (most_attempts * most_said) old.link new.link
 round_is_bounded traffic medium rows end old new report s before told =
-    (all_said s.tries, s.adds.told ∙ ap (with_items (all_said s.tries)) told, attempts_bounded 0 3 _ s.tries end (omega arith) s.attempts)
+    (all_said s.tries, s.adds.told ∙ ap (with_items (all_said s.tries)) told, attempts_bounded 0 most_attempts _ s.tries end (omega arith) s.attempts)

@@ -23,7 +23,7 @@ use Rattle.station_session.specs.declared.round.Round.{Round}
 use Rattle.station_session.specs.declared.round.Turn.{Turn}
 use Rattle.station_session.specs.declared.round.Turn.TheVariants as turn
 use Rattle.station_session.specs.declared.round_end.RoundEnd.TheVariants as round_end
-use Rattle.station_session.specs.Attempts.{stamp_behind}
+use Rattle.station_session.specs.Attempts.{stamp_behind, most_attempts}
 use Rattle.station_session.specs.Batches.{last_answer}
 use Rattle.station_session.specs.Fits.{Fits}
 use Rattle.station_session.specs.Holding.{Holding, holding}
@@ -40,6 +40,7 @@ use Rattle.station_session.proofs.LastTurn.{chain_on, makes_round}
 use Rattle.station_session.specs.UnderWay.{UnderWay, GoesOnFrom}
 use Rattle.station_session.proofs.Turned.{kept_on, stays, tries_again, refuses, refused_batch, ends, no_batch, mild_end, link_fault, no_memory, no_link_end}
 use Rattle.station_session.proofs.WholeRound.{same_book, stale_by}
+use Rattle.station_session.specs.declared.limits.TheConstants.{MOST_BATCHES}
 
 -- one batch at most was kept
 few_more : (said : List TalkItem) (more : List (List (List ℕ))) → IsOneCallOrBatch said more → length more ≤ 1
@@ -61,7 +62,7 @@ pub record HasTurned {L D : Type 0} (traffic : Traffic L) (medium : Medium D) (e
   pub more : mid.more ≡ old.round.more
   pub noted : mid.troubles.items ≡ old.round.troubles.items
   pub goes : GoesOn end result (last_of new.session.book) mid new.round
-  pub attempts : new.report.attempts + new.round.more ≡ 3
+  pub attempts : new.report.attempts + new.round.more ≡ most_attempts
   pub tally : new.report.tally ≡ new.round.pump.tally
   pub troubles : new.report.troubles.items ≡ new.round.troubles.items
   pub capacity : vec_capacity old.report.marks ≤ vec_capacity new.report.marks
@@ -73,7 +74,7 @@ pub turned : {L D : Type 0} (traffic : Traffic L) (medium : Medium D) (old new :
     → ((start : Tally) (after : Option CivilMinute) (s : State) → Shows start after s old.round.pump
     → StepsAttempt traffic medium (settings_of old.session) end start after s (bench old.round.pump old.link (holding old.session.book old.disk old.report.marks.items))
     (bench mid.pump new.link (holding new.session.book new.disk new.report.marks.items)))
-    → mid.more ≡ old.round.more → mid.troubles.items ≡ old.round.troubles.items → o ≡ last_of new.session.book → GoesOn end result o mid new.round → new.report.attempts + new.round.more ≡ 3 → new.report.tally ≡ new.round.pump.tally
+    → mid.more ≡ old.round.more → mid.troubles.items ≡ old.round.troubles.items → o ≡ last_of new.session.book → GoesOn end result o mid new.round → new.report.attempts + new.round.more ≡ most_attempts → new.report.tally ≡ new.round.pump.tally
     → new.report.troubles.items ≡ new.round.troubles.items → vec_capacity old.report.marks ≤ vec_capacity new.report.marks → settings_of new.session ≡ settings_of old.session → new.report.rows_before ≡ old.report.rows_before → HasTurned traffic medium end result old new
 turned traffic medium old new end result mid o fits steps more noted last goes attempts tally troubles capacity settings before = record {
   fits = fits;
@@ -223,7 +224,7 @@ module _ {L D : Type 0} {traffic : Traffic L} {medium : Medium D} {end : Option 
         marks = omega (arith, h.fits.marks, h.capacity);
       }
 
-  pub room_then : result ≡ turn.More → medium.moment old.disk + 4 * (1539 - vec_len old.report.marks) < 2 ^ 64 → medium.moment new.disk + 4 * (1539 - vec_len new.report.marks) < 2 ^ 64
+  pub room_then : result ≡ turn.More → medium.moment old.disk + 4 * (MOST_BATCHES - vec_len old.report.marks) < 2 ^ 64 → medium.moment new.disk + 4 * (MOST_BATCHES - vec_len new.report.marks) < 2 ^ 64
   room_then more room =
       let t : TakesTurn traffic medium turn.More h.fits.marked.last h.fits.marked.talk h.fits.marked.kept old new = subst (λ (x : Turn). TakesTurn traffic medium x h.fits.marked.last h.fits.marked.talk h.fits.marked.kept old new) more (takes h.fits.marked.at) in
       let now = t.stands.0 in

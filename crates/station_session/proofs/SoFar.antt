@@ -37,6 +37,7 @@ use Rattle.station_session.specs.Stepping.{Bench, StepsAttempt}
 use Rattle.station_session.proofs.Ends.{batch_count}
 use Rattle.station_session.proofs.LastStamps.{first_joins, handed_tells, all_tell}
 use Rattle.station_session.proofs.Rounds.{behind_is, newest_behind, count_behind, few_skips}
+use Rattle.station_session.specs.declared.limits.TheConstants.{MOST_BATCHES, MOST_ROWS}
 
 -- a pump knows the stamp asked for, and what it counted
 record Known (start : Tally) (a : Option CivilMinute) (s : State) (pump : Pump) : Type 0 where
@@ -154,29 +155,29 @@ module _ {last : Option CivilMinute} {talk : List TalkItem} {kept : List (List (
   kept_length = sym (count_kept kept) ∙ ap count r.kept_are ∙ count_behind last r.tries r.failed (handed (stamp_behind last r.tries) r.state)
 
   -- a round has no more batches than pages
-  pub few_kept : length kept ≤ 1539
+  pub few_kept : length kept ≤ MOST_BATCHES
   few_kept = omega (arith, kept_length, batch_count last r.tries, r.pages, r.few, knows.few)
 
   -- the book can take the batch that it gets, if it gets one
-  pub suits : (o : Option CivilMinute) (room : ℕ) → o ≡ last_so_far round → 1539 - length kept ≤ room → Suits o room round.pump
+  pub suits : (o : Option CivilMinute) (room : ℕ) → o ≡ last_so_far round → MOST_BATCHES - length kept ≤ room → Suits o room round.pump
   suits o room e few = λ k.
       let a = stamp_behind last r.tries in
       suits_at round.pump.stage (tally_of last r.tries) a r.state round.pump r.shows k o a (e ∙ sym last_is ∙ last_here) (within_self a) (room + count (handed a r.state)) room
       (omega (arith, few, kept_length, batch_count last r.tries, r.pages, r.few)) (omega arith)
 
-  pub few_pages : round.pump.tally.pages ≤ 1539
+  pub few_pages : round.pump.tally.pages ≤ MOST_BATCHES
   few_pages = omega (arith, knows.pages, r.pages, r.few)
 
-  pub rarely_skipped : round.pump.tally.skipped ≤ 7695
+  pub rarely_skipped : round.pump.tally.skipped ≤ MOST_ROWS
   rarely_skipped = omega (arith, knows.skipped, few_skips r.tries, r.pages, r.few)
 
   -- nor does a step take more
   pub few_then : {L D : Type 0} {traffic : Traffic L} {medium : Medium D} {settings : StationSettings} {end : Option DumpEnd} {old new : Bench L D} → old.pump ≡ round.pump
-      → StepsAttempt traffic medium settings end (tally_of last r.tries) (stamp_behind last r.tries) r.state old new → (new.pump.tally.pages ≤ 1539) × (new.pump.tally.skipped ≤ 7695)
+      → StepsAttempt traffic medium settings end (tally_of last r.tries) (stamp_behind last r.tries) r.state old new → (new.pump.tally.pages ≤ MOST_BATCHES) × (new.pump.tally.skipped ≤ MOST_ROWS)
   few_then {L} {D} {traffic} {medium} {settings} {end} {old} {new} same v = by_end end v.turns
     where
-      by_end : (end : Option DumpEnd) → TurnsTo end (tally_of last r.tries) (stamp_behind last r.tries) r.state v.said v.answers old.pump new.pump → (new.pump.tally.pages ≤ 1539) × (new.pump.tally.skipped ≤ 7695)
+      by_end : (end : Option DumpEnd) → TurnsTo end (tally_of last r.tries) (stamp_behind last r.tries) r.state v.said v.answers old.pump new.pump → (new.pump.tally.pages ≤ MOST_BATCHES) × (new.pump.tally.skipped ≤ MOST_ROWS)
       by_end None t =
           let k = known (tally_of last r.tries) (stamp_behind last r.tries) _ new.pump t.0 in
           (omega (arith, k.pages, r.pages, r.few), omega (arith, k.skipped, few_skips r.tries, r.pages, r.few))
-      by_end (Some d) t = subst (λ (x : Pump). (x.tally.pages ≤ 1539) × (x.tally.skipped ≤ 7695)) (sym (t.0 ∙ same)) (few_pages, rarely_skipped)
+      by_end (Some d) t = subst (λ (x : Pump). (x.tally.pages ≤ MOST_BATCHES) × (x.tally.skipped ≤ MOST_ROWS)) (sym (t.0 ∙ same)) (few_pages, rarely_skipped)

@@ -29,7 +29,7 @@ use Rattle.station_session.specs.declared.report.Report.{Report}
 use Rattle.station_session.specs.declared.round.Round.{Round}
 use Rattle.station_session.specs.declared.round_end.RoundEnd.{RoundEnd}
 use Rattle.station_session.specs.declared.round_end.RoundEnd.TheVariants as round_end
-use Rattle.station_session.specs.Attempts.{Tried, Attempts, end_after, stamp_behind, all_batches, all_said}
+use Rattle.station_session.specs.Attempts.{Tried, Attempts, end_after, stamp_behind, all_batches, all_said, most_attempts}
 use Rattle.station_session.specs.Batches.{last_answer}
 use Rattle.station_session.specs.Round.{IsTally}
 use Rattle.station_session.specs.RoundAt.{AllFailed, HasFailed, RoundAt, tally_of}
@@ -157,7 +157,7 @@ module _ {last : Option CivilMinute} {talk : List TalkItem} {kept : List (List (
   abbrev a : Option CivilMinute
   a = stamp_behind last r.tries
 
-  less : length r.tries < 3
+  less : length r.tries < most_attempts
   less = omega (arith, r.few)
 
   -- the attempt that is over, behind those that failed

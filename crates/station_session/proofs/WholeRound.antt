@@ -1,5 +1,5 @@
 -- What a round's attempts come to.
-use Rattle.std.proofs.Common.{◌≡◌, ℕ, ◌+◌, ◌<◌, ◌≤◌, Bool, false, inl, List, [], ◌++◌, length, refl, sym, ◌∙◌, ap, subst, arith, Option}
+use Rattle.std.proofs.Common.{◌*◌, ◌≡◌, ℕ, ◌+◌, ◌<◌, ◌≤◌, Bool, false, inl, List, [], ◌++◌, length, refl, sym, ◌∙◌, ap, subst, arith, Option}
 use Rattle.disk_model.specs.Disk.{Begins, Faults}
 use Rattle.serial_link.specs.Traffic.{Traffic}
 use Rattle.disk_model.specs.Medium.{Medium}
@@ -21,7 +21,7 @@ use Rattle.station_session.specs.declared.report.Report.{Report}
 use Rattle.station_session.specs.declared.round_end.RoundEnd.{RoundEnd}
 use Rattle.station_session.specs.declared.round_end.RoundEnd.TheVariants as round
 use Rattle.station_session.specs.declared.session.Session.{Session}
-use Rattle.station_session.specs.Attempts.{Attempts, EndsBefore, all_batches}
+use Rattle.station_session.specs.Attempts.{Attempts, EndsBefore, all_batches, most_attempts}
 use Rattle.causes.specs.Stored.{stale_after}
 use Rattle.station_session.specs.Batches.{kept_records, last_answer, Fit}
 use Rattle.station_session.specs.Report.{rows_marked, marks_for, acked, IsNew}
@@ -152,7 +152,7 @@ module _ {L D : Type 0} {traffic : Traffic L} {medium : Medium D} where
       rose = λ e. chain_rose medium old.settings (holding b disk marks) (all_batches (last_of b) made.tries) (holding b' disk' report.marks.items) (last ∙ ap answer_at e) made.chain;
     }
 
-    pub waited : end ≡ round.GaveUp → RoseBy 18 (traffic.quiets link) (traffic.quiets link')
+    pub waited : end ≡ round.GaveUp → RoseBy (6 * most_attempts) (traffic.quiets link) (traffic.quiets link')
     waited e = let n = gave_up_quiets 0 (last_of b) made.tries end e made.attempts in let w = made.adds.waits in omega (arith, n, w)
 
     pub stale_is : is_stale b' ≡ stale_with end (is_stale old.book)

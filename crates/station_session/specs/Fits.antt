@@ -11,6 +11,7 @@ use Rattle.station_session.specs.declared.session.Session.{Session}
 use Rattle.station_session.specs.declared.limits.TheConstants.{MOST_BATCHES, CHANGES}
 use Rattle.station_session.specs.RoundAt.{RoundAt}
 use Rattle.station_session.specs.Session.{is_stale}
+use Rattle.station_session.specs.Attempts.{most_attempts}
 
 -- the first of them that there is
 abbrev pub first_some : Option CivilMinute → Option CivilMinute → Option CivilMinute
@@ -43,7 +44,7 @@ pub record HasKept (round : Round) (count : ℕ) : Type 0 where
 pub record Fits (session : Session) (round : Round) (report : Report) : Type 0 where
   pub fresh : is_stale session ≡ false
   pub last : last_of session.book ≡ last_so_far round
-  pub attempts : report.attempts + round.more ≡ 3
+  pub attempts : report.attempts + round.more ≡ most_attempts
   pub tally : report.tally ≡ round.pump.tally
   pub troubles : report.troubles.items ≡ round.troubles.items
   pub marked : HasKept round (vec_len report.marks)

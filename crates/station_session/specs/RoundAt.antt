@@ -1,6 +1,6 @@
 -- Where a round stands: which of its attempts failed, and how far the one under way has come. (That there are three at
 -- most is this project's profile.)
-use Rattle.std.specs.Prelude.{◌≡◌, ℕ, ◌+◌, ◌*◌, ◌^◌, ◌≤◌, List, [], ◌∷◌, ◌++◌, length, Option, None}
+use Rattle.std.specs.Prelude.{◌-◌, ◌≡◌, ℕ, ◌+◌, ◌*◌, ◌^◌, ◌≤◌, List, [], ◌∷◌, ◌++◌, length, Option, None}
 use Rattle.station_base.specs.CivilMinute.{CivilMinute}
 use Rattle.serial_link.specs.declared.talk.TalkItem.{TalkItem}
 use Rattle.causes.specs.declared.stored.Stored.{Stored}
@@ -13,7 +13,7 @@ use Rattle.dmpaft_driver.specs.Pump.{State, Over, pump_after}
 use Rattle.dmpaft_driver.specs.Shown.{Shows, left_of}
 use Rattle.dmpaft_driver.specs.Standing.{handed}
 use Rattle.station_session.specs.declared.round.Round.{Round}
-use Rattle.station_session.specs.Attempts.{Tried, IsTried, end_after, stamp_after, stamp_behind, all_batches, all_said}
+use Rattle.station_session.specs.Attempts.{Tried, IsTried, end_after, stamp_after, stamp_behind, all_batches, all_said, most_attempts}
 use Rattle.station_session.specs.Attempts.{page_count, skip_count}
 use Rattle.station_session.specs.Troubles.{troubles_of}
 
@@ -35,13 +35,13 @@ abbrev pub HasFailed : State → Type 0
 HasFailed s =
     (place : ℕ) × (taken : List (List ℕ)) × (trouble : Trouble) × (s ≡ Over place taken (pump_end.Failed trouble))
 
--- A round that began after this stamp has said and heard this, and kept these batches: at most two attempts failed, and
--- behind them the pump is where its attempt stands. Where that one failed too, it is the last.
+-- A round that began after this stamp has said and heard this, and kept these batches: some attempts failed, fewer than
+-- there may be, and behind them the pump is where its attempt stands. Where that one failed too, it is the last.
 pub record RoundAt (last : Option CivilMinute) (talk : List TalkItem) (kept : List (List (List ℕ))) (round : Round)
     : Type 0 where
   pub tries : List Tried
   pub failed : AllFailed last tries
-  pub few : round.more + length tries ≡ 2
+  pub few : round.more + length tries ≡ most_attempts - 1
   pub pages : page_count tries ≤ 513 * length tries
   pub said : List TalkItem
   pub answers : List Stored

@@ -1,7 +1,8 @@
-ghost use Rattle.std.specs.Prelude.{◌≡◌, ◌<◌, ◌≤◌, ◌+◌, ◌^◌, [], Option};
+ghost use Rattle.std.specs.Prelude.{◌-◌, ◌≡◌, ◌<◌, ◌≤◌, ◌+◌, ◌^◌, [], Option};
 ghost use Rattle.arrayvec.specs.ArrayVec.{array_vec_len};
 ghost use Rattle.station_base.specs.CivilMinute.{CivilMinute};
 ghost use Rattle.station_session.specs.declared.limits.TheConstants.{MOST_TROUBLES};
+ghost use Rattle.station_session.specs.Attempts.{most_attempts};
 
 use crate::limits::{ATTEMPTS, MOST_TROUBLES};
 use crate::round_end::{RoundEnd, refused, round_end};
@@ -50,7 +51,7 @@ impl Round {
     pub(crate) fn new(last: Option<Stamp>) -> Round
         ensures shows { Shows no_tally last (begun last Settling) result.pump }
         ensures left { left_of result.pump < 2 ^ 30 }
-        ensures more { result.more ≡ 2 }
+        ensures more { result.more ≡ most_attempts - 1 }
         ensures troubles { result.troubles.items ≡ [] }
     {
         Round {
@@ -62,8 +63,8 @@ impl Round {
 
     // How many attempts were begun.
     pub(crate) fn attempts(&self) -> u8
-        requires { self.now.more ≤ 3 }
-        ensures { result + self.now.more ≡ 3 }
+        requires { self.now.more ≤ most_attempts }
+        ensures { result + self.now.more ≡ most_attempts }
     {
         ATTEMPTS - self.more
     }

@@ -8,6 +8,7 @@ use Rattle.station_session.proofs.OneTurn.{turned, takes, fits_then, room_then, 
 use Rattle.station_session.proofs.Rounds.{few_troubles}
 use Rattle.station_session.proofs.SoFar.{suits, pump_stands, room_least, few_then}
 use Rattle.station_session.proofs.session.Session.turn.Goals as goal
+use Rattle.station_session.specs.declared.limits.TheConstants.{MOST_BATCHES}
 
 pub step-end-requires-clause-stands : goal.step-end-requires-clause-stands
 step-end-requires-clause-stands g c = pump_stands c.requires.fits.marked.at
@@ -16,7 +17,7 @@ pub step-end-requires-clause-suits : goal.step-end-requires-clause-suits
 step-end-requires-clause-suits g c =
     let f = c.requires.fits in
     let marks = c.args.report.now.marks in
-    let room = room_least (spare c.args.self.now.book) (g.D.Disk.medium.moment c.args.disk.now) (vec_capacity marks) (vec_len marks) (1539 - vec_len marks) f.rows c.requires.room (omega (arith, f.marks)) in
+    let room = room_least (spare c.args.self.now.book) (g.D.Disk.medium.moment c.args.disk.now) (vec_capacity marks) (vec_len marks) (MOST_BATCHES - vec_len marks) f.rows c.requires.room (omega (arith, f.marks)) in
     suits f.marked.at _ _ f.last (omega (arith, room, f.marked.count_is))
 
 pub go_on-turn-requires-clause-pages : goal.go_on-turn-requires-clause-pages
