@@ -4,7 +4,7 @@ use Rattle.std.specs.Prelude.{◌||◌}
 use Rattle.causes.specs.declared.stored.Stored.{Stored}
 use Rattle.causes.specs.declared.stored.Stored.TheVariants as stored
 use Rattle.disk_model.specs.Medium.{Medium}
-use Rattle.dmpaft_driver.specs.Keeper.{Handed, answer_for}
+use Rattle.dmpaft_pump.specs.Keeper.{Handed, answer_for}
 use Rattle.gated_log.specs.Calls.{any_failed}
 use Rattle.gated_log.proofs.CallsMade.{any_join}
 use Rattle.serial_link.specs.Traffic.{Traffic}

@@ -5,8 +5,8 @@ use Rattle.std.specs.Prelude.{length, IfErr, IfOk, IsSomeAnd}
 use Rattle.std.specs.declared.result.Result.{Result}
 use Rattle.archive_copy.specs.Answers.{CanBeAddedTo}
 use Rattle.disk_model.specs.Medium.{Medium}
-use Rattle.dmpaft_driver.specs.TroubleText.{trouble_text}
-use Rattle.dmpaft_driver.specs.declared.outcome.Trouble.{Trouble}
+use Rattle.dmpaft_pump.specs.TroubleText.{trouble_text}
+use Rattle.dmpaft_pump.specs.declared.outcome.Trouble.{Trouble}
 use Rattle.gated_log.specs.declared.start.Purpose.TheVariants.{Write}
 use Rattle.serial_link.specs.Traffic.{Traffic}
 use Rattle.serial_link.specs.declared.link.Side.TheVariants.{Call}

@@ -10,7 +10,7 @@ ghost use Rattle.station_session.specs.Report.{IsNew};
 use crate::recovering::recover;
 use command_words::StationWords;
 use disk_model::Disk;
-use dmpaft_driver::Trouble;
+use dmpaft_pump::Trouble;
 use run_output::{Ending, Outside, ROOM, Status, Text, attach, connect, push_count, settle};
 use serial_link::{Link, Side};
 use station_base::push_bytes;

@@ -7,17 +7,17 @@ use Rattle.station_base.specs.CivilMinute.{CivilMinute}
 use Rattle.serial_link.specs.declared.talk.TalkItem.{TalkItem}
 use Rattle.serial_link.specs.declared.talk.TalkItem.TheVariants.{Said}
 use Rattle.vantage_frames.specs.StampFrame.{stamp_frame_of}
-use Rattle.dmpaft_driver.specs.declared.outcome.DumpEnd.{DumpEnd}
-use Rattle.dmpaft_driver.specs.declared.outcome.DumpEnd.TheVariants as dump_end
+use Rattle.dmpaft_pump.specs.declared.outcome.DumpEnd.{DumpEnd}
+use Rattle.dmpaft_pump.specs.declared.outcome.DumpEnd.TheVariants as dump_end
 use Rattle.dmpaft_driver.specs.Attempt.{Pages, Heads, Requests, Attempt, End}
-use Rattle.dmpaft_driver.specs.Batch.{slots, rising, newest, add, batches, answered, EndsGiving}
-use Rattle.dmpaft_driver.specs.Keeper.{kept_in}
+use Rattle.dmpaft_pump.specs.Batch.{slots, rising, newest, add, batches, answered, EndsGiving}
+use Rattle.dmpaft_pump.specs.Keeper.{kept_in}
 use Rattle.dmpaft_driver.specs.Outcome.{Ended}
 use Rattle.dmpaft_driver.specs.Gathered.{keeper_answer, steps_of}
 use Rattle.dmpaft_driver.specs.OneAttempt.{OneAttempt, OneFront, AcknowledgedAreKept, TakenAreAcknowledged}
 use Rattle.serial_link.specs.Talk.{message}
-use Rattle.dmpaft_driver.specs.Attempt.{dmpaft}
-use Rattle.dmpaft_driver.proofs.Keeping.{kept_answered, kept_in_all}
+use Rattle.dmpaft_pump.specs.Command.{dmpaft}
+use Rattle.dmpaft_pump.proofs.Keeping.{kept_answered, kept_in_all}
 use Rattle.dmpaft_driver.proofs.OneTalk.{attempt_goes, pages_say, refused_some, failed_not_refused, flooded_not_refused}
 
 no_rest : (A : List (List ℕ)) (more B : List (List ℕ)) → B ≡ A ++ more → more ≡ [] → A ≡ B

@@ -5,9 +5,9 @@ use Rattle.serial_link.specs.declared.talk.TalkItem.{TalkItem}
 use Rattle.serial_link.specs.declared.talk.TalkItem.TheVariants.{Said}
 use Rattle.wake_retry.specs.Parts.{heard, Still, Flooding, Awaits}
 use Rattle.wake_retry.proofs.Endings.{one_answer, one_still, one_flood, still_or_flood, behind_first, whole_again}
-use Rattle.dmpaft_driver.specs.declared.outcome.Trouble.{Trouble}
-use Rattle.dmpaft_driver.specs.declared.outcome.Trouble.TheVariants.{PageLost, PageAhead}
-use Rattle.dmpaft_driver.specs.Page.{is_page_for, is_ahead, next_said}
+use Rattle.dmpaft_pump.specs.declared.outcome.Trouble.{Trouble}
+use Rattle.dmpaft_pump.specs.declared.outcome.Trouble.TheVariants.{PageLost, PageAhead}
+use Rattle.dmpaft_pump.specs.Page.{is_page_for, is_ahead, next_said}
 use Rattle.dmpaft_driver.specs.Attempt.{Takes, Misses, AskFloods}
 
 -- what came of the askings for a page

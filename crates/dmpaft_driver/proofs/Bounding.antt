@@ -9,15 +9,16 @@ use Rattle.vantage_frames.specs.Words.{frame_of_words}
 use Rattle.wake_retry.specs.Parts.{heard}
 use Rattle.wake_retry.specs.Bounds.{IsBounded}
 use Rattle.wake_retry.proofs.Bounding.{bounded_joins, bounded_within, bounded_front, message_bounded, said_first, bounds_settling, bounds_answer, bounds_wake}
-use Rattle.dmpaft_driver.specs.declared.outcome.DumpEnd.{DumpEnd}
-use Rattle.dmpaft_driver.specs.declared.outcome.DumpEnd.TheVariants as dump_end
-use Rattle.dmpaft_driver.specs.declared.outcome.Trouble.{Trouble}
-use Rattle.dmpaft_driver.specs.declared.outcome.Trouble.TheVariants.{Asleep, NoAck}
-use Rattle.dmpaft_driver.specs.Header.{IsHeader, IsNoHeader, first_of}
-use Rattle.dmpaft_driver.specs.Attempt.{Attempt, Takes, Misses, AskFloods, Pages, Heads, Requests, End, esc, last_said, dmpaft}
+use Rattle.dmpaft_pump.specs.declared.outcome.DumpEnd.{DumpEnd}
+use Rattle.dmpaft_pump.specs.declared.outcome.DumpEnd.TheVariants as dump_end
+use Rattle.dmpaft_pump.specs.declared.outcome.Trouble.{Trouble}
+use Rattle.dmpaft_pump.specs.declared.outcome.Trouble.TheVariants.{Asleep, NoAck}
+use Rattle.dmpaft_pump.specs.Header.{IsHeader, IsNoHeader, first_of}
+use Rattle.dmpaft_driver.specs.Attempt.{Attempt, Takes, Misses, AskFloods, Pages, Heads, Requests, End, esc, last_said}
+use Rattle.dmpaft_pump.specs.Command.{dmpaft}
 use Rattle.dmpaft_driver.specs.Bounds.{AttemptsAreBounded}
 use Rattle.dmpaft_driver.specs.Outcome.{Ended, IsCutAfter}
-use Rattle.dmpaft_driver.specs.Page.{next_said}
+use Rattle.dmpaft_pump.specs.Page.{next_said}
 
 -- so many askings for a page, with a settling between two: as much is heard as by so many askings and settlings, less a settling
 abbrev AreAskings : ℕ → List TalkItem → Type 0

@@ -3,28 +3,28 @@ use Rattle.std.proofs.Common.{◌≡◌, ◌≢◌, ℕ, ◌<◌, true, false, L
 use Rattle.station_base.specs.CivilMinute.{CivilMinute}
 use Rattle.serial_link.specs.Talk.{message}
 use Rattle.serial_link.specs.declared.talk.TalkItem.{TalkItem}
-use Rattle.dmpaft_driver.specs.declared.outcome.DumpEnd.{DumpEnd}
-use Rattle.dmpaft_driver.specs.declared.outcome.Tally.{Tally}
-use Rattle.dmpaft_driver.specs.declared.phase.Phase.{Phase}
-use Rattle.dmpaft_driver.specs.declared.phase.Phase.TheVariants as phase
-use Rattle.dmpaft_driver.specs.declared.stage.Stage.{Stage}
-use Rattle.dmpaft_driver.specs.declared.stage.Stage.TheVariants as stage
-use Rattle.dmpaft_driver.specs.declared.pump.Pump.{Pump}
-use Rattle.dmpaft_driver.specs.Keeper.{Handed, last_kept}
-use Rattle.dmpaft_driver.specs.Phases.{part_of, quiets_of, Hears}
-use Rattle.dmpaft_driver.specs.Pump.{Part, Settling, Waking, Calling, Heading, Asking, Resettling, Acking, GivingUp, State, Saying, Hearing, Keeping, Over, Astray, words, quiets, told, saying, begun, pump_from}
-use Rattle.dmpaft_driver.specs.Shown.{Shows, ShowsAt, said_at, talks_at, room_at}
+use Rattle.dmpaft_pump.specs.declared.outcome.DumpEnd.{DumpEnd}
+use Rattle.dmpaft_pump.specs.declared.outcome.Tally.{Tally}
+use Rattle.dmpaft_pump.specs.declared.phase.Phase.{Phase}
+use Rattle.dmpaft_pump.specs.declared.phase.Phase.TheVariants as phase
+use Rattle.dmpaft_pump.specs.declared.stage.Stage.{Stage}
+use Rattle.dmpaft_pump.specs.declared.stage.Stage.TheVariants as stage
+use Rattle.dmpaft_pump.specs.declared.pump.Pump.{Pump}
+use Rattle.dmpaft_pump.specs.Keeper.{Handed, last_kept}
+use Rattle.dmpaft_pump.specs.Phases.{part_of, quiets_of, Hears}
+use Rattle.dmpaft_pump.specs.Pump.{Part, Settling, Waking, Calling, Heading, Asking, Resettling, Acking, GivingUp, State, Saying, Hearing, Keeping, Over, Astray, words, quiets, told, saying, begun, pump_from}
+use Rattle.dmpaft_pump.specs.Shown.{Shows, ShowsAt, said_at, talks_at, room_at}
 use Rattle.dmpaft_driver.specs.Standing.{place_in, taken_in, HasTaken, CanEnd, gives}
 use Rattle.dmpaft_driver.specs.Turning.{Stays, SaysLast, TurnsTo, ListensTo}
 use Rattle.vantage_frames.specs.StampFrame.{stamp_frame_of}
 use Rattle.serial_link.specs.declared.talk.TalkItem.TheVariants.{Said}
-use Rattle.dmpaft_driver.specs.declared.pump_end.PumpEnd.{PumpEnd}
-use Rattle.dmpaft_driver.specs.Attempt.{dmpaft}
-use Rattle.dmpaft_driver.specs.Ledger.{Ledger}
+use Rattle.dmpaft_pump.specs.declared.pump_end.PumpEnd.{PumpEnd}
+use Rattle.dmpaft_pump.specs.Command.{dmpaft}
+use Rattle.dmpaft_pump.specs.Ledger.{Ledger}
 use Rattle.dmpaft_driver.specs.Outcome.{EndsSaying}
 use Rattle.dmpaft_driver.proofs.Exactly.{told_is}
 use Rattle.dmpaft_driver.proofs.Rest.{Listens}
-use Rattle.dmpaft_driver.proofs.Steps.{most_same, rest_same}
+use Rattle.dmpaft_pump.proofs.Steps.{most_same, rest_same}
 use Rattle.dmpaft_driver.proofs.Joining.{said_front}
 use Rattle.dmpaft_driver.proofs.Finishing.{Fine, Mild, finishes}
 

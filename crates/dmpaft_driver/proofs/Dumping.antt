@@ -9,43 +9,44 @@ use Rattle.serial_link.specs.declared.talk.TalkItem.TheVariants.{Said, Heard, Qu
 use Rattle.wake_retry.specs.Parts.{ends_awake}
 use Rattle.causes.specs.declared.stored.Stored.{Stored}
 use Rattle.causes.specs.declared.stored.Stored.TheVariants as stored
-use Rattle.dmpaft_driver.specs.declared.outcome.DumpEnd.{DumpEnd}
-use Rattle.dmpaft_driver.specs.declared.outcome.Tally.{Tally}
-use Rattle.dmpaft_driver.specs.declared.phase.Phase.{Phase}
-use Rattle.dmpaft_driver.specs.declared.phase.Phase.TheVariants as phase
-use Rattle.dmpaft_driver.specs.declared.pump_end.PumpEnd.{PumpEnd}
-use Rattle.dmpaft_driver.specs.declared.pump_end.PumpEnd.TheVariants as pump_end
-use Rattle.dmpaft_driver.specs.declared.stage.Stage.{Stage}
-use Rattle.dmpaft_driver.specs.declared.stage.Stage.TheVariants as stage
-use Rattle.dmpaft_driver.specs.declared.pump.Pump.{Pump}
-use Rattle.dmpaft_driver.specs.Attempt.{Attempt, End, dmpaft}
-use Rattle.dmpaft_driver.specs.Batch.{slots, rising, newest, all_slots, add, batches, answered, EndsGiving}
+use Rattle.dmpaft_pump.specs.declared.outcome.DumpEnd.{DumpEnd}
+use Rattle.dmpaft_pump.specs.declared.outcome.Tally.{Tally}
+use Rattle.dmpaft_pump.specs.declared.phase.Phase.{Phase}
+use Rattle.dmpaft_pump.specs.declared.phase.Phase.TheVariants as phase
+use Rattle.dmpaft_pump.specs.declared.pump_end.PumpEnd.{PumpEnd}
+use Rattle.dmpaft_pump.specs.declared.pump_end.PumpEnd.TheVariants as pump_end
+use Rattle.dmpaft_pump.specs.declared.stage.Stage.{Stage}
+use Rattle.dmpaft_pump.specs.declared.stage.Stage.TheVariants as stage
+use Rattle.dmpaft_pump.specs.declared.pump.Pump.{Pump}
+use Rattle.dmpaft_driver.specs.Attempt.{Attempt, End}
+use Rattle.dmpaft_pump.specs.Command.{dmpaft}
+use Rattle.dmpaft_pump.specs.Batch.{slots, rising, newest, all_slots, add, batches, answered, EndsGiving}
 use Rattle.dmpaft_driver.specs.Exact.{end_of}
-use Rattle.dmpaft_driver.specs.Keeper.{Handed, one_batch, kept_all, join, count, last_kept}
+use Rattle.dmpaft_pump.specs.Keeper.{Handed, one_batch, kept_all, join, count, last_kept}
 use Rattle.archive_record.specs.Reading.{stamp_in}
 use Rattle.station_base.specs.LastStamp.{Rises, last_stamp}
-use Rattle.dmpaft_driver.specs.Ledger.{Ledger}
+use Rattle.dmpaft_pump.specs.Ledger.{Ledger}
 use Rattle.dmpaft_driver.specs.Outcome.{Ended, EndsSaying, IsCutAfter}
 use Rattle.dmpaft_driver.specs.Gathered.{keeper_answer}
-use Rattle.dmpaft_driver.specs.Page.{is_page_for, is_ahead, next_said}
-use Rattle.dmpaft_driver.specs.Phases.{part_of, Fits}
-use Rattle.dmpaft_driver.specs.Reply.{Reply, Header, NoHeader, reply_of}
-use Rattle.dmpaft_driver.specs.Slot.{IsWithin}
-use Rattle.dmpaft_driver.specs.Pump.{Part, Settling, Waking, Calling, Heading, Asking, Resettling, Acking, GivingUp, State, Saying, Hearing, Keeping, Over, Astray, words, most, quiets, next, batched, woken, called, headed, asked_again, judged, onward, told, saying, begun, at, answered_by, said_if, is_said, heard_if, waited_if, newest_of, batch_of, pump_from, pump_after}
-use Rattle.dmpaft_driver.specs.Shown.{Tallied, all_kept, answer_of, Shows, ShowsAt, keeps_at, talks_at}
+use Rattle.dmpaft_pump.specs.Page.{is_page_for, is_ahead, next_said}
+use Rattle.dmpaft_pump.specs.Phases.{part_of, Fits}
+use Rattle.dmpaft_pump.specs.Reply.{Reply, Header, NoHeader, reply_of}
+use Rattle.dmpaft_pump.specs.Slot.{IsWithin}
+use Rattle.dmpaft_pump.specs.Pump.{Part, Settling, Waking, Calling, Heading, Asking, Resettling, Acking, GivingUp, State, Saying, Hearing, Keeping, Over, Astray, words, most, quiets, next, batched, woken, called, headed, asked_again, judged, onward, told, saying, begun, at, answered_by, said_if, is_said, heard_if, waited_if, newest_of, batch_of, pump_from, pump_after}
+use Rattle.dmpaft_pump.specs.Shown.{Tallied, all_kept, answer_of, Shows, ShowsAt, keeps_at, talks_at}
 use Rattle.dmpaft_driver.specs.Standing.{place_in, taken_in, HasTaken, CanEnd, handed, gives}
 use Rattle.dmpaft_driver.specs.Turning.{dump_end_of, IsCut, SaysLast, IsOneStep}
 use Rattle.dmpaft_driver.proofs.Cutting.{saying_has, fine_shown, begun_not_over}
 use Rattle.dmpaft_driver.proofs.Exactly.{sound}
 use Rattle.dmpaft_driver.proofs.Finishing.{Fine}
-use Rattle.dmpaft_driver.proofs.Unrolling.{newest_joins}
+use Rattle.dmpaft_pump.proofs.LastBatch.{newest_joins}
 use Rattle.dmpaft_driver.proofs.Joining.{joins}
 use Rattle.dmpaft_driver.proofs.Taken.{were_taken}
-use Rattle.dmpaft_driver.proofs.Keeping.{join_none, kept_answered, one_size, last_joins, count_join, count_kept}
-use Rattle.dmpaft_driver.proofs.Pumping.{kept_none}
-use Rattle.dmpaft_driver.proofs.Rows.{rows_rise, within_self}
-use Rattle.dmpaft_driver.proofs.Steps.{rest_same, one_more, last_of_rising}
-use Rattle.dmpaft_driver.proofs.Walking.{astray_stays}
+use Rattle.dmpaft_pump.proofs.Keeping.{join_none, kept_answered, one_size, last_joins, count_join, count_kept}
+use Rattle.dmpaft_pump.proofs.Pumping.{kept_none}
+use Rattle.dmpaft_pump.proofs.Rows.{rows_rise, within_self}
+use Rattle.dmpaft_pump.proofs.Steps.{rest_same, one_more, last_of_rising}
+use Rattle.dmpaft_pump.proofs.Walking.{astray_stays}
 
 module _ (a : Option CivilMinute) where
   handed_told : (p : Part) → handed a (told p) ≡ all_kept a (place_in p) (taken_in p)

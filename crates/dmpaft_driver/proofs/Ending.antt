@@ -7,25 +7,25 @@ use Rattle.serial_link.specs.declared.talk.TalkItem.{TalkItem}
 use Rattle.serial_link.proofs.Growing.{adds_joins}
 use Rattle.causes.specs.declared.stored.Stored.{Stored}
 use Rattle.causes.specs.declared.stored.Stored.TheVariants as stored
-use Rattle.dmpaft_driver.specs.declared.outcome.DumpEnd.{DumpEnd}
-use Rattle.dmpaft_driver.specs.declared.outcome.Tally.{Tally}
-use Rattle.dmpaft_driver.specs.declared.pump.Pump.{Pump}
+use Rattle.dmpaft_pump.specs.declared.outcome.DumpEnd.{DumpEnd}
+use Rattle.dmpaft_pump.specs.declared.outcome.Tally.{Tally}
+use Rattle.dmpaft_pump.specs.declared.pump.Pump.{Pump}
 use Rattle.dmpaft_driver.specs.Attempt.{Attempt}
-use Rattle.dmpaft_driver.specs.Batch.{batches, answered, EndsGiving}
-use Rattle.dmpaft_driver.specs.Keeper.{Handed, count, last_kept}
+use Rattle.dmpaft_pump.specs.Batch.{batches, answered, EndsGiving}
+use Rattle.dmpaft_pump.specs.Keeper.{Handed, count, last_kept}
 use Rattle.dmpaft_driver.specs.Outcome.{Ended}
 use Rattle.dmpaft_driver.specs.Gathered.{Gathers, keeper_answer, steps_of}
 use Rattle.dmpaft_driver.specs.Dump.{host, Dumped}
-use Rattle.dmpaft_driver.specs.Ledger.{Ledger}
+use Rattle.dmpaft_pump.specs.Ledger.{Ledger}
 use Rattle.serial_link.specs.Traffic.{Traffic}
-use Rattle.dmpaft_driver.specs.Pump.{State, Over, pump_after}
-use Rattle.dmpaft_driver.specs.Shown.{Tallied, all_kept, answer_of, Shows}
+use Rattle.dmpaft_pump.specs.Pump.{State, Over, pump_after}
+use Rattle.dmpaft_pump.specs.Shown.{Tallied, all_kept, answer_of, Shows}
 use Rattle.dmpaft_driver.specs.Standing.{handed, gives}
 use Rattle.dmpaft_driver.specs.Turning.{Desk, Turns, EndsAt, CutsAt}
 use Rattle.dmpaft_driver.proofs.Dumping.{none_given, batches_few, kept_few, over_shown, cut_shown, ended_as, ended_cut, cut_answer, answer_same, shown_no_astray, cut_front}
 use Rattle.dmpaft_driver.proofs.Exactly.{sound}
-use Rattle.dmpaft_driver.proofs.Keeping.{kept_answered, count_kept}
-use Rattle.dmpaft_driver.proofs.Pumping.{all_few}
+use Rattle.dmpaft_pump.proofs.Keeping.{kept_answered, count_kept}
+use Rattle.dmpaft_pump.proofs.Pumping.{all_few}
 
 module _ {L K : Type 0} (traffic : Traffic L) (ledger : Ledger K) (start : Tally) (a : Option CivilMinute) (l0 : L) (k0 : K) (old new : Desk L K)
     (t : List TalkItem) (ks : List Stored) (s : State) (at : pump_after a t ks ≡ s) (adds : Adds traffic l0 t old.link) (shown : Shows start a s old.pump)

@@ -7,14 +7,14 @@ use Rattle.serial_link.specs.declared.talk.TalkItem.TheVariants.{Said}
 use Rattle.wake_retry.specs.Parts.{heard}
 use Rattle.causes.specs.declared.stored.Stored.{Stored}
 use Rattle.causes.specs.declared.stored.Stored.TheVariants as stored
-use Rattle.dmpaft_driver.specs.declared.outcome.Trouble.{Trouble}
-use Rattle.dmpaft_driver.specs.declared.pump_end.PumpEnd.{PumpEnd}
-use Rattle.dmpaft_driver.specs.declared.pump_end.PumpEnd.TheVariants as pump_end
+use Rattle.dmpaft_pump.specs.declared.outcome.Trouble.{Trouble}
+use Rattle.dmpaft_pump.specs.declared.pump_end.PumpEnd.{PumpEnd}
+use Rattle.dmpaft_pump.specs.declared.pump_end.PumpEnd.TheVariants as pump_end
 use Rattle.dmpaft_driver.specs.Attempt.{End}
-use Rattle.dmpaft_driver.specs.Pump.{saying, Part, Settling, Waking, Calling, Heading, Asking, Resettling, Acking, GivingUp, Next, Goes, Keeps, Empty, Floods, State, Hearing, Keeping, Over, Astray, words, quiets, most, onward, next, told, begun, at, pump_from}
+use Rattle.dmpaft_pump.specs.Pump.{saying, Part, Settling, Waking, Calling, Heading, Asking, Resettling, Acking, GivingUp, Next, Goes, Keeps, Empty, Floods, State, Hearing, Keeping, Over, Astray, words, quiets, most, onward, next, told, begun, at, pump_from}
 use Rattle.dmpaft_driver.specs.Exact.{end_of, AllDone, RefusesGiven, Sound, Complete}
-use Rattle.dmpaft_driver.proofs.Hears.{HearsFrom, hears_some}
-use Rattle.dmpaft_driver.proofs.Walking.{no_astray, over_is, said_out, Within, Passed, passes, said_in, heard_in}
+use Rattle.dmpaft_pump.proofs.Hears.{HearsFrom, hears_some}
+use Rattle.dmpaft_pump.proofs.Walking.{no_astray, over_is, said_out, Within, Passed, passes, said_in, heard_in}
 use Rattle.dmpaft_driver.proofs.Rest.{Likeness, Rest, RestAt, Listens, onward_pages, pages_onward, out}
 use Rattle.dmpaft_driver.proofs.Unrolling.{into}
 

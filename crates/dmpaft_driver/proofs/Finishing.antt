@@ -8,22 +8,22 @@ use Rattle.wake_retry.specs.Parts.{heard, ends_awake}
 use Rattle.wake_retry.proofs.Running.{silence}
 use Rattle.causes.specs.declared.stored.Stored.{Stored}
 use Rattle.causes.specs.declared.stored.Stored.TheVariants as stored
-use Rattle.dmpaft_driver.specs.declared.outcome.Trouble.{Trouble}
-use Rattle.dmpaft_driver.specs.declared.outcome.Trouble.TheVariants.{ShortHeader}
-use Rattle.dmpaft_driver.specs.declared.pump_end.PumpEnd.{PumpEnd}
-use Rattle.dmpaft_driver.specs.declared.pump_end.PumpEnd.TheVariants as pump_end
+use Rattle.dmpaft_pump.specs.declared.outcome.Trouble.{Trouble}
+use Rattle.dmpaft_pump.specs.declared.outcome.Trouble.TheVariants.{ShortHeader}
+use Rattle.dmpaft_pump.specs.declared.pump_end.PumpEnd.{PumpEnd}
+use Rattle.dmpaft_pump.specs.declared.pump_end.PumpEnd.TheVariants as pump_end
 use Rattle.dmpaft_driver.specs.Attempt.{End}
 use Rattle.dmpaft_driver.specs.Exact.{AllDone, end_of}
-use Rattle.dmpaft_driver.specs.Page.{is_page_for, is_ahead, next_said}
-use Rattle.dmpaft_driver.specs.Pump.{Part, Settling, Waking, Calling, Heading, Asking, Resettling, Acking, GivingUp, State, Saying, Hearing, Keeping, Over, Astray, words, quiets, most, next, woken, called, headed, asked_again, judged, onward, told, saying, begun, at, pump_from}
-use Rattle.dmpaft_driver.specs.Reply.{Reply}
+use Rattle.dmpaft_pump.specs.Page.{is_page_for, is_ahead, next_said}
+use Rattle.dmpaft_pump.specs.Pump.{Part, Settling, Waking, Calling, Heading, Asking, Resettling, Acking, GivingUp, State, Saying, Hearing, Keeping, Over, Astray, words, quiets, most, next, woken, called, headed, asked_again, judged, onward, told, saying, begun, at, pump_from}
+use Rattle.dmpaft_pump.specs.Reply.{Reply}
 use Rattle.dmpaft_driver.specs.Standing.{place_in, taken_in, HasTaken}
 use Rattle.dmpaft_driver.proofs.Exactly.{kept_done, told_is, some_quiets}
-use Rattle.dmpaft_driver.proofs.Hears.{HearsFrom}
-use Rattle.dmpaft_driver.proofs.Judging.{no_page, not_whole}
-use Rattle.dmpaft_driver.proofs.Replies.{no_header_is}
+use Rattle.dmpaft_pump.proofs.Hears.{HearsFrom}
+use Rattle.dmpaft_pump.proofs.Judging.{no_page, not_whole}
+use Rattle.dmpaft_pump.proofs.Replies.{no_header_is}
 use Rattle.dmpaft_driver.proofs.Rest.{Listens}
-use Rattle.dmpaft_driver.proofs.Walking.{said_in, heard_in}
+use Rattle.dmpaft_pump.proofs.Walking.{said_in, heard_in}
 
 -- a part hears a message's rest, or hears and is not at its end
 abbrev pub Fine : State → Type 0

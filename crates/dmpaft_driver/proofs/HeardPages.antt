@@ -4,7 +4,8 @@ use Rattle.serial_link.specs.Talk.{message}
 use Rattle.serial_link.specs.declared.talk.TalkItem.{TalkItem}
 use Rattle.wake_retry.specs.Parts.{heard}
 use Rattle.wake_retry.proofs.Endings.{heard-append}
-use Rattle.dmpaft_driver.specs.Attempt.{Takes, Pages, Heads, Requests, End, dmpaft}
+use Rattle.dmpaft_driver.specs.Attempt.{Takes, Pages, Heads, Requests, End}
+use Rattle.dmpaft_pump.specs.Command.{dmpaft}
 use Rattle.dmpaft_driver.specs.OneAttempt.{StandIn, TakenWereHeard}
 
 -- they stand behind more

@@ -6,10 +6,10 @@ use Rattle.serial_link.specs.declared.talk.TalkItem.{TalkItem}
 use Rattle.serial_link.specs.declared.talk.TalkItem.TheVariants.{Said}
 use Rattle.causes.specs.declared.stored.Stored.{Stored}
 use Rattle.causes.specs.declared.stored.Stored.TheVariants as stored
-use Rattle.dmpaft_driver.specs.Pump.{Part, State, Saying, Hearing, Keeping, Over, Astray, saying, said_if, is_said, step, pump_from, answered_by}
-use Rattle.dmpaft_driver.proofs.Walking.{astray_stays, said_refl}
+use Rattle.dmpaft_pump.specs.Pump.{Part, State, Saying, Hearing, Keeping, Over, Astray, saying, said_if, is_said, step, pump_from, answered_by}
+use Rattle.dmpaft_pump.proofs.Walking.{astray_stays, said_refl}
 use Rattle.dmpaft_driver.proofs.Exactly.{kept_done}
-use Rattle.dmpaft_driver.proofs.Steps.{rest_same}
+use Rattle.dmpaft_pump.proofs.Steps.{rest_same}
 
 module _ (a : Option CivilMinute) where
   kept_joins : (more at : ℕ) (taken : List (List ℕ)) (page : List ℕ) (k : Stored) (u : List TalkItem) (js : List Stored)

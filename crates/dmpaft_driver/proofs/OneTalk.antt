@@ -6,10 +6,11 @@ use Rattle.serial_link.specs.declared.talk.TalkItem.{TalkItem}
 use Rattle.serial_link.specs.declared.talk.TalkItem.TheVariants.{Said}
 use Rattle.wake_retry.specs.Parts.{heard}
 use Rattle.wake_retry.proofs.Endings.{one_answer, one_still, one_wake, still_or_flood, flood_or_wake}
-use Rattle.dmpaft_driver.specs.declared.outcome.Trouble.{Trouble}
-use Rattle.dmpaft_driver.specs.declared.outcome.Trouble.TheVariants.{Asleep, NoAck}
-use Rattle.dmpaft_driver.specs.Header.{IsHeader, IsNoHeader, first_of}
-use Rattle.dmpaft_driver.specs.Attempt.{Pages, Heads, Requests, Attempt, End, esc, last_said, dmpaft}
+use Rattle.dmpaft_pump.specs.declared.outcome.Trouble.{Trouble}
+use Rattle.dmpaft_pump.specs.declared.outcome.Trouble.TheVariants.{Asleep, NoAck}
+use Rattle.dmpaft_pump.specs.Header.{IsHeader, IsNoHeader, first_of}
+use Rattle.dmpaft_driver.specs.Attempt.{Pages, Heads, Requests, Attempt, End, esc, last_said}
+use Rattle.dmpaft_pump.specs.Command.{dmpaft}
 use Rattle.dmpaft_driver.proofs.NoHeader.{no_header}
 use Rattle.dmpaft_driver.proofs.Troubles.{one_header, one_trouble}
 use Rattle.dmpaft_driver.proofs.Askings.{Came, begins_saying, one_askings}

@@ -3,13 +3,13 @@ use Rattle.std.proofs.Common.{◌≡◌, ◌≢◌, ℕ, ◌<◌, List, [], ◌�
 use Rattle.station_base.specs.CivilMinute.{CivilMinute}
 use Rattle.vantage_frames.specs.StampFrame.{stamp_frame_of}
 use Rattle.serial_link.specs.declared.talk.TalkItem.{TalkItem}
-use Rattle.dmpaft_driver.specs.declared.pump_end.PumpEnd.{PumpEnd}
-use Rattle.dmpaft_driver.specs.declared.pump_end.PumpEnd.TheVariants as pump_end
+use Rattle.dmpaft_pump.specs.declared.pump_end.PumpEnd.{PumpEnd}
+use Rattle.dmpaft_pump.specs.declared.pump_end.PumpEnd.TheVariants as pump_end
 use Rattle.dmpaft_driver.specs.declared.trying.TrialEnd.{TrialEnd}
 use Rattle.dmpaft_driver.specs.declared.trying.TrialEnd.TheVariants as trial_end
 use Rattle.dmpaft_driver.specs.Attempt.{Attempt, End}
 use Rattle.dmpaft_driver.specs.Exact.{end_of}
-use Rattle.dmpaft_driver.specs.Pump.{Over}
+use Rattle.dmpaft_pump.specs.Pump.{Over}
 use Rattle.dmpaft_driver.specs.Trial.{GoesOn, Begins, Tried}
 use Rattle.dmpaft_driver.proofs.Acknowledging.{one_attempt}
 use Rattle.dmpaft_driver.proofs.Exactly.{complete, whole_is, flooded_is, failed_is}

@@ -8,15 +8,16 @@ use Rattle.serial_link.specs.Talk.{message}
 use Rattle.serial_link.specs.declared.talk.TalkItem.{TalkItem}
 use Rattle.serial_link.specs.declared.talk.TalkItem.TheVariants.{Said}
 use Rattle.wake_retry.specs.Parts.{heard, Still, Flooding, Awaits, Wakes, WakeFloods, ends_awake}
-use Rattle.dmpaft_driver.specs.declared.outcome.Trouble.{Trouble}
-use Rattle.dmpaft_driver.specs.declared.outcome.Trouble.TheVariants.{Asleep, PageLost, PageAhead}
-use Rattle.dmpaft_driver.specs.Header.{IsHeader}
-use Rattle.dmpaft_driver.specs.Page.{is_page_for, is_ahead, next_said}
-use Rattle.dmpaft_driver.specs.Attempt.{Takes, Misses, AskFloods, Pages, Heads, Requests, Attempt, End, esc, last_said, dmpaft}
-use Rattle.dmpaft_driver.specs.Reply.{Reply, Header, NoHeader, reply_of}
-use Rattle.dmpaft_driver.specs.Pump.{Part, Settling, Waking, Calling, Heading, Asking, Resettling, Acking, GivingUp, Next, Goes, Keeps, Empty, Floods, words, quiets, most, batch_of, onward, batched, woken, called, headed, asked_again, judged, next}
-use Rattle.dmpaft_driver.proofs.Hears.{HearsFrom, hears_still, flood_hears, hears_flood, hears_awaits}
-use Rattle.dmpaft_driver.proofs.Replies.{Replies, reply_is}
+use Rattle.dmpaft_pump.specs.declared.outcome.Trouble.{Trouble}
+use Rattle.dmpaft_pump.specs.declared.outcome.Trouble.TheVariants.{Asleep, PageLost, PageAhead}
+use Rattle.dmpaft_pump.specs.Header.{IsHeader}
+use Rattle.dmpaft_pump.specs.Page.{is_page_for, is_ahead, next_said}
+use Rattle.dmpaft_driver.specs.Attempt.{Takes, Misses, AskFloods, Pages, Heads, Requests, Attempt, End, esc, last_said}
+use Rattle.dmpaft_pump.specs.Command.{dmpaft}
+use Rattle.dmpaft_pump.specs.Reply.{Reply, Header, NoHeader, reply_of}
+use Rattle.dmpaft_pump.specs.Pump.{Part, Settling, Waking, Calling, Heading, Asking, Resettling, Acking, GivingUp, Next, Goes, Keeps, Empty, Floods, words, quiets, most, batch_of, onward, batched, woken, called, headed, asked_again, judged, next}
+use Rattle.dmpaft_pump.proofs.Hears.{HearsFrom, hears_still, flood_hears, hears_flood, hears_awaits}
+use Rattle.dmpaft_pump.proofs.Replies.{Replies, reply_is}
 
 -- after a page: so many more from page k on, or its batch is refused
 abbrev pub Later : ℕ → ℕ → List TalkItem → List (List ℕ) → End → Type 0

@@ -5,13 +5,13 @@ use Rattle.vantage_frames.specs.StampFrame.{stamp_frame_of}
 use Rattle.serial_link.specs.declared.talk.TalkItem.{TalkItem}
 use Rattle.causes.specs.declared.stored.Stored.{Stored}
 use Rattle.causes.specs.declared.stored.Stored.TheVariants as stored
-use Rattle.dmpaft_driver.specs.declared.pump_end.PumpEnd.{PumpEnd}
-use Rattle.dmpaft_driver.specs.declared.pump_end.PumpEnd.TheVariants as pump_end
+use Rattle.dmpaft_pump.specs.declared.pump_end.PumpEnd.{PumpEnd}
+use Rattle.dmpaft_pump.specs.declared.pump_end.PumpEnd.TheVariants as pump_end
 use Rattle.dmpaft_driver.specs.Attempt.{Attempt, End}
 use Rattle.dmpaft_driver.specs.Exact.{end_of, AllDone, RefusesGiven, Stuck}
-use Rattle.dmpaft_driver.specs.Pump.{State, Saying, Hearing, Keeping, Over, Astray, Settling, begun, step, given, ungiven, onward, pump_from}
+use Rattle.dmpaft_pump.specs.Pump.{State, Saying, Hearing, Keeping, Over, Astray, Settling, begun, step, given, ungiven, onward, pump_from}
 use Rattle.dmpaft_driver.proofs.Exactly.{complete, kept_done}
-use Rattle.dmpaft_driver.proofs.Walking.{no_astray, astray_stays}
+use Rattle.dmpaft_pump.proofs.Walking.{no_astray, astray_stays}
 
 -- a pump's end for each end of an attempt
 pump_end_for : (e : End) → (x : PumpEnd) × (end_of x ≡ e)

@@ -9,18 +9,18 @@ use Rattle.serial_link.specs.Talk.{message}
 use Rattle.serial_link.specs.declared.talk.TalkItem.{TalkItem}
 use Rattle.serial_link.specs.declared.talk.TalkItem.TheVariants.{Said}
 use Rattle.wake_retry.specs.Parts.{heard, ends_awake, Awaits}
-use Rattle.dmpaft_driver.specs.declared.pump_end.PumpEnd.{PumpEnd}
-use Rattle.dmpaft_driver.specs.declared.pump_end.PumpEnd.TheVariants as pump_end
+use Rattle.dmpaft_pump.specs.declared.pump_end.PumpEnd.{PumpEnd}
+use Rattle.dmpaft_pump.specs.declared.pump_end.PumpEnd.TheVariants as pump_end
 use Rattle.dmpaft_driver.specs.Attempt.{Attempt, End}
 use Rattle.dmpaft_driver.specs.Outcome.{WereTaken}
-use Rattle.dmpaft_driver.specs.Page.{is_page_for, is_ahead, next_said}
-use Rattle.dmpaft_driver.specs.Reply.{Reply, Header, NoHeader, reply_of}
-use Rattle.dmpaft_driver.specs.Pump.{Part, Settling, Waking, Calling, Heading, Asking, Resettling, Acking, GivingUp, Next, Goes, Keeps, Empty, Floods, State, Over, Astray, words, quiets, most, next, batched, woken, called, headed, asked_again, judged, onward, told, begun, at, batch_of, pump_from, pump_after}
+use Rattle.dmpaft_pump.specs.Page.{is_page_for, is_ahead, next_said}
+use Rattle.dmpaft_pump.specs.Reply.{Reply, Header, NoHeader, reply_of}
+use Rattle.dmpaft_pump.specs.Pump.{Part, Settling, Waking, Calling, Heading, Asking, Resettling, Acking, GivingUp, Next, Goes, Keeps, Empty, Floods, State, Over, Astray, words, quiets, most, next, batched, woken, called, headed, asked_again, judged, onward, told, begun, at, batch_of, pump_from, pump_after}
 use Rattle.dmpaft_driver.specs.Standing.{place_in, taken_in, HasTaken}
 use Rattle.dmpaft_driver.proofs.Exactly.{Exact, kept_done, told_is, some_quiets, some_bytes, less_left}
-use Rattle.dmpaft_driver.proofs.Hears.{HearsFrom, hears_awaits}
+use Rattle.dmpaft_pump.proofs.Hears.{HearsFrom, hears_awaits}
 use Rattle.dmpaft_driver.proofs.Rest.{Rest, RestAt, Listens, onward_pages, out, taken_out}
-use Rattle.dmpaft_driver.proofs.Walking.{astray_stays, Within, Passed, passes, said_out}
+use Rattle.dmpaft_pump.proofs.Walking.{astray_stays, Within, Passed, passes, said_out}
 
 -- the place of the header and the pages taken, at what comes next
 abbrev place_at : Next → ℕ

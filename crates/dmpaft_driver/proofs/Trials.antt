@@ -8,17 +8,17 @@ use Rattle.vantage_frames.specs.StampFrame.{stamp_frame_of}
 use Rattle.serial_link.specs.Talk.{message}
 use Rattle.serial_link.specs.declared.talk.TalkItem.{TalkItem}
 use Rattle.serial_link.specs.declared.talk.TalkItem.TheVariants.{Said, Heard, Quiet}
-use Rattle.dmpaft_driver.specs.declared.outcome.Tally.{Tally}
-use Rattle.dmpaft_driver.specs.declared.pump.Pump.{Pump}
-use Rattle.dmpaft_driver.specs.declared.pump_end.PumpEnd.{PumpEnd}
-use Rattle.dmpaft_driver.specs.declared.stage.Stage.{Stage}
-use Rattle.dmpaft_driver.specs.declared.stage.Stage.TheVariants as stage
+use Rattle.dmpaft_pump.specs.declared.outcome.Tally.{Tally}
+use Rattle.dmpaft_pump.specs.declared.pump.Pump.{Pump}
+use Rattle.dmpaft_pump.specs.declared.pump_end.PumpEnd.{PumpEnd}
+use Rattle.dmpaft_pump.specs.declared.stage.Stage.{Stage}
+use Rattle.dmpaft_pump.specs.declared.stage.Stage.TheVariants as stage
 use Rattle.dmpaft_driver.specs.declared.trying.TrialEnd.{TrialEnd}
 use Rattle.dmpaft_driver.specs.declared.trying.TrialEnd.TheVariants as trial_end
 use Rattle.dmpaft_driver.specs.Attempt.{Attempt}
 use Rattle.dmpaft_driver.specs.Exact.{AllDone, end_of}
-use Rattle.dmpaft_driver.specs.Pump.{Part, Settling, Next, Goes, Keeps, Empty, Floods, State, Saying, Hearing, Keeping, Over, Astray, words, quiets, most, next, onward, saying, begun, at, given, step, is_said, said_if, heard_if, waited_if, pump_from, pump_after}
-use Rattle.dmpaft_driver.specs.Shown.{Shows, ShowsAt, room_of, room_at}
+use Rattle.dmpaft_pump.specs.Pump.{Part, Settling, Next, Goes, Keeps, Empty, Floods, State, Saying, Hearing, Keeping, Over, Astray, words, quiets, most, next, onward, saying, begun, at, given, step, is_said, said_if, heard_if, waited_if, pump_from, pump_after}
+use Rattle.dmpaft_pump.specs.Shown.{Shows, ShowsAt, room_of, room_at}
 use Rattle.dmpaft_driver.specs.Standing.{place_in, taken_in}
 use Rattle.dmpaft_driver.specs.Trial.{GoesOn, Tried}
 use Rattle.dmpaft_driver.specs.Trying.{is_last, Differs, Spells, MightEnd, StopsAt, later}
@@ -27,10 +27,10 @@ use Rattle.dmpaft_driver.proofs.Dumping.{goes_on}
 use Rattle.dmpaft_driver.proofs.Exactly.{sound}
 use Rattle.dmpaft_driver.proofs.Finishing.{Fine, Mild, finishes}
 use Rattle.dmpaft_driver.proofs.Joining.{said_front}
-use Rattle.dmpaft_driver.proofs.Judging.{not_equal}
-use Rattle.dmpaft_driver.proofs.Steps.{rest_same}
+use Rattle.dmpaft_pump.proofs.Judging.{not_equal}
+use Rattle.dmpaft_pump.proofs.Steps.{rest_same}
 use Rattle.dmpaft_driver.proofs.Stuck.{stuck}
-use Rattle.dmpaft_driver.proofs.Walking.{said_is, no_astray, astray_stays}
+use Rattle.dmpaft_pump.proofs.Walking.{said_is, no_astray, astray_stays}
 
 message_cons : (b : ℕ) (bs : List ℕ) → message (b ∷ bs) ≡ Said b (is_last bs) ∷ message bs
 message_cons b [] = refl

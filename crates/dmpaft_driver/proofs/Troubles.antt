@@ -1,8 +1,8 @@
 -- An answer to a stamp frame is one header, or shows one trouble.
 use Rattle.std.proofs.Common.{◌≡◌, ℕ, List, refl, sym, ◌∙◌, ap, arith}
-use Rattle.dmpaft_driver.specs.declared.outcome.Trouble.{Trouble}
-use Rattle.dmpaft_driver.specs.declared.outcome.Trouble.TheVariants.{Asleep, NoAck, ShortHeader, NoHeaderAck, HeaderCheck, HeaderNumbers, PageLost, PageAhead}
-use Rattle.dmpaft_driver.specs.Header.{IsHeader, IsNoHeader}
+use Rattle.dmpaft_pump.specs.declared.outcome.Trouble.{Trouble}
+use Rattle.dmpaft_pump.specs.declared.outcome.Trouble.TheVariants.{Asleep, NoAck, ShortHeader, NoHeaderAck, HeaderCheck, HeaderNumbers, PageLost, PageAhead}
+use Rattle.dmpaft_pump.specs.Header.{IsHeader, IsNoHeader}
 
 -- the numbers of a header are its own
 pub one_header : (bytes : List ℕ) (n place m other : ℕ) → IsHeader bytes n place → IsHeader bytes m other → (n ≡ m) × (place ≡ other)

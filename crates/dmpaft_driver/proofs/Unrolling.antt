@@ -1,5 +1,5 @@
 -- How what is left of an attempt begins with one part of it.
-use Rattle.std.proofs.Common.{◌≡◌, ◌≢◌, ℕ, zero, suc, ◌+◌, ◌<◌, Bool, true, false, List, [], ◌∷◌, ◌++◌, length, refl, sym, ◌∙◌, ap, subst, inl, inr, arith, append_assoc, append-nil, Option}
+use Rattle.std.proofs.Common.{◌≡◌, ℕ, zero, suc, ◌+◌, ◌<◌, Bool, true, false, List, [], ◌∷◌, ◌++◌, length, refl, sym, ◌∙◌, ap, subst, inl, inr, arith, append_assoc, append-nil, Option}
 use Rattle.std.specs.Prelude.{bytes_eq}
 use Rattle.std.proofs.lemmas.Slice.Eq.{bytes_eq-Decides}
 use Rattle.station_base.specs.CivilMinute.{CivilMinute}
@@ -8,36 +8,17 @@ use Rattle.serial_link.specs.Talk.{message}
 use Rattle.serial_link.specs.declared.talk.TalkItem.{TalkItem}
 use Rattle.serial_link.specs.declared.talk.TalkItem.TheVariants.{Said}
 use Rattle.wake_retry.specs.Parts.{heard, Still, Awaits, Wakes, WakeFloods}
-use Rattle.dmpaft_driver.specs.declared.outcome.Trouble.{Trouble}
-use Rattle.dmpaft_driver.specs.Header.{IsHeader}
-use Rattle.dmpaft_driver.specs.Page.{is_page_for, is_ahead}
+use Rattle.dmpaft_pump.specs.declared.outcome.Trouble.{Trouble}
+use Rattle.dmpaft_pump.specs.Header.{IsHeader}
+use Rattle.dmpaft_pump.specs.Page.{is_page_for, is_ahead}
 use Rattle.dmpaft_driver.specs.Attempt.{Takes, Misses, AskFloods, Pages, Requests, End, esc}
-use Rattle.dmpaft_driver.specs.Batch.{slots, rising, newest, last_if, is_newer, all_slots, EndsGiving}
-use Rattle.dmpaft_driver.specs.Reply.{Reply}
-use Rattle.dmpaft_driver.specs.Pump.{Part, Settling, Waking, Calling, Heading, Asking, Resettling, Acking, GivingUp, batch_of, batched, woken, called, headed, judged, next}
-use Rattle.dmpaft_driver.proofs.Hears.{HearsFrom, still_hears, awaits_hears}
-use Rattle.dmpaft_driver.proofs.Replies.{header_is, no_header_is}
+use Rattle.dmpaft_pump.specs.Batch.{EndsGiving}
+use Rattle.dmpaft_pump.specs.Reply.{Reply}
+use Rattle.dmpaft_pump.specs.Pump.{Part, Settling, Waking, Calling, Heading, Asking, Resettling, Acking, GivingUp, batch_of, batched, woken, called, headed, judged, next}
+use Rattle.dmpaft_pump.proofs.Hears.{HearsFrom, still_hears, awaits_hears}
+use Rattle.dmpaft_pump.proofs.Replies.{header_is, no_header_is}
+use Rattle.dmpaft_pump.proofs.LastBatch.{gives_last}
 use Rattle.dmpaft_driver.proofs.Rest.{Later, Woke, Likeness, Rest, RestAt, Unrolled, Listens, pages_onward, flooding_hears}
-
-pub newest_joins : (a : Option CivilMinute) (xs ys : List (List ℕ)) → newest a (xs ++ ys) ≡ newest (newest a xs) ys
-newest_joins a [] ys = refl
-newest_joins a (s ∷ ss) ys = newest_joins (last_if (is_newer a s) a s) ss ys
-
--- the last page gives its batch
-pub gives_last : (a : Option CivilMinute) (at : ℕ) (taken : List (List ℕ)) (page : List ℕ) → EndsGiving a at (taken ++ page ∷ []) → batch_of a at taken page ≢ []
-gives_last a at [] page x = x
-gives_last a at (p ∷ []) page x =
-    subst (λ (b : Option CivilMinute). rising b (slots 0 page) ≢ []) (ap (λ (y : List (List ℕ)). newest a y) (sym (append-nil (slots at p)))) x
-gives_last a at (p ∷ q ∷ taken) page x =
-    let y = gives_last (newest a (slots at p)) 0 (q ∷ taken) page x in
-    subst (λ (b : Option CivilMinute). rising b (slots 0 page) ≢ []) (sym (newest_joins a (slots at p) (all_slots 0 (q ∷ taken)))) y
-
-pub gives_so : (a : Option CivilMinute) (at : ℕ) (taken : List (List ℕ)) (page : List ℕ) → batch_of a at taken page ≢ [] → EndsGiving a at (taken ++ page ∷ [])
-gives_so a at [] page x = x
-gives_so a at (p ∷ []) page x =
-    subst (λ (b : Option CivilMinute). rising b (slots 0 page) ≢ []) (sym (ap (λ (y : List (List ℕ)). newest a y) (sym (append-nil (slots at p))))) x
-gives_so a at (p ∷ q ∷ taken) page x =
-    gives_so (newest a (slots at p)) 0 (q ∷ taken) page (subst (λ (b : Option CivilMinute). rising b (slots 0 page) ≢ []) (newest_joins a (slots at p) (all_slots 0 (q ∷ taken))) x)
 
 -- the part that is awaited after dmpaft and frame
 front : (b : ℕ) (v s r rest t u : List TalkItem) → t ≡ u ++ rest → u ≡ Said b true ∷ v ++ r → t ≡ Said b true ∷ v ++ (r ++ rest)

@@ -6,12 +6,12 @@ use Rattle.serial_link.specs.declared.talk.TalkItem.{TalkItem}
 use Rattle.serial_link.specs.Traffic.{Traffic}
 use Rattle.serial_link.specs.Talk.{Adds}
 use Rattle.vantage_frames.specs.declared.header.TheConstants.{MOST_PAGES}
-use Rattle.dmpaft_driver.specs.declared.batch.TheConstants.{MOST_RECORDS}
-use Rattle.dmpaft_driver.specs.declared.outcome.DumpEnd.{DumpEnd}
-use Rattle.dmpaft_driver.specs.declared.outcome.DumpEnd.TheVariants as dump_end
-use Rattle.dmpaft_driver.specs.declared.outcome.Tally.{Tally}
-use Rattle.dmpaft_driver.specs.Ledger.{Ledger}
-use Rattle.dmpaft_driver.specs.Slot.{IsWithin}
+use Rattle.dmpaft_pump.specs.declared.batch.TheConstants.{MOST_RECORDS}
+use Rattle.dmpaft_pump.specs.declared.outcome.DumpEnd.{DumpEnd}
+use Rattle.dmpaft_pump.specs.declared.outcome.DumpEnd.TheVariants as dump_end
+use Rattle.dmpaft_pump.specs.declared.outcome.Tally.{Tally}
+use Rattle.dmpaft_pump.specs.Ledger.{Ledger}
+use Rattle.dmpaft_pump.specs.Slot.{IsWithin}
 use Rattle.dmpaft_driver.specs.Attempt.{End}
 use Rattle.dmpaft_driver.specs.Outcome.{Ended}
 use Rattle.dmpaft_driver.specs.Gathered.{Gathers}

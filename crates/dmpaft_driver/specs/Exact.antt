@@ -5,11 +5,11 @@ use Rattle.vantage_frames.specs.StampFrame.{stamp_frame_of}
 use Rattle.serial_link.specs.declared.talk.TalkItem.{TalkItem}
 use Rattle.causes.specs.declared.stored.Stored.{Stored}
 use Rattle.causes.specs.declared.stored.Stored.TheVariants as stored
-use Rattle.dmpaft_driver.specs.declared.pump_end.PumpEnd.{PumpEnd}
-use Rattle.dmpaft_driver.specs.declared.pump_end.PumpEnd.TheVariants as pump_end
+use Rattle.dmpaft_pump.specs.declared.pump_end.PumpEnd.{PumpEnd}
+use Rattle.dmpaft_pump.specs.declared.pump_end.PumpEnd.TheVariants as pump_end
 use Rattle.dmpaft_driver.specs.Attempt.{End, Attempt}
-use Rattle.dmpaft_driver.specs.Batch.{EndsGiving}
-use Rattle.dmpaft_driver.specs.Pump.{State, Over, Astray, step, given, pump_after}
+use Rattle.dmpaft_pump.specs.Batch.{EndsGiving}
+use Rattle.dmpaft_pump.specs.Pump.{State, Over, Astray, step, given, pump_after}
 
 -- the end of an attempt that a pump has taken
 abbrev pub end_of : PumpEnd → End

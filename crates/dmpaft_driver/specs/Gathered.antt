@@ -3,12 +3,12 @@ use Rattle.std.specs.Prelude.{◌≡◌, ◌≢◌, ℕ, ◌+◌, List, length, 
 use Rattle.station_base.specs.CivilMinute.{CivilMinute}
 use Rattle.causes.specs.declared.stored.Stored.{Stored}
 use Rattle.causes.specs.declared.stored.Stored.TheVariants as stored
-use Rattle.dmpaft_driver.specs.declared.outcome.DumpEnd.{DumpEnd}
-use Rattle.dmpaft_driver.specs.declared.outcome.DumpEnd.TheVariants as dump_end
-use Rattle.dmpaft_driver.specs.declared.outcome.Tally.{Tally}
-use Rattle.dmpaft_driver.specs.Keeper.{Handed, last_kept}
-use Rattle.dmpaft_driver.specs.Ledger.{Ledger}
-use Rattle.dmpaft_driver.specs.Batch.{batches, answered, all_skipped, EndsGiving}
+use Rattle.dmpaft_pump.specs.declared.outcome.DumpEnd.{DumpEnd}
+use Rattle.dmpaft_pump.specs.declared.outcome.DumpEnd.TheVariants as dump_end
+use Rattle.dmpaft_pump.specs.declared.outcome.Tally.{Tally}
+use Rattle.dmpaft_pump.specs.Keeper.{Handed, last_kept}
+use Rattle.dmpaft_pump.specs.Ledger.{Ledger}
+use Rattle.dmpaft_pump.specs.Batch.{batches, answered, all_skipped, EndsGiving}
 
 -- what the keeper answered to the last batch
 abbrev pub keeper_answer : DumpEnd → Stored

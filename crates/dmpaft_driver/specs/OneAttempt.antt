@@ -6,10 +6,10 @@ use Rattle.serial_link.specs.declared.talk.TalkItem.{TalkItem}
 use Rattle.serial_link.specs.declared.talk.TalkItem.TheVariants.{Said}
 use Rattle.vantage_frames.specs.StampFrame.{stamp_frame_of}
 use Rattle.wake_retry.specs.Parts.{heard}
-use Rattle.dmpaft_driver.specs.declared.outcome.DumpEnd.{DumpEnd}
+use Rattle.dmpaft_pump.specs.declared.outcome.DumpEnd.{DumpEnd}
 use Rattle.dmpaft_driver.specs.Attempt.{End, Attempt}
-use Rattle.dmpaft_driver.specs.Batch.{batches}
-use Rattle.dmpaft_driver.specs.Keeper.{kept_in}
+use Rattle.dmpaft_pump.specs.Batch.{batches}
+use Rattle.dmpaft_pump.specs.Keeper.{kept_in}
 use Rattle.dmpaft_driver.specs.Outcome.{Ended, IsCutAfter}
 use Rattle.dmpaft_driver.specs.Gathered.{steps_of, RefusesLast}
 

@@ -3,15 +3,15 @@ use Rattle.std.specs.Prelude.{◌≡◌, ◌≢◌, ℕ, List, [], ◌∷◌, �
 use Rattle.station_base.specs.CivilMinute.{CivilMinute}
 use Rattle.serial_link.specs.declared.talk.TalkItem.{TalkItem}
 use Rattle.causes.specs.declared.stored.Stored.{Stored}
-use Rattle.dmpaft_driver.specs.declared.pump_end.PumpEnd.{PumpEnd}
-use Rattle.dmpaft_driver.specs.Keeper.{Handed, one_batch}
-use Rattle.dmpaft_driver.specs.Batch.{batches, answered}
+use Rattle.dmpaft_pump.specs.declared.pump_end.PumpEnd.{PumpEnd}
+use Rattle.dmpaft_pump.specs.Keeper.{Handed, one_batch}
+use Rattle.dmpaft_pump.specs.Batch.{batches, answered}
 use Rattle.dmpaft_driver.specs.Attempt.{End}
 use Rattle.dmpaft_driver.specs.Exact.{end_of}
-use Rattle.dmpaft_driver.specs.Shown.{all_kept, answer_of}
-use Rattle.dmpaft_driver.specs.Pump.{batch_of}
-use Rattle.dmpaft_driver.specs.Pump.{pump_from, Part, Settling, Waking, Calling, Heading, Asking, Resettling}
-use Rattle.dmpaft_driver.specs.Pump.{Acking, GivingUp, State, Saying, Hearing, Keeping, Over, Astray}
+use Rattle.dmpaft_pump.specs.Shown.{all_kept, answer_of}
+use Rattle.dmpaft_pump.specs.Pump.{batch_of}
+use Rattle.dmpaft_pump.specs.Pump.{pump_from, Part, Settling, Waking, Calling, Heading, Asking, Resettling}
+use Rattle.dmpaft_pump.specs.Pump.{Acking, GivingUp, State, Saying, Hearing, Keeping, Over, Astray}
 
 -- the place of the header, 0 before it
 abbrev pub place_in : Part → ℕ

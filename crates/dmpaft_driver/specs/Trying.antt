@@ -5,14 +5,14 @@ use Rattle.causes.specs.declared.stored.Stored.{Stored}
 use Rattle.serial_link.specs.Talk.{message}
 use Rattle.serial_link.specs.declared.talk.TalkItem.{TalkItem}
 use Rattle.serial_link.specs.declared.talk.TalkItem.TheVariants.{Said}
-use Rattle.dmpaft_driver.specs.declared.outcome.Tally.{Tally}
-use Rattle.dmpaft_driver.specs.declared.pump.Pump.{Pump}
-use Rattle.dmpaft_driver.specs.declared.pump_end.PumpEnd.{PumpEnd}
+use Rattle.dmpaft_pump.specs.declared.outcome.Tally.{Tally}
+use Rattle.dmpaft_pump.specs.declared.pump.Pump.{Pump}
+use Rattle.dmpaft_pump.specs.declared.pump_end.PumpEnd.{PumpEnd}
 use Rattle.dmpaft_driver.specs.declared.trying.TrialEnd.{TrialEnd}
 use Rattle.dmpaft_driver.specs.declared.trying.TrialEnd.TheVariants as trial_end
 use Rattle.dmpaft_driver.specs.Exact.{AllDone}
-use Rattle.dmpaft_driver.specs.Pump.{State, Over, Astray, given, step, is_said, pump_from}
-use Rattle.dmpaft_driver.specs.Shown.{Shows}
+use Rattle.dmpaft_pump.specs.Pump.{State, Over, Astray, given, step, is_said, pump_from}
+use Rattle.dmpaft_pump.specs.Shown.{Shows}
 
 -- whether nothing follows
 abbrev pub is_last : List ℕ → Bool

@@ -6,19 +6,19 @@ use Rattle.serial_link.specs.declared.talk.TalkItem.{TalkItem}
 use Rattle.serial_link.specs.declared.talk.TalkItem.TheVariants.{Heard, Quiet}
 use Rattle.serial_link.specs.Traffic.{Traffic}
 use Rattle.serial_link.specs.Talk.{message, Adds}
-use Rattle.dmpaft_driver.specs.Ledger.{Ledger}
+use Rattle.dmpaft_pump.specs.Ledger.{Ledger}
 use Rattle.causes.specs.declared.stored.Stored.{Stored}
-use Rattle.dmpaft_driver.specs.declared.outcome.DumpEnd.{DumpEnd}
-use Rattle.dmpaft_driver.specs.declared.outcome.DumpEnd.TheVariants as dump_end
-use Rattle.dmpaft_driver.specs.declared.outcome.Tally.{Tally}
-use Rattle.dmpaft_driver.specs.declared.pump_end.PumpEnd.{PumpEnd}
-use Rattle.dmpaft_driver.specs.declared.pump_end.PumpEnd.TheVariants as pump_end
-use Rattle.dmpaft_driver.specs.declared.pump.Pump.{Pump}
-use Rattle.dmpaft_driver.specs.Keeper.{Handed, count, last_kept}
+use Rattle.dmpaft_pump.specs.declared.outcome.DumpEnd.{DumpEnd}
+use Rattle.dmpaft_pump.specs.declared.outcome.DumpEnd.TheVariants as dump_end
+use Rattle.dmpaft_pump.specs.declared.outcome.Tally.{Tally}
+use Rattle.dmpaft_pump.specs.declared.pump_end.PumpEnd.{PumpEnd}
+use Rattle.dmpaft_pump.specs.declared.pump_end.PumpEnd.TheVariants as pump_end
+use Rattle.dmpaft_pump.specs.declared.pump.Pump.{Pump}
+use Rattle.dmpaft_pump.specs.Keeper.{Handed, count, last_kept}
 use Rattle.station_base.specs.LastStamp.{Rises}
 use Rattle.dmpaft_driver.specs.Outcome.{EndsSaying}
-use Rattle.dmpaft_driver.specs.Pump.{State, Keeping, Over, batch_of, pump_from}
-use Rattle.dmpaft_driver.specs.Shown.{Shows, keeps_at, talks_at}
+use Rattle.dmpaft_pump.specs.Pump.{State, Keeping, Over, batch_of, pump_from}
+use Rattle.dmpaft_pump.specs.Shown.{Shows, keeps_at, talks_at}
 use Rattle.dmpaft_driver.specs.Standing.{HasTaken, CanEnd, gives}
 
 -- the keeper can take the batch, if there is one now

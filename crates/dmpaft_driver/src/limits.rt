@@ -1,7 +1,4 @@
-use crate::header::ANSWER_SIZE;
-use crate::message::LONGEST;
-use crate::phase::FLOOD;
-use crate::pump::{REPEATS, WAKES};
+use dmpaft_pump::{ANSWER_SIZE, FLOOD, LONGEST_MESSAGE, REPEATS, WAKES};
 use vantage_frames::{MOST_PAGES, PAGE_SIZE, STAMP_FRAME_SIZE};
 
 // How often a line feed is said at most.
@@ -19,4 +16,4 @@ pub const MOST_HEARD: usize = SETTLINGS * FLOOD + 1 + ANSWER_SIZE + ASKINGS * PA
 
 /// The most bytes that an attempt says: three line feeds, `DMPAFT` and a line feed, the stamp frame, 2,052 askings for
 /// pages, and the byte that ends it.
-pub const MOST_SAID: usize = TRIES + LONGEST + STAMP_FRAME_SIZE + ASKINGS + 1;
+pub const MOST_SAID: usize = TRIES + LONGEST_MESSAGE + STAMP_FRAME_SIZE + ASKINGS + 1;

@@ -3,16 +3,12 @@ ghost use Rattle.causes.specs.Cause.{Cause};
 ghost use Rattle.station_base.specs.CivilMinute.{CivilMinute};
 ghost use Rattle.serial_link.specs.declared.talk.TalkItem.{TalkItem};
 ghost use Rattle.serial_link.specs.Talk.{Adds};
-ghost use Rattle.dmpaft_driver.specs.declared.outcome.Tally.{Tally};
-ghost use Rattle.dmpaft_driver.specs.Pump.{State};
-ghost use Rattle.dmpaft_driver.specs.Shown.{Shows, Stands, room_of, left_of};
+ghost use Rattle.dmpaft_pump.specs.declared.outcome.Tally.{Tally};
+ghost use Rattle.dmpaft_pump.specs.Pump.{State};
+ghost use Rattle.dmpaft_pump.specs.Shown.{Shows, Stands, room_of, left_of};
 ghost use Rattle.dmpaft_driver.specs.Turning.{Suits, Turns, desk, ListensTo, dump_end_of};
 
-use crate::action::Action;
-use crate::keeper::Keeper;
-use crate::outcome::DumpEnd;
-use crate::pump::Pump;
-use crate::pump_end::PumpEnd;
+use dmpaft_pump::{Action, DumpEnd, Keeper, Pump, PumpEnd};
 use serial_link::{Link, Recv, Sent};
 use vantage_frames::PAGE_SIZE;
 

@@ -2,16 +2,13 @@ ghost use Rattle.std.specs.Prelude.{◌≡◌, ◌+◌, ◌<◌, ◌^◌, ℕ, L
 ghost use Rattle.station_base.specs.CivilMinute.{CivilMinute};
 ghost use Rattle.serial_link.specs.declared.talk.TalkItem.{TalkItem};
 ghost use Rattle.serial_link.specs.declared.talk.TalkItem.TheVariants as talk_item;
-ghost use Rattle.dmpaft_driver.specs.declared.outcome.Tally.{Tally};
-ghost use Rattle.dmpaft_driver.specs.Pump.{State, is_said};
-ghost use Rattle.dmpaft_driver.specs.Shown.{Shows, Stands, left_of, room_of};
+ghost use Rattle.dmpaft_pump.specs.declared.outcome.Tally.{Tally};
+ghost use Rattle.dmpaft_pump.specs.Pump.{State, is_said};
+ghost use Rattle.dmpaft_pump.specs.Shown.{Shows, Stands, left_of, room_of};
 ghost use Rattle.dmpaft_driver.specs.Trial.{Tried};
 ghost use Rattle.dmpaft_driver.specs.Trying.{Spells, Differs, StepsOn, StopsAt, count_of, later};
 
-use crate::action::Action;
-use crate::keeper::Kept;
-use crate::pump::Pump;
-use crate::pump_end::PumpEnd;
+use dmpaft_pump::{Action, Kept, Pump, PumpEnd};
 use serial_link::TalkItem;
 use station_base::Stamp;
 

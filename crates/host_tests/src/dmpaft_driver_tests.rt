@@ -1,6 +1,7 @@
 use crate::Notes;
 use arrayvec::ArrayVec;
-use dmpaft_driver::{DumpEnd, Kept, PumpEnd, Tally, TrialEnd, Trouble, dump, trial};
+use dmpaft_driver::{TrialEnd, dump, trial};
+use dmpaft_pump::{DumpEnd, Kept, PumpEnd, Tally, Trouble};
 use serial_link::{ScriptItem, ScriptLink, TalkItem};
 use station_base::Stamp;
 use std::alloc::Global;

@@ -4,7 +4,7 @@ ghost use Rattle.archive_record.specs.Reading.{stamp_in};
 
 use archive_record::Rec52;
 use arrayvec::ArrayVec;
-use dmpaft_driver::{Keeper, Kept};
+use dmpaft_pump::{Keeper, Kept};
 use station_base::Stamp;
 
 /// A keeper that answers alike to each batch, and notes the letters of the records that it keeps.

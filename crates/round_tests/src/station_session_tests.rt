@@ -2,7 +2,7 @@ ghost use Rattle.std.specs.Prelude.{◌≡◌, None, IfOk};
 ghost use Rattle.station_session.specs.Fits.{Fits};
 
 use disk_model::{Disk, MemDisk, Stopping};
-use dmpaft_driver::Trouble;
+use dmpaft_pump::Trouble;
 use serial_link::{ScriptItem, ScriptLink};
 use settings_file::Settings;
 use station_session::{Begun, Mark, Report, Round, RoundEnd, Session, Turn};

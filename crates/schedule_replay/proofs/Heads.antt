@@ -16,7 +16,7 @@ use Rattle.disk_model.specs.declared.disk.Disked.{Disked}
 use Rattle.disk_model.specs.declared.mem_disk.MemDisk.{MemDisk}
 use Rattle.disk_model.specs.declared.stopping.Stopping.{Stopping}
 use Rattle.disk_model.specs.Stored.{disk_answer}
-use Rattle.dmpaft_driver.specs.Keeper.{Handed, answer_for}
+use Rattle.dmpaft_pump.specs.Keeper.{Handed, answer_for}
 use Rattle.gated_log.proofs.Chains.{first_front}
 use Rattle.gated_log.proofs.Versions.{not_first}
 use Rattle.gated_log.specs.Calls.{up_to, four_changes}

@@ -17,7 +17,7 @@ use Rattle.weather_book.specs.Rising.{last_stamp}
 use Rattle.weather_book.specs.Stands.{HasRows, StandsOn}
 use Rattle.weather_book.proofs.Adds.{has_rows}
 use Rattle.weather_book.specs.declared.book.Book.{Book}
-use Rattle.dmpaft_driver.specs.Keeper.{Handed}
+use Rattle.dmpaft_pump.specs.Keeper.{Handed}
 use Rattle.station_session.specs.declared.report.Report.{Report}
 use Rattle.station_session.specs.declared.session.Session.{Session}
 use Rattle.station_session.specs.declared.round_end.RoundEnd.{RoundEnd}

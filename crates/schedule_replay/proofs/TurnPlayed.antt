@@ -5,7 +5,7 @@ use Rattle.disk_model.specs.declared.mem_disk.MemDisk.{MemDisk}
 use Rattle.disk_model.specs.declared.stopping.Stopping.{Stopping}
 use Rattle.serial_link.specs.declared.talk.TalkItem.{TalkItem}
 use Rattle.station_base.specs.CivilMinute.{CivilMinute}
-use Rattle.dmpaft_driver.specs.Keeper.{Handed, kept_all}
+use Rattle.dmpaft_pump.specs.Keeper.{Handed, kept_all}
 use Rattle.weather_book.specs.Book.{last_of}
 use Rattle.station_session.specs.declared.round.Turn.{Turn}
 use Rattle.station_session.specs.declared.round.Turn.TheVariants as turn

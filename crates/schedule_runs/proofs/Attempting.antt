@@ -9,22 +9,22 @@ use Rattle.serial_link.specs.Talk.{message}
 use Rattle.serial_link.specs.declared.talk.TalkItem.{TalkItem}
 use Rattle.serial_link.specs.declared.talk.TalkItem.TheVariants.{Said}
 use Rattle.wake_retry.specs.Parts.{heard, ends_awake}
-use Rattle.dmpaft_driver.specs.declared.outcome.Trouble.{Trouble}
-use Rattle.dmpaft_driver.specs.declared.outcome.Trouble.TheVariants.{Asleep, NoAck, PageLost}
-use Rattle.dmpaft_driver.specs.declared.pump_end.PumpEnd.{PumpEnd}
-use Rattle.dmpaft_driver.specs.declared.pump_end.PumpEnd.TheVariants as pump_end
+use Rattle.dmpaft_pump.specs.declared.outcome.Trouble.{Trouble}
+use Rattle.dmpaft_pump.specs.declared.outcome.Trouble.TheVariants.{Asleep, NoAck, PageLost}
+use Rattle.dmpaft_pump.specs.declared.pump_end.PumpEnd.{PumpEnd}
+use Rattle.dmpaft_pump.specs.declared.pump_end.PumpEnd.TheVariants as pump_end
 use Rattle.dmpaft_driver.specs.Gathered.{keeper_answer}
-use Rattle.dmpaft_driver.specs.Header.{first_of}
-use Rattle.dmpaft_driver.specs.Page.{is_page_for, is_ahead, next_said}
-use Rattle.dmpaft_driver.specs.Reply.{Reply, reply_of}
+use Rattle.dmpaft_pump.specs.Header.{first_of}
+use Rattle.dmpaft_pump.specs.Page.{is_page_for, is_ahead, next_said}
+use Rattle.dmpaft_pump.specs.Reply.{Reply, reply_of}
 use Rattle.dmpaft_driver.specs.Turning.{dump_end_of}
-use Rattle.dmpaft_driver.specs.Pump.{Part, Settling, Waking, Calling, Heading, Asking, Resettling, Acking, GivingUp}
-use Rattle.dmpaft_driver.specs.Pump.{State, Keeping, Over, words, quiets, most as most_bytes, batch_of}
-use Rattle.dmpaft_driver.specs.Pump.{onward, batched, woken, called, headed, asked_again, judged, next, begun}
-use Rattle.dmpaft_driver.specs.Pump.{at, pump_from}
+use Rattle.dmpaft_pump.specs.Pump.{Part, Settling, Waking, Calling, Heading, Asking, Resettling, Acking, GivingUp}
+use Rattle.dmpaft_pump.specs.Pump.{State, Keeping, Over, words, quiets, most as most_bytes, batch_of}
+use Rattle.dmpaft_pump.specs.Pump.{onward, batched, woken, called, headed, asked_again, judged, next, begun}
+use Rattle.dmpaft_pump.specs.Pump.{at, pump_from}
 use Rattle.dmpaft_driver.proofs.Exactly.{some_quiets, some_bytes, told_is, kept_done}
 use Rattle.dmpaft_driver.proofs.Rest.{Listens}
-use Rattle.dmpaft_driver.proofs.Walking.{said_in, heard_in}
+use Rattle.dmpaft_pump.proofs.Walking.{said_in, heard_in}
 use Rattle.schedule_file.specs.Fates.{Fates}
 use Rattle.station_sim.specs.Joining.{talks_join}
 use Rattle.station_sim.specs.Line.{Line, says}

@@ -5,7 +5,7 @@ use Rattle.console_model.specs.Tick.{tick}
 use Rattle.serial_link.specs.Talk.{message}
 use Rattle.serial_link.specs.declared.talk.TalkItem.{TalkItem}
 use Rattle.serial_link.specs.declared.talk.TalkItem.TheVariants.{Heard, Quiet}
-use Rattle.dmpaft_driver.proofs.Hears.{HearsFrom}
+use Rattle.dmpaft_pump.proofs.Hears.{HearsFrom}
 use Rattle.station_sim.specs.declared.part.Part.{Part}
 use Rattle.station_sim.specs.declared.part.Part.TheVariants.{Byte, Wait}
 use Rattle.schedule_file.specs.Fates.{Fates}

@@ -5,13 +5,13 @@ use Rattle.std.specs.Prelude.{nat_lt}
 use Rattle.station_base.specs.CivilMinute.{CivilMinute}
 use Rattle.causes.specs.declared.stored.Stored.{Stored}
 use Rattle.causes.specs.declared.stored.Stored.TheVariants as stored
-use Rattle.dmpaft_driver.specs.Batch.{batches, answered, EndsGiving}
-use Rattle.dmpaft_driver.specs.Keeper.{Handed, one_batch, kept_all, join}
-use Rattle.dmpaft_driver.specs.Pump.{batch_of}
-use Rattle.dmpaft_driver.proofs.Keeping.{kept_answered, kept_in_all}
-use Rattle.dmpaft_driver.proofs.Pumping.{kept_none}
-use Rattle.dmpaft_driver.proofs.Steps.{one_more}
-use Rattle.dmpaft_driver.proofs.Unrolling.{gives_so}
+use Rattle.dmpaft_pump.specs.Batch.{batches, answered, EndsGiving}
+use Rattle.dmpaft_pump.specs.Keeper.{Handed, one_batch, kept_all, join}
+use Rattle.dmpaft_pump.specs.Pump.{batch_of}
+use Rattle.dmpaft_pump.proofs.Keeping.{kept_answered, kept_in_all}
+use Rattle.dmpaft_pump.proofs.Pumping.{kept_none}
+use Rattle.dmpaft_pump.proofs.Steps.{one_more}
+use Rattle.dmpaft_pump.proofs.LastBatch.{gives_so}
 use Rattle.station_session.specs.Batches.{kept_records, kept_count, Fit}
 use Rattle.station_session.proofs.Parts.{count_parts}
 use Rattle.station_replay.specs.Schedule.{Stop}

@@ -4,16 +4,16 @@ use Rattle.std.proofs.Common.{Some, None, refl, sym, ◌∙◌, ap, subst, arith
 use Rattle.station_base.specs.CivilMinute.{CivilMinute}
 use Rattle.vantage_frames.specs.StampFrame.{stamp_frame_of}
 use Rattle.causes.specs.declared.stored.Stored.TheVariants as stored
-use Rattle.dmpaft_driver.specs.declared.pump_end.PumpEnd.{PumpEnd}
-use Rattle.dmpaft_driver.specs.declared.pump_end.PumpEnd.TheVariants as pump_end
+use Rattle.dmpaft_pump.specs.declared.pump_end.PumpEnd.{PumpEnd}
+use Rattle.dmpaft_pump.specs.declared.pump_end.PumpEnd.TheVariants as pump_end
 use Rattle.dmpaft_driver.specs.Attempt.{Attempt}
 use Rattle.dmpaft_driver.specs.Gathered.{keeper_answer}
-use Rattle.dmpaft_driver.specs.Batch.{batches}
-use Rattle.dmpaft_driver.specs.Keeper.{Handed, join}
+use Rattle.dmpaft_pump.specs.Batch.{batches}
+use Rattle.dmpaft_pump.specs.Keeper.{Handed, join}
 use Rattle.dmpaft_driver.specs.Turning.{dump_end_of}
 use Rattle.dmpaft_driver.proofs.Dumping.{ended_as}
 use Rattle.dmpaft_driver.proofs.Exactly.{sound}
-use Rattle.dmpaft_driver.proofs.Keeping.{join_none, kept_in_all}
+use Rattle.dmpaft_pump.proofs.Keeping.{join_none, kept_in_all}
 use Rattle.station_session.specs.declared.round_end.RoundEnd.{RoundEnd}
 use Rattle.station_session.specs.declared.round_end.RoundEnd.TheVariants as round_end
 use Rattle.station_session.specs.Attempts.{Tried, Attempts, IsTried, end_after, batches_in, stamp_after}

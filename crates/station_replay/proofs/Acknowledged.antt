@@ -9,13 +9,13 @@ use Rattle.serial_link.specs.declared.talk.TalkItem.TheVariants.{Said}
 use Rattle.settings_file.specs.StationSettings.{StationSettings}
 use Rattle.weather_book.specs.Rising.{last_stamp}
 use Rattle.dmpaft_driver.specs.Attempt.{Attempt, End}
-use Rattle.dmpaft_driver.specs.Batch.{slots, rising, newest, add, batches, records_in, EndsGiving}
+use Rattle.dmpaft_pump.specs.Batch.{slots, rising, newest, add, batches, records_in, EndsGiving}
 use Rattle.dmpaft_driver.specs.Gathered.{steps_of, RefusesLast}
-use Rattle.dmpaft_driver.specs.Keeper.{kept_in}
+use Rattle.dmpaft_pump.specs.Keeper.{kept_in}
 use Rattle.dmpaft_driver.specs.OneAttempt.{Acknowledges}
 use Rattle.dmpaft_driver.specs.Outcome.{Ended, IsCutAfter}
-use Rattle.dmpaft_driver.specs.declared.outcome.DumpEnd.{DumpEnd}
-use Rattle.dmpaft_driver.specs.declared.outcome.DumpEnd.TheVariants as dump_end
+use Rattle.dmpaft_pump.specs.declared.outcome.DumpEnd.{DumpEnd}
+use Rattle.dmpaft_pump.specs.declared.outcome.DumpEnd.TheVariants as dump_end
 use Rattle.dmpaft_driver.proofs.Acknowledging.{attempt_some, acknowledged_are_kept, taken_are_acknowledged}
 use Rattle.dmpaft_driver.proofs.OneTalk.{attempt_goes}
 use Rattle.station_session.specs.Attempts.{Tried, IsTried, but_last, kept_batches}

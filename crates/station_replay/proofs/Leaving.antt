@@ -4,9 +4,9 @@ use Rattle.station_base.specs.CivilMinute.{CivilMinute}
 use Rattle.station_base.specs.declared.row.Row.{Row}
 use Rattle.settings_file.specs.StationSettings.{StationSettings}
 use Rattle.causes.specs.declared.stored.Stored.TheVariants as kept
-use Rattle.dmpaft_driver.specs.Batch.{batches}
+use Rattle.dmpaft_pump.specs.Batch.{batches}
 use Rattle.dmpaft_driver.specs.Gathered as outcome
-use Rattle.dmpaft_driver.specs.Keeper.{Handed, join}
+use Rattle.dmpaft_pump.specs.Keeper.{Handed, join}
 use Rattle.weather_book.specs.Closing.{closings, begins_day}
 use Rattle.weather_book.specs.Rising.{last_stamp}
 use Rattle.weather_book.specs.Rows.{slot_total}

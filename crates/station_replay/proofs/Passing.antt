@@ -9,7 +9,7 @@ use Rattle.disk_model.specs.declared.disk.Disked.TheVariants.{Done}
 use Rattle.gated_log.specs.Calls.{up_to, four_changes}
 use Rattle.station_base.specs.declared.row.Row.{Row}
 use Rattle.settings_file.specs.StationSettings.{StationSettings}
-use Rattle.dmpaft_driver.specs.Keeper.{Refusal, Handed}
+use Rattle.dmpaft_pump.specs.Keeper.{Refusal, Handed}
 use Rattle.causes.specs.declared.stored.Stored.TheVariants as kept
 use Rattle.weather_book.specs.Rows.{slot_total}
 use Rattle.weather_book.specs.Rising.{last_stamp}

@@ -8,12 +8,12 @@ use Rattle.causes.specs.declared.stored.Stored.{Stored}
 use Rattle.causes.specs.declared.stored.Stored.TheVariants as kept
 use Rattle.console_model.specs.Valid.{EachFollows}
 use Rattle.dmpaft_driver.specs.Attempt.{Attempt, End}
-use Rattle.dmpaft_driver.specs.Batch.{batches, records_in, answered}
+use Rattle.dmpaft_pump.specs.Batch.{batches, records_in, answered}
 use Rattle.dmpaft_driver.specs.Gathered as outcome
-use Rattle.dmpaft_driver.specs.Keeper.{Handed, one_batch, kept_all, join, count}
-use Rattle.dmpaft_driver.specs.declared.outcome.DumpEnd.{DumpEnd}
-use Rattle.dmpaft_driver.specs.declared.outcome.DumpEnd.TheVariants as dump_end
-use Rattle.dmpaft_driver.proofs.Keeping.{join_none, one_size, count_join}
+use Rattle.dmpaft_pump.specs.Keeper.{Handed, one_batch, kept_all, join, count}
+use Rattle.dmpaft_pump.specs.declared.outcome.DumpEnd.{DumpEnd}
+use Rattle.dmpaft_pump.specs.declared.outcome.DumpEnd.TheVariants as dump_end
+use Rattle.dmpaft_pump.proofs.Keeping.{join_none, one_size, count_join}
 use Rattle.dmpaft_driver.proofs.Bounding.{frame_long}
 use Rattle.weather_book.specs.Rising.{last_stamp}
 use Rattle.station_session.specs.declared.round_end.RoundEnd.{RoundEnd}

@@ -21,10 +21,11 @@ use Rattle.console_model.specs.Line.{says as replies, silent, to}
 use Rattle.console_model.specs.Reading.{read_line}
 use Rattle.console_model.specs.Spelling.{plan_after, header_of}
 use Rattle.wake_retry.specs.Parts.{heard, IsFull, Awaits}
-use Rattle.dmpaft_driver.specs.Attempt.{dmpaft, Takes, Pages, Attempt, End}
-use Rattle.dmpaft_driver.specs.Batch.{batches, records_in}
-use Rattle.dmpaft_driver.specs.Header.{IsHeader}
-use Rattle.dmpaft_driver.specs.Page.{is_page_for, has_sequence}
+use Rattle.dmpaft_driver.specs.Attempt.{Takes, Pages, Attempt, End}
+use Rattle.dmpaft_pump.specs.Command.{dmpaft}
+use Rattle.dmpaft_pump.specs.Batch.{batches, records_in}
+use Rattle.dmpaft_pump.specs.Header.{IsHeader}
+use Rattle.dmpaft_pump.specs.Page.{is_page_for, has_sequence}
 use Rattle.dmpaft_driver.proofs.Bounding.{frame_long}
 use Rattle.crc_ccitt.specs.Check.{is_good}
 use Rattle.schedule_file.specs.Fates.{Fates}

@@ -1,8 +1,8 @@
 ghost use Rattle.std.specs.Prelude.{◌≢◌, ◌⊎◌, ℕ, List, Option};
 ghost use Rattle.station_base.specs.CivilMinute.{CivilMinute};
 ghost use Rattle.settings_file.specs.StationSettings.{StationSettings};
-ghost use Rattle.dmpaft_driver.specs.Batch.{batches};
-ghost use Rattle.dmpaft_driver.specs.declared.outcome.DumpEnd.{DumpEnd};
+ghost use Rattle.dmpaft_pump.specs.Batch.{batches};
+ghost use Rattle.dmpaft_pump.specs.declared.outcome.DumpEnd.{DumpEnd};
 ghost use Rattle.station_session.specs.Attempts.{IsTried, Tried, kept_batches};
 ghost use Rattle.station_replay.specs.Acknowledged.{AllRounds, AreJustAcknowledged, KeepsJustAcknowledged, TakesOneMore};
 ghost use Rattle.station_replay.specs.Replay.{IsBegun, IsReplay, Item, Stage};

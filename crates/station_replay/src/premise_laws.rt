@@ -6,7 +6,7 @@ ghost use Rattle.console_ring.specs.Picture.{plan_of_last};
 ghost use Rattle.console_model.specs.Console.{Console};
 ghost use Rattle.console_model.specs.Console.State.{Command};
 ghost use Rattle.console_model.specs.Spelling.{plan_after};
-ghost use Rattle.dmpaft_driver.specs.Batch.{batches, records_in};
+ghost use Rattle.dmpaft_pump.specs.Batch.{batches, records_in};
 ghost use Rattle.station_sim.specs.Calm.{IsCalm};
 ghost use Rattle.schedule_file.specs.Lists.{no_fates};
 ghost use Rattle.station_sim.specs.Sound.{AreRecords, IsSound, AreSound};

@@ -2,10 +2,10 @@
 use Rattle.std.proofs.Common.{◌≡◌, ℕ, ◌+◌, inl, inr, List, [], ◌∷◌, ◌++◌, length, refl, sym, ◌∙◌, ap, subst, append_assoc, Option}
 use Rattle.causes.specs.Lists.{IsFrontOf}
 use Rattle.station_base.specs.CivilMinute.{CivilMinute}
-use Rattle.dmpaft_driver.specs.Batch.{batches, records_in}
-use Rattle.dmpaft_driver.specs.Keeper.{Handed, kept_all, join, kept_in}
+use Rattle.dmpaft_pump.specs.Batch.{batches, records_in}
+use Rattle.dmpaft_pump.specs.Keeper.{Handed, kept_all, join, kept_in}
 use Rattle.dmpaft_driver.proofs.Acknowledging.{acknowledged_are_kept}
-use Rattle.dmpaft_driver.proofs.Keeping.{kept_in_all}
+use Rattle.dmpaft_pump.proofs.Keeping.{kept_in_all}
 use Rattle.station_session.specs.declared.round_end.RoundEnd.{RoundEnd}
 use Rattle.station_session.specs.declared.report.Mark.{Mark}
 use Rattle.station_session.specs.Attempts.{Tried, Attempts, IsTried, batches_in, stamp_after, stamp_behind, all_batches}

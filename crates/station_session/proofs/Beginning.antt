@@ -2,9 +2,9 @@
 use Rattle.std.proofs.Common.{◌-◌, ◌≡◌, ◌+◌, ◌≤◌, false, List, [], length, vec_len, vec_capacity, refl, sym, ◌∙◌, ap, arith, Option}
 use Rattle.station_base.specs.CivilMinute.{CivilMinute}
 use Rattle.weather_book.specs.Book.{last_of, spare}
-use Rattle.dmpaft_driver.specs.Pump.{Hearing, Over, Settling, begun}
-use Rattle.dmpaft_driver.specs.Shown.{Shows, no_tally}
-use Rattle.dmpaft_driver.specs.declared.pump_end.PumpEnd.TheVariants as pump_end
+use Rattle.dmpaft_pump.specs.Pump.{Hearing, Over, Settling, begun}
+use Rattle.dmpaft_pump.specs.Shown.{Shows, no_tally}
+use Rattle.dmpaft_pump.specs.declared.pump_end.PumpEnd.TheVariants as pump_end
 use Rattle.station_session.specs.declared.report.Mark.{Mark}
 use Rattle.station_session.specs.declared.report.Report.{Report}
 use Rattle.station_session.specs.declared.round.Round.{Round}

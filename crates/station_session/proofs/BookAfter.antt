@@ -7,7 +7,7 @@ use Rattle.settings_file.specs.StationSettings.{StationSettings}
 use Rattle.weather_book.specs.Book.{last_of, len_of, most_of, is_stale}
 use Rattle.causes.specs.declared.stored.Stored.{Stored}
 use Rattle.causes.specs.declared.stored.Stored.TheVariants.{Done, Full, Stale, DiskFault}
-use Rattle.dmpaft_driver.specs.Keeper.{Handed, Refusal, answer_for, one_batch, count, last_kept}
+use Rattle.dmpaft_pump.specs.Keeper.{Handed, Refusal, answer_for, one_batch, count, last_kept}
 use Rattle.causes.specs.Stored.{stale_after}
 use Rattle.station_session.specs.Batches.{IsBegun, begun_for, last_answer}
 use Rattle.station_session.specs.Holding.{Holding}

@@ -5,21 +5,21 @@ use Rattle.serial_link.specs.declared.talk.TalkItem.{TalkItem}
 use Rattle.vantage_frames.specs.StampFrame.{stamp_frame_of}
 use Rattle.causes.specs.declared.stored.Stored.{Stored}
 use Rattle.dmpaft_driver.specs.Attempt.{End, Attempt}
-use Rattle.dmpaft_driver.specs.Batch.{batches, answered, all_skipped}
+use Rattle.dmpaft_pump.specs.Batch.{batches, answered, all_skipped}
 use Rattle.dmpaft_driver.specs.Gathered.{steps_of}
-use Rattle.dmpaft_driver.specs.Keeper.{Handed, last_kept}
+use Rattle.dmpaft_pump.specs.Keeper.{Handed, last_kept}
 use Rattle.dmpaft_driver.specs.OneAttempt.{IsAttempt}
-use Rattle.dmpaft_driver.specs.Pump.{State, Over, pump_after}
-use Rattle.dmpaft_driver.specs.Shown.{answer_of, Shows, talks_at}
+use Rattle.dmpaft_pump.specs.Pump.{State, Over, pump_after}
+use Rattle.dmpaft_pump.specs.Shown.{answer_of, Shows, talks_at}
 use Rattle.dmpaft_driver.specs.Standing.{handed}
 use Rattle.dmpaft_driver.specs.Turning.{dump_end_of, IsCut, Stays, SaysLast, EndsAt, CutsAt}
-use Rattle.dmpaft_driver.specs.declared.outcome.DumpEnd.{DumpEnd}
-use Rattle.dmpaft_driver.specs.declared.outcome.Tally.{Tally}
-use Rattle.dmpaft_driver.specs.declared.pump.Pump.{Pump}
-use Rattle.dmpaft_driver.specs.declared.pump_end.PumpEnd.{PumpEnd}
+use Rattle.dmpaft_pump.specs.declared.outcome.DumpEnd.{DumpEnd}
+use Rattle.dmpaft_pump.specs.declared.outcome.Tally.{Tally}
+use Rattle.dmpaft_pump.specs.declared.pump.Pump.{Pump}
+use Rattle.dmpaft_pump.specs.declared.pump_end.PumpEnd.{PumpEnd}
 use Rattle.dmpaft_driver.proofs.Dumping.{over_shown, cut_shown, ended_as, ended_cut, cut_answer, answer_same, shown_no_astray, cut_front}
 use Rattle.dmpaft_driver.proofs.Exactly.{sound}
-use Rattle.dmpaft_driver.proofs.Keeping.{kept_answered}
+use Rattle.dmpaft_pump.proofs.Keeping.{kept_answered}
 
 -- the attempt of this talk, the batches that it gave, and its part of the tally
 pub record Brought (start : Tally) (a : Option CivilMinute) (talk : List TalkItem) (end : DumpEnd) (given : Handed) (tally : Tally) : Type 0 where

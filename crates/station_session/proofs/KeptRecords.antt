@@ -1,18 +1,18 @@
 -- The records that a round keeps are those that rise among all slots that its attempts took.
 use Rattle.std.proofs.Common.{◌≡◌, ℕ, ◌+◌, Bool, true, false, inl, inr, List, [], ◌∷◌, ◌++◌, refl, sym, ◌∙◌, ap, subst, append-nil, append_assoc, Option}
 use Rattle.station_base.specs.CivilMinute.{CivilMinute}
-use Rattle.dmpaft_driver.specs.Batch.{slots, is_newer, one_if, last_if, rising, newest, batches, records_in, all_slots, answered, add}
+use Rattle.dmpaft_pump.specs.Batch.{slots, is_newer, one_if, last_if, rising, newest, batches, records_in, all_slots, answered, add}
 use Rattle.station_base.specs.LastStamp.{last_stamp}
 use Rattle.archive_record.specs.Reading.{stamp_in}
-use Rattle.dmpaft_driver.specs.Keeper.{Handed, kept_all, join, last_kept}
+use Rattle.dmpaft_pump.specs.Keeper.{Handed, kept_all, join, last_kept}
 use Rattle.dmpaft_driver.specs.Gathered as gathered
 use Rattle.causes.specs.declared.stored.Stored.{Stored}
 use Rattle.causes.specs.declared.stored.Stored.TheVariants.{Done}
-use Rattle.dmpaft_driver.specs.declared.outcome.DumpEnd.{DumpEnd}
-use Rattle.dmpaft_driver.specs.declared.outcome.DumpEnd.TheVariants as dump_end
-use Rattle.dmpaft_driver.proofs.Keeping.{join_none, kept_answered}
-use Rattle.dmpaft_driver.proofs.Rising.{rising_joins, batches_rise}
-use Rattle.dmpaft_driver.proofs.Unrolling.{newest_joins}
+use Rattle.dmpaft_pump.specs.declared.outcome.DumpEnd.{DumpEnd}
+use Rattle.dmpaft_pump.specs.declared.outcome.DumpEnd.TheVariants as dump_end
+use Rattle.dmpaft_pump.proofs.Keeping.{join_none, kept_answered}
+use Rattle.dmpaft_pump.proofs.Rising.{rising_joins, batches_rise}
+use Rattle.dmpaft_pump.proofs.LastBatch.{newest_joins}
 use Rattle.station_session.specs.declared.round_end.RoundEnd.{RoundEnd}
 use Rattle.station_session.specs.Attempts.{Tried, Attempts, batches_in, stamp_after, all_batches, but_last, kept_batches}
 use Rattle.station_session.specs.Batches.{kept_records, last_answer}

@@ -5,14 +5,14 @@ use Rattle.station_base.specs.LastStamp.{exceeds, Rises, last_stamp}
 use Rattle.archive_record.specs.Reading.{stamp_in}
 use Rattle.causes.specs.declared.stored.Stored.{Stored}
 use Rattle.causes.specs.declared.stored.Stored.TheVariants.{Done, Full, Stale, DiskFault}
-use Rattle.dmpaft_driver.specs.Batch.{slots, rising, newest, add, batches, answered}
-use Rattle.dmpaft_driver.specs.Keeper.{Handed, one_batch, join, last_kept}
+use Rattle.dmpaft_pump.specs.Batch.{slots, rising, newest, add, batches, answered}
+use Rattle.dmpaft_pump.specs.Keeper.{Handed, one_batch, join, last_kept}
 use Rattle.dmpaft_driver.specs.Gathered as gathered
-use Rattle.dmpaft_driver.specs.Pump.{State, Saying, Hearing, Keeping, Over, Astray}
-use Rattle.dmpaft_driver.specs.Shown.{all_kept, answer_of}
+use Rattle.dmpaft_pump.specs.Pump.{State, Saying, Hearing, Keeping, Over, Astray}
+use Rattle.dmpaft_pump.specs.Shown.{all_kept, answer_of}
 use Rattle.dmpaft_driver.specs.Standing.{place_in, taken_in, handed}
-use Rattle.dmpaft_driver.proofs.Keeping.{kept_answered}
-use Rattle.dmpaft_driver.proofs.Rows.{rows_rise, within_self}
+use Rattle.dmpaft_pump.proofs.Keeping.{kept_answered}
+use Rattle.dmpaft_pump.proofs.Rows.{rows_rise, within_self}
 use Rattle.station_session.specs.Attempts.{Tried, batches_in, stamp_after, all_batches}
 use Rattle.station_session.specs.Fits.{first_some}
 

@@ -10,7 +10,7 @@ use Rattle.serial_link.proofs.Growing.{adds_joins}
 use Rattle.station_base.specs.declared.row.Row.{Row}
 use Rattle.settings_file.specs.StationSettings.{StationSettings}
 use Rattle.weather_book.specs.Book.{IsSameBook, last_of}
-use Rattle.dmpaft_driver.specs.Keeper.{Handed, kept_all, join}
+use Rattle.dmpaft_pump.specs.Keeper.{Handed, kept_all, join}
 use Rattle.station_session.specs.declared.round.Turn.{Turn}
 use Rattle.station_session.specs.declared.round.Turn.TheVariants as turn
 use Rattle.station_session.specs.declared.report.Report.{Report}

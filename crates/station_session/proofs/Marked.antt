@@ -1,6 +1,6 @@
 -- The rows that marks tell.
 use Rattle.std.proofs.Common.{◌≡◌, ℕ, ◌+◌, length, arith, length-append}
-use Rattle.dmpaft_driver.specs.Keeper.{Handed}
+use Rattle.dmpaft_pump.specs.Keeper.{Handed}
 use Rattle.station_session.specs.Batches.{kept_records}
 use Rattle.station_session.specs.Report.{rows_marked, marks_for}
 

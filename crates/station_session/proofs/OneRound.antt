@@ -3,20 +3,20 @@ use Rattle.std.proofs.Common.{◌≡◌, ◌≢◌, ◌⊎◌, ℕ, ◌+◌, Lis
 use Rattle.causes.specs.declared.stored.Stored.{Stored}
 use Rattle.causes.specs.declared.stored.Stored.TheVariants as stored
 use Rattle.dmpaft_driver.specs.Attempt.{Attempt, End}
-use Rattle.dmpaft_driver.specs.Batch.{batches}
+use Rattle.dmpaft_pump.specs.Batch.{batches}
 use Rattle.dmpaft_driver.specs.Exact.{AllDone, RefusesGiven, end_of}
-use Rattle.dmpaft_driver.specs.Keeper.{Handed, kept_all, last_kept}
+use Rattle.dmpaft_pump.specs.Keeper.{Handed, kept_all, last_kept}
 use Rattle.dmpaft_driver.specs.OneAttempt.{IsAttempt}
-use Rattle.dmpaft_driver.specs.Pump.{State, Saying, Hearing, Keeping, Over, Astray, Settling, answered_by, begun, onward, pump_from, step}
+use Rattle.dmpaft_pump.specs.Pump.{State, Saying, Hearing, Keeping, Over, Astray, Settling, answered_by, begun, onward, pump_from, step}
 use Rattle.dmpaft_driver.specs.Turning.{dump_end_of}
-use Rattle.dmpaft_driver.specs.declared.outcome.DumpEnd.{DumpEnd}
-use Rattle.dmpaft_driver.specs.declared.outcome.DumpEnd.TheVariants as dump_end
-use Rattle.dmpaft_driver.specs.declared.pump_end.PumpEnd.{PumpEnd}
-use Rattle.dmpaft_driver.specs.declared.pump_end.PumpEnd.TheVariants as pump_end
+use Rattle.dmpaft_pump.specs.declared.outcome.DumpEnd.{DumpEnd}
+use Rattle.dmpaft_pump.specs.declared.outcome.DumpEnd.TheVariants as dump_end
+use Rattle.dmpaft_pump.specs.declared.pump_end.PumpEnd.{PumpEnd}
+use Rattle.dmpaft_pump.specs.declared.pump_end.PumpEnd.TheVariants as pump_end
 use Rattle.dmpaft_driver.proofs.Acknowledging.{one_attempt}
 use Rattle.dmpaft_driver.proofs.Cutting.{begun_not_over}
 use Rattle.dmpaft_driver.proofs.Exactly.{complete}
-use Rattle.dmpaft_driver.proofs.Walking.{no_astray, over_is}
+use Rattle.dmpaft_pump.proofs.Walking.{no_astray, over_is}
 use Rattle.serial_link.specs.declared.talk.TalkItem.{TalkItem}
 use Rattle.station_base.specs.CivilMinute.{CivilMinute}
 use Rattle.station_session.specs.Attempts.{Attempts, EndsBefore, IsTried, Tried, all_said, batches_in, end_after, stamp_after}

@@ -11,14 +11,14 @@ use Rattle.serial_link.proofs.Growing.{adds_joins}
 use Rattle.serial_link.specs.declared.talk.TalkItem.{TalkItem}
 use Rattle.station_base.specs.CivilMinute.{CivilMinute}
 use Rattle.weather_book.specs.Book.{last_of, spare, len_of}
-use Rattle.dmpaft_driver.specs.Keeper.{Handed, kept_all, join, count, last_kept}
-use Rattle.dmpaft_driver.specs.Pump.{State}
-use Rattle.dmpaft_driver.specs.Shown.{Shows}
+use Rattle.dmpaft_pump.specs.Keeper.{Handed, kept_all, join, count, last_kept}
+use Rattle.dmpaft_pump.specs.Pump.{State}
+use Rattle.dmpaft_pump.specs.Shown.{Shows}
 use Rattle.dmpaft_driver.specs.Standing.{gives}
-use Rattle.dmpaft_driver.proofs.Keeping.{one_size, last_joins, count_kept}
-use Rattle.dmpaft_driver.specs.declared.outcome.DumpEnd.{DumpEnd}
-use Rattle.dmpaft_driver.specs.declared.outcome.DumpEnd.TheVariants as dump_end
-use Rattle.dmpaft_driver.specs.declared.outcome.Tally.{Tally}
+use Rattle.dmpaft_pump.proofs.Keeping.{one_size, last_joins, count_kept}
+use Rattle.dmpaft_pump.specs.declared.outcome.DumpEnd.{DumpEnd}
+use Rattle.dmpaft_pump.specs.declared.outcome.DumpEnd.TheVariants as dump_end
+use Rattle.dmpaft_pump.specs.declared.outcome.Tally.{Tally}
 use Rattle.station_session.specs.declared.round.Round.{Round}
 use Rattle.station_session.specs.declared.round.Turn.{Turn}
 use Rattle.station_session.specs.declared.round.Turn.TheVariants as turn

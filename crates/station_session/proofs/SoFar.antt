@@ -8,25 +8,25 @@ use Rattle.settings_file.specs.StationSettings.{StationSettings}
 use Rattle.serial_link.specs.declared.talk.TalkItem.{TalkItem}
 use Rattle.causes.specs.declared.stored.Stored.TheVariants.{Done}
 use Rattle.dmpaft_driver.specs.Attempt.{End}
-use Rattle.dmpaft_driver.specs.Batch.{batches}
+use Rattle.dmpaft_pump.specs.Batch.{batches}
 use Rattle.dmpaft_driver.specs.Exact.{end_of}
-use Rattle.dmpaft_driver.specs.Keeper.{Handed, kept_all, count, last_kept}
-use Rattle.dmpaft_driver.specs.Phases.{part_of}
-use Rattle.dmpaft_driver.specs.Pump.{State, Hearing, Keeping, Over, Settling, begun}
-use Rattle.dmpaft_driver.specs.Shown.{answer_of, end_at, Shows, ShowsAt, Stands, Tallied, talks_at, all_kept}
+use Rattle.dmpaft_pump.specs.Keeper.{Handed, kept_all, count, last_kept}
+use Rattle.dmpaft_pump.specs.Phases.{part_of}
+use Rattle.dmpaft_pump.specs.Pump.{State, Hearing, Keeping, Over, Settling, begun}
+use Rattle.dmpaft_pump.specs.Shown.{answer_of, end_at, Shows, ShowsAt, Stands, Tallied, talks_at, all_kept}
 use Rattle.dmpaft_driver.specs.Standing.{handed}
 use Rattle.dmpaft_driver.specs.Turning.{Suits, TurnsTo}
-use Rattle.dmpaft_driver.specs.declared.outcome.DumpEnd.{DumpEnd}
-use Rattle.dmpaft_driver.specs.declared.outcome.Tally.{Tally}
-use Rattle.dmpaft_driver.specs.declared.pump.Pump.{Pump}
-use Rattle.dmpaft_driver.specs.declared.pump_end.PumpEnd.{PumpEnd}
-use Rattle.dmpaft_driver.specs.declared.stage.Stage.{Stage}
-use Rattle.dmpaft_driver.specs.declared.stage.Stage.TheVariants as stage
+use Rattle.dmpaft_pump.specs.declared.outcome.DumpEnd.{DumpEnd}
+use Rattle.dmpaft_pump.specs.declared.outcome.Tally.{Tally}
+use Rattle.dmpaft_pump.specs.declared.pump.Pump.{Pump}
+use Rattle.dmpaft_pump.specs.declared.pump_end.PumpEnd.{PumpEnd}
+use Rattle.dmpaft_pump.specs.declared.stage.Stage.{Stage}
+use Rattle.dmpaft_pump.specs.declared.stage.Stage.TheVariants as stage
 use Rattle.dmpaft_driver.proofs.Cutting.{begun_not_over}
 use Rattle.dmpaft_driver.proofs.Dumping.{cut_shown, kept_few, suits_at}
-use Rattle.dmpaft_driver.proofs.Keeping.{kept_answered, count_kept}
-use Rattle.dmpaft_driver.proofs.Pumping.{all_few}
-use Rattle.dmpaft_driver.proofs.Rows.{within_self}
+use Rattle.dmpaft_pump.proofs.Keeping.{kept_answered, count_kept}
+use Rattle.dmpaft_pump.proofs.Pumping.{all_few}
+use Rattle.dmpaft_pump.proofs.Rows.{within_self}
 use Rattle.dmpaft_driver.proofs.Trials.{mild_runs}
 use Rattle.dmpaft_driver.proofs.Finishing.{Mild}
 use Rattle.station_session.specs.declared.round.Round.{Round}

@@ -8,7 +8,7 @@ use Rattle.weather_book.specs.Rows.{slot_total}
 use Rattle.weather_book.specs.Stands.{HasRows, StandsOn, StandsToReadOn}
 use Rattle.causes.specs.declared.stored.Stored.{Stored}
 use Rattle.causes.specs.declared.stored.Stored.TheVariants.{Done, Full, Stale, DiskFault}
-use Rattle.dmpaft_driver.specs.Keeper.{Handed, Refusal, answer_for, one_batch}
+use Rattle.dmpaft_pump.specs.Keeper.{Handed, Refusal, answer_for, one_batch}
 use Rattle.station_session.specs.declared.report.Mark.{Mark}
 use Rattle.station_session.specs.Records.{stored_rows}
 use Rattle.gated_log.specs.Appending.{ByGate}

@@ -9,21 +9,21 @@ use Rattle.causes.specs.declared.stored.Stored.{Stored}
 use Rattle.causes.specs.declared.stored.Stored.TheVariants as stored
 use Rattle.dmpaft_driver.specs.Attempt.{End}
 use Rattle.dmpaft_driver.specs.Exact.{AllDone, end_of}
-use Rattle.dmpaft_driver.specs.Keeper.{Handed, kept_all, join, last_kept}
-use Rattle.dmpaft_driver.specs.Pump.{State, Hearing, Keeping, Over, Settling, begun, pump_from, answered_by, batch_of}
-use Rattle.dmpaft_driver.specs.Shown.{Shows, end_at}
+use Rattle.dmpaft_pump.specs.Keeper.{Handed, kept_all, join, last_kept}
+use Rattle.dmpaft_pump.specs.Pump.{State, Hearing, Keeping, Over, Settling, begun, pump_from, answered_by, batch_of}
+use Rattle.dmpaft_pump.specs.Shown.{Shows, end_at}
 use Rattle.dmpaft_driver.specs.Standing.{handed, gives}
 use Rattle.dmpaft_driver.specs.Turning.{IsOneStep, IsCut, EndsAt, CutsAt, dump_end_of}
-use Rattle.dmpaft_driver.specs.declared.outcome.DumpEnd.{DumpEnd}
-use Rattle.dmpaft_driver.specs.declared.outcome.DumpEnd.TheVariants as dump_end
-use Rattle.dmpaft_driver.specs.declared.outcome.Tally.{Tally}
-use Rattle.dmpaft_driver.specs.declared.outcome.Trouble.{Trouble}
-use Rattle.dmpaft_driver.specs.declared.pump.Pump.{Pump}
-use Rattle.dmpaft_driver.specs.declared.pump_end.PumpEnd.{PumpEnd}
-use Rattle.dmpaft_driver.specs.declared.pump_end.PumpEnd.TheVariants as pump_end
+use Rattle.dmpaft_pump.specs.declared.outcome.DumpEnd.{DumpEnd}
+use Rattle.dmpaft_pump.specs.declared.outcome.DumpEnd.TheVariants as dump_end
+use Rattle.dmpaft_pump.specs.declared.outcome.Tally.{Tally}
+use Rattle.dmpaft_pump.specs.declared.outcome.Trouble.{Trouble}
+use Rattle.dmpaft_pump.specs.declared.pump.Pump.{Pump}
+use Rattle.dmpaft_pump.specs.declared.pump_end.PumpEnd.{PumpEnd}
+use Rattle.dmpaft_pump.specs.declared.pump_end.PumpEnd.TheVariants as pump_end
 use Rattle.dmpaft_driver.proofs.Dumping.{goes_on, handed_turn, none_given, shown_no_astray}
 use Rattle.dmpaft_driver.proofs.Finishing.{Mild}
-use Rattle.dmpaft_driver.proofs.Keeping.{join_assoc, join_none, kept_join}
+use Rattle.dmpaft_pump.proofs.Keeping.{join_assoc, join_none, kept_join}
 use Rattle.dmpaft_driver.proofs.Trials.{all_done, mild_runs}
 use Rattle.station_session.specs.declared.report.Report.{Report}
 use Rattle.station_session.specs.declared.round.Round.{Round}
@@ -243,7 +243,7 @@ module _ {last : Option CivilMinute} {talk : List TalkItem} {kept : List (List (
     given_more : handed a (pump_from a r.state v.said v.answers) ≡ join (handed a r.state) (gives a r.state v.answers)
     given_more = handed_turn a r.state v.said v.answers (shown_no_astray start a state new.pump v.turns.0) v.turns.1
 
-    at : Rattle.dmpaft_driver.specs.Pump.pump_after a (r.said ++ v.said) (r.answers ++ v.answers) ≡ pump_from a r.state v.said v.answers
+    at : Rattle.dmpaft_pump.specs.Pump.pump_after a (r.said ++ v.said) (r.answers ++ v.answers) ≡ pump_from a r.state v.said v.answers
     at = goes_on a r.said v.said r.answers v.answers r.state r.stands (shown_no_astray start a r.state round.pump r.shows)
 
     -- the attempt goes on

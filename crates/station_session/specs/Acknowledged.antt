@@ -3,8 +3,8 @@ use Rattle.std.specs.Prelude.{◌≡◌, ℕ, ◌+◌, List, ◌∷◌, ◌++◌
 use Rattle.causes.specs.Lists.{IsFrontOf}
 use Rattle.station_base.specs.CivilMinute.{CivilMinute}
 use Rattle.vantage_frames.specs.StampFrame.{stamp_frame_of}
-use Rattle.dmpaft_driver.specs.Batch.{batches, records_in}
-use Rattle.dmpaft_driver.specs.Keeper.{Handed, kept_in}
+use Rattle.dmpaft_pump.specs.Batch.{batches, records_in}
+use Rattle.dmpaft_pump.specs.Keeper.{Handed, kept_in}
 use Rattle.dmpaft_driver.specs.OneAttempt.{Acknowledges}
 use Rattle.station_session.specs.declared.report.Mark.{Mark}
 use Rattle.station_session.specs.Attempts.{Tried, stamp_behind, all_batches}

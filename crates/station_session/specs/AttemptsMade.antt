@@ -5,8 +5,8 @@ use Rattle.disk_model.specs.Medium.{Medium}
 use Rattle.serial_link.specs.Talk.{Adds}
 use Rattle.settings_file.specs.StationSettings.{StationSettings}
 use Rattle.weather_book.specs.Book.{last_of}
-use Rattle.dmpaft_driver.specs.declared.outcome.Tally.{Tally}
-use Rattle.dmpaft_driver.specs.declared.outcome.Trouble.{Trouble}
+use Rattle.dmpaft_pump.specs.declared.outcome.Tally.{Tally}
+use Rattle.dmpaft_pump.specs.declared.outcome.Trouble.{Trouble}
 use Rattle.station_session.specs.declared.round_end.RoundEnd.{RoundEnd}
 use Rattle.station_session.specs.Attempts.{Tried, Attempts, all_said, all_batches}
 use Rattle.station_session.specs.Holding.{Holding}

@@ -3,11 +3,11 @@ use Rattle.std.specs.Prelude.{◌≡◌, ℕ, ◌+◌, ◌*◌, ◌≤◌, List,
 use Rattle.std.proofs.Common.{◌∙◌, subst, arith}
 use Rattle.station_session.specs.Room.{batch_room}
 use Rattle.weather_book.specs.Book.{last_of, spare}
-use Rattle.dmpaft_driver.specs.declared.batch.TheConstants.{MOST_RECORDS}
-use Rattle.dmpaft_driver.specs.Ledger.{Ledger}
+use Rattle.dmpaft_pump.specs.declared.batch.TheConstants.{MOST_RECORDS}
+use Rattle.dmpaft_pump.specs.Ledger.{Ledger}
 use Rattle.disk_model.specs.Medium.{Medium}
-use Rattle.dmpaft_driver.proofs.Keeping.{count_join, count_kept}
-use Rattle.dmpaft_driver.specs.Keeper.{Handed, kept_all, join, count}
+use Rattle.dmpaft_pump.proofs.Keeping.{count_join, count_kept}
+use Rattle.dmpaft_pump.specs.Keeper.{Handed, kept_all, join, count}
 use Rattle.station_session.specs.declared.book_keeper.BookKeeper.{BookKeeper}
 use Rattle.station_session.specs.Holding.{Holding, holding}
 use Rattle.station_session.specs.OneBatch.{AddsBatch, Chain, chain_joins}

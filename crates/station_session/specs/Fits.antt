@@ -3,7 +3,7 @@ use Rattle.std.specs.Prelude.{◌≡◌, ℕ, ◌+◌, ◌-◌, ◌*◌, ◌≤�
 use Rattle.std.specs.Prelude.{Option, Some, None}
 use Rattle.station_base.specs.CivilMinute.{CivilMinute}
 use Rattle.serial_link.specs.declared.talk.TalkItem.{TalkItem}
-use Rattle.dmpaft_driver.specs.declared.batch.TheConstants.{MOST_RECORDS}
+use Rattle.dmpaft_pump.specs.declared.batch.TheConstants.{MOST_RECORDS}
 use Rattle.weather_book.specs.Book.{last_of, spare}
 use Rattle.station_session.specs.declared.report.Report.{Report}
 use Rattle.station_session.specs.declared.round.Round.{Round}

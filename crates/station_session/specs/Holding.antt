@@ -10,7 +10,7 @@ use Rattle.gated_log.specs.Appending.{ByGate}
 use Rattle.weather_book.specs.Rows.{slot_total}
 use Rattle.weather_book.specs.Stands.{HasRows, StandsOn, StandsToReadOn}
 use Rattle.causes.specs.declared.stored.Stored.TheVariants as stored
-use Rattle.dmpaft_driver.specs.Keeper.{Handed}
+use Rattle.dmpaft_pump.specs.Keeper.{Handed}
 use Rattle.station_session.specs.declared.report.Mark.{Mark}
 use Rattle.station_session.specs.Records.{stored_rows}
 use Rattle.station_session.specs.Batches.{kept_records, all_records, kept_count, last_answer, Fit, changes_for, IsBegun}

@@ -11,7 +11,7 @@ use Rattle.gated_log.specs.Appending.{ByGate}
 use Rattle.weather_book.specs.Stands.{HasRows, NowHasRows, RowsOldOrAll, StandsOn, StandsToReadOn}
 use Rattle.causes.specs.declared.stored.Stored.{Stored}
 use Rattle.causes.specs.declared.stored.Stored.TheVariants as stored
-use Rattle.dmpaft_driver.specs.Keeper.{Handed, answer_for, one_batch, kept_all, join, last_kept}
+use Rattle.dmpaft_pump.specs.Keeper.{Handed, answer_for, one_batch, kept_all, join, last_kept}
 use Rattle.station_session.specs.Records.{stored_rows}
 use Rattle.causes.specs.Stored.{stale_after}
 use Rattle.station_session.specs.Batches.{Delivery, delivery, kept_of, Fits, IsBegun, begun_for, batch_changes}

@@ -4,13 +4,13 @@ use Rattle.std.specs.Prelude.{◌-◌, ◌≡◌, ℕ, ◌+◌, ◌*◌, ◌^◌
 use Rattle.station_base.specs.CivilMinute.{CivilMinute}
 use Rattle.serial_link.specs.declared.talk.TalkItem.{TalkItem}
 use Rattle.causes.specs.declared.stored.Stored.{Stored}
-use Rattle.dmpaft_driver.specs.declared.outcome.Tally.{Tally}
-use Rattle.dmpaft_driver.specs.declared.outcome.Trouble.{Trouble}
-use Rattle.dmpaft_driver.specs.declared.pump_end.PumpEnd.TheVariants as pump_end
+use Rattle.dmpaft_pump.specs.declared.outcome.Tally.{Tally}
+use Rattle.dmpaft_pump.specs.declared.outcome.Trouble.{Trouble}
+use Rattle.dmpaft_pump.specs.declared.pump_end.PumpEnd.TheVariants as pump_end
 use Rattle.dmpaft_driver.specs.Exact.{AllDone}
-use Rattle.dmpaft_driver.specs.Keeper.{kept_all, join, last_kept}
-use Rattle.dmpaft_driver.specs.Pump.{State, Over, pump_after}
-use Rattle.dmpaft_driver.specs.Shown.{Shows, left_of}
+use Rattle.dmpaft_pump.specs.Keeper.{kept_all, join, last_kept}
+use Rattle.dmpaft_pump.specs.Pump.{State, Over, pump_after}
+use Rattle.dmpaft_pump.specs.Shown.{Shows, left_of}
 use Rattle.dmpaft_driver.specs.Standing.{handed}
 use Rattle.station_session.specs.declared.round.Round.{Round}
 use Rattle.station_session.specs.Attempts.{Tried, IsTried, end_after, stamp_after, stamp_behind, all_batches, all_said, most_attempts}

@@ -1,6 +1,6 @@
 -- What a round takes of the slots that its attempts read.
 use Rattle.std.specs.Prelude.{ℕ, List, [], ◌∷◌, ◌++◌}
-use Rattle.dmpaft_driver.specs.Batch.{all_slots}
+use Rattle.dmpaft_pump.specs.Batch.{all_slots}
 use Rattle.station_session.specs.Attempts.{Tried}
 
 -- the slots of the pages that attempts took, in order, of each attempt's first page from the header's place on

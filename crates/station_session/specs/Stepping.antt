@@ -8,16 +8,16 @@ use Rattle.disk_model.specs.Medium.{Medium}
 use Rattle.settings_file.specs.StationSettings.{StationSettings}
 use Rattle.weather_book.specs.Book.{spare}
 use Rattle.causes.specs.declared.stored.Stored.{Stored}
-use Rattle.dmpaft_driver.specs.declared.batch.TheConstants.{MOST_RECORDS}
-use Rattle.dmpaft_driver.specs.declared.outcome.DumpEnd.{DumpEnd}
-use Rattle.dmpaft_driver.specs.declared.outcome.Tally.{Tally}
-use Rattle.dmpaft_driver.specs.declared.outcome.Trouble.{Trouble}
-use Rattle.dmpaft_driver.specs.declared.pump.Pump.{Pump}
-use Rattle.dmpaft_driver.specs.declared.pump_end.PumpEnd.{PumpEnd}
-use Rattle.dmpaft_driver.specs.declared.pump_end.PumpEnd.TheVariants as pump_end
-use Rattle.dmpaft_driver.specs.Keeper.{count}
-use Rattle.dmpaft_driver.specs.Pump.{State, Settling, begun}
-use Rattle.dmpaft_driver.specs.Shown.{Shows, end_at}
+use Rattle.dmpaft_pump.specs.declared.batch.TheConstants.{MOST_RECORDS}
+use Rattle.dmpaft_pump.specs.declared.outcome.DumpEnd.{DumpEnd}
+use Rattle.dmpaft_pump.specs.declared.outcome.Tally.{Tally}
+use Rattle.dmpaft_pump.specs.declared.outcome.Trouble.{Trouble}
+use Rattle.dmpaft_pump.specs.declared.pump.Pump.{Pump}
+use Rattle.dmpaft_pump.specs.declared.pump_end.PumpEnd.{PumpEnd}
+use Rattle.dmpaft_pump.specs.declared.pump_end.PumpEnd.TheVariants as pump_end
+use Rattle.dmpaft_pump.specs.Keeper.{count}
+use Rattle.dmpaft_pump.specs.Pump.{State, Settling, begun}
+use Rattle.dmpaft_pump.specs.Shown.{Shows, end_at}
 use Rattle.dmpaft_driver.specs.Standing.{gives}
 use Rattle.dmpaft_driver.specs.Turning.{TurnsTo}
 use Rattle.station_session.specs.declared.round.Round.{Round}

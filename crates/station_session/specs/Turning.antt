@@ -8,7 +8,7 @@ use Rattle.serial_link.specs.declared.talk.TalkItem.{TalkItem}
 use Rattle.serial_link.specs.Traffic.{Traffic}
 use Rattle.serial_link.specs.Talk.{Adds}
 use Rattle.station_base.specs.CivilMinute.{CivilMinute}
-use Rattle.dmpaft_driver.specs.Keeper.{Handed, one_batch, kept_all, join}
+use Rattle.dmpaft_pump.specs.Keeper.{Handed, one_batch, kept_all, join}
 use Rattle.dmpaft_driver.specs.Turning.{IsOneCall}
 use Rattle.station_session.specs.declared.limits.TheConstants.{CHANGES, MOST_BATCHES}
 use Rattle.station_session.specs.declared.report.Report.{Report}

@@ -5,7 +5,7 @@ use Rattle.serial_link.specs.declared.talk.TalkItem.{TalkItem}
 use Rattle.serial_link.specs.Traffic.{Traffic}
 use Rattle.serial_link.specs.Talk.{Adds}
 use Rattle.station_base.specs.declared.row.Row.{Row}
-use Rattle.dmpaft_driver.specs.Keeper.{kept_all}
+use Rattle.dmpaft_pump.specs.Keeper.{kept_all}
 use Rattle.weather_book.specs.Book.{last_of}
 use Rattle.station_session.specs.declared.report.Report.{Report}
 use Rattle.station_session.specs.declared.round.Turn.{Turn}

@@ -8,7 +8,7 @@ use crate::correct::stored_rows;
 use crate::report::{Mark, note};
 use archive_record::Rec52;
 use disk_model::Disk;
-use dmpaft_driver::{Keeper, Kept};
+use dmpaft_pump::{Keeper, Kept};
 use settings_file::Settings;
 use weather_book::Book;
 

@@ -1,4 +1,4 @@
-use dmpaft_driver::MOST_RECORDS;
+use dmpaft_pump::MOST_RECORDS;
 use vantage_frames::MOST_PAGES;
 
 // How often a dump is tried within a round.

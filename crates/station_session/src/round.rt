@@ -7,7 +7,7 @@ ghost use Rattle.station_session.specs.Attempts.{most_attempts};
 use crate::limits::{ATTEMPTS, MOST_TROUBLES};
 use crate::round_end::{RoundEnd, refused, round_end};
 use arrayvec::ArrayVec;
-use dmpaft_driver::{DumpEnd, Pump, PumpEnd, Tally, Trouble};
+use dmpaft_pump::{DumpEnd, Pump, PumpEnd, Tally, Trouble};
 use station_base::Stamp;
 
 /// A round that was begun, and is taken turn by turn by the session that began it.
@@ -42,8 +42,8 @@ pub enum Turn {
 }
 
 impl Round {
-    ghost use Rattle.dmpaft_driver.specs.Pump.{Settling, begun};
-    ghost use Rattle.dmpaft_driver.specs.Shown.{Shows, left_of, no_tally};
+    ghost use Rattle.dmpaft_pump.specs.Pump.{Settling, begun};
+    ghost use Rattle.dmpaft_pump.specs.Shown.{Shows, left_of, no_tally};
     ghost use Rattle.station_session.specs.RoundAt.{left};
     ghost use Rattle.station_session.specs.Stepping.{GoesOn, Notes};
 

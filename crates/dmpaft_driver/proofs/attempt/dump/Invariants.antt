@@ -2,9 +2,9 @@ use Rattle.std.proofs.Common.{◌≡◌, ◌+◌, ◌≤◌, List}
 use Rattle.serial_link.specs.declared.talk.TalkItem.{TalkItem}
 use Rattle.serial_link.specs.Talk.{Adds}
 use Rattle.causes.specs.declared.stored.Stored.{Stored}
-use Rattle.dmpaft_driver.specs.Keeper.{count, last_kept}
-use Rattle.dmpaft_driver.specs.Pump.{State, pump_after}
-use Rattle.dmpaft_driver.specs.Shown.{Shows, left_of}
+use Rattle.dmpaft_pump.specs.Keeper.{count, last_kept}
+use Rattle.dmpaft_pump.specs.Pump.{State, pump_after}
+use Rattle.dmpaft_pump.specs.Shown.{Shows, left_of}
 use Rattle.dmpaft_driver.specs.Standing.{handed}
 use Rattle.dmpaft_driver.proofs.attempt.dump.Given as goal
 

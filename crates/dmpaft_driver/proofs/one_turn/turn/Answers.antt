@@ -1,14 +1,14 @@
 use Rattle.serial_link.specs.Talk.{message}
 use Rattle.serial_link.specs.declared.talk.TalkItem.{TalkItem}
-use Rattle.dmpaft_driver.specs.Shown.{Shows, said_at}
-use Rattle.dmpaft_driver.specs.Pump.{pump_from}
+use Rattle.dmpaft_pump.specs.Shown.{Shows, said_at}
+use Rattle.dmpaft_pump.specs.Pump.{pump_from}
 use Rattle.std.proofs.Common.{◌≡◌, ℕ, ◌<◌, [], ◌∷◌, List, length, sym, ◌∙◌, ap, subst, refl, inl, inr, arith}
 use Rattle.serial_link.proofs.Growing.{adds_none}
-use Rattle.dmpaft_driver.specs.Keeper.{Handed, one_batch, count, last_kept}
-use Rattle.dmpaft_driver.specs.Pump.{State}
+use Rattle.dmpaft_pump.specs.Keeper.{Handed, one_batch, count, last_kept}
+use Rattle.dmpaft_pump.specs.Pump.{State}
 use Rattle.dmpaft_driver.specs.Standing.{gives}
 use Rattle.dmpaft_driver.proofs.Cutting.{some_words, stays_saying, says_saying, listened, keeps_same, last_same, not_keeping_said, not_keeping_heard}
-use Rattle.dmpaft_driver.proofs.Keeping.{one_size, one_some}
+use Rattle.dmpaft_pump.proofs.Keeping.{one_size, one_some}
 use Rattle.dmpaft_driver.proofs.one_turn.turn.Goals as goal
 
 pub returns-in-Failed-clause-turns : goal.returns-in-Failed-clause-turns

@@ -1,7 +1,7 @@
 use Rattle.std.proofs.Common.{◌∷◌, [], List, refl, sym, ◌∙◌, ap, subst}
 use Rattle.serial_link.specs.declared.talk.TalkItem.{TalkItem}
 use Rattle.serial_link.specs.declared.talk.TalkItem.TheVariants as talk_item
-use Rattle.dmpaft_driver.specs.Pump.{pump_from}
+use Rattle.dmpaft_pump.specs.Pump.{pump_from}
 use Rattle.dmpaft_driver.proofs.Trials.{Unended, hears_more, hears_nothing_said, no_items}
 use Rattle.dmpaft_driver.proofs.trying.listen.Goals as goal
 

@@ -1,8 +1,8 @@
 use Rattle.std.proofs.lemmas.List.{take_rest}
 use Rattle.std.proofs.Common.{◌≡◌, ◌-◌, ℕ, [], ◌++◌, List, length, length-append, take, drop, refl, sym, ◌∙◌, ap, subst, arith, append_assoc}
 use Rattle.serial_link.specs.declared.talk.TalkItem.{TalkItem}
-use Rattle.dmpaft_driver.specs.Pump.{Settling, begun, pump_from}
-use Rattle.dmpaft_driver.specs.Shown.{no_tally}
+use Rattle.dmpaft_pump.specs.Pump.{Settling, begun, pump_from}
+use Rattle.dmpaft_pump.specs.Shown.{no_tally}
 use Rattle.dmpaft_driver.specs.Trial.{Tried}
 use Rattle.dmpaft_driver.specs.Trying.{StopsAt, later}
 use Rattle.dmpaft_driver.proofs.Dumping.{shown_no_astray}

@@ -2,8 +2,8 @@ use Rattle.std.proofs.Common.{◌≡◌, ◌≤◌, ◌++◌, List, length}
 use Rattle.causes.specs.declared.stored.Stored.{Stored}
 use Rattle.serial_link.specs.declared.talk.TalkItem.{TalkItem}
 use Rattle.dmpaft_driver.specs.Exact.{AllDone}
-use Rattle.dmpaft_driver.specs.Pump.{State, pump_after}
-use Rattle.dmpaft_driver.specs.Shown.{Shows, no_tally, left_of}
+use Rattle.dmpaft_pump.specs.Pump.{State, pump_after}
+use Rattle.dmpaft_pump.specs.Shown.{Shows, no_tally, left_of}
 use Rattle.dmpaft_driver.proofs.trying.trial.Given as goal
 
 -- the pump is where the attempt stands after the items that were taken, with each batch kept

@@ -1,8 +1,8 @@
 use Rattle.std.proofs.Common.{◌+◌, ◌*◌, ◌≤◌, sym, subst}
 use Rattle.weather_book.specs.declared.book.Book.{Book}
 use Rattle.weather_book.specs.Book.{spare}
-use Rattle.dmpaft_driver.specs.declared.batch.TheConstants.{MOST_RECORDS}
-use Rattle.dmpaft_driver.specs.Keeper.{count}
+use Rattle.dmpaft_pump.specs.declared.batch.TheConstants.{MOST_RECORDS}
+use Rattle.dmpaft_pump.specs.Keeper.{count}
 use Rattle.dmpaft_driver.specs.Standing.{gives}
 use Rattle.station_session.specs.Holding.{Holding, holding}
 use Rattle.station_session.specs.OneBatch.{AddsBatch, Chain}

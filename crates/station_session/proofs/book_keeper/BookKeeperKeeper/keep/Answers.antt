@@ -5,7 +5,7 @@ use Rattle.weather_book.specs.Adding.{ArePrintable, AreLimited}
 use Rattle.weather_book.specs.Rising.{RowsRise}
 use Rattle.weather_book.specs.Book.{last_of}
 use Rattle.causes.specs.declared.stored.Stored.TheVariants as stored
-use Rattle.dmpaft_driver.proofs.Keeping.{one_size}
+use Rattle.dmpaft_pump.proofs.Keeping.{one_size}
 use Rattle.station_session.proofs.Stamps.{rises, same_count}
 use Rattle.station_session.specs.OneBatch.{AddsBatch}
 use Rattle.station_session.proofs.BatchAnswers.{taken_as, no_mark, mark_as}

@@ -1,6 +1,6 @@
 use Rattle.std.proofs.Common.{◌-◌, List, length, vec_len, vec_capacity, refl, ap, arith}
 use Rattle.weather_book.specs.Book.{spare}
-use Rattle.dmpaft_driver.specs.declared.outcome.Trouble.{Trouble}
+use Rattle.dmpaft_pump.specs.declared.outcome.Trouble.{Trouble}
 use Rattle.station_session.specs.Attempts.{stamp_behind}
 use Rattle.station_session.specs.RoundAt.{tally_of}
 use Rattle.station_session.specs.Turning.{desk}

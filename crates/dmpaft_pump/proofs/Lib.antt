@@ -1,0 +1,10 @@
+pub mod Judging
+pub mod Rows
+pub mod Keeping
+pub mod Rising
+pub mod Hears
+pub mod Walking
+pub mod Replies
+pub mod LastBatch
+pub mod Pumping
+pub mod Steps

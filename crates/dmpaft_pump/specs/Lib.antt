@@ -1,0 +1,15 @@
+pub mod Command
+pub mod Slot
+pub mod SlotReading
+pub mod Keeper
+pub mod Ledger
+pub mod Batch
+pub mod Page
+pub mod Header
+pub mod Reply
+pub mod Pump
+pub mod Stages
+pub mod Phases
+pub mod PageJudging
+pub mod Shown
+pub mod TroubleText

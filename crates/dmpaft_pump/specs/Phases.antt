@@ -1,0 +1,118 @@
+-- The parts of an attempt as a pump has them, which tells place and pages apart.
+use Rattle.std.specs.Prelude.{◌≡◌, ℕ, ◌+◌, ◌*◌, ◌<◌, Bool, true, false, List, [], ◌∷◌, length, Option}
+use Rattle.station_base.specs.CivilMinute.{CivilMinute}
+use Rattle.vantage_frames.specs.StampFrame.{stamp_frame_of}
+use Rattle.dmpaft_pump.specs.declared.phase.Phase.{Phase}
+use Rattle.dmpaft_pump.specs.declared.phase.Phase.TheVariants as phase
+use Rattle.dmpaft_pump.specs.Command.{dmpaft}
+use Rattle.dmpaft_pump.specs.Pump.{Part, Settling, Waking, Calling, Heading, Asking, Resettling, Acking, GivingUp}
+
+-- the part after these pages
+abbrev pub part_of : ℕ → List (List ℕ) → Phase → Part
+part_of place taken phase.Settling = Settling
+part_of place taken (phase.Waking left) = Waking left
+part_of place taken phase.Calling = Calling
+part_of place taken phase.Heading = Heading
+part_of place taken (phase.Asking more left said) = Asking more place taken left said
+part_of place taken (phase.Resettling more left said) = Resettling more place taken left said
+part_of place taken phase.Acking = Acking place taken
+part_of place taken (phase.GivingUp trouble) = GivingUp place taken trouble
+
+-- so many quiet waits in a row end what it hears
+abbrev pub quiets_of : Phase → ℕ
+quiets_of phase.Settling = 6
+quiets_of (phase.Waking left) = 3
+quiets_of phase.Calling = 3
+quiets_of phase.Heading = 3
+quiets_of (phase.Asking more left said) = 3
+quiets_of (phase.Resettling more left said) = 6
+quiets_of phase.Acking = 3
+quiets_of (phase.GivingUp trouble) = 3
+
+-- so many bytes end what it hears
+abbrev pub most_of : Phase → ℕ
+most_of phase.Settling = 65536
+most_of (phase.Waking left) = 65536
+most_of phase.Calling = 1
+most_of phase.Heading = 7
+most_of (phase.Asking more left said) = 267
+most_of (phase.Resettling more left said) = 65536
+most_of phase.Acking = 1
+most_of (phase.GivingUp trouble) = 1
+
+-- what it says
+abbrev pub words_of : Option CivilMinute → Phase → List ℕ
+words_of after phase.Settling = []
+words_of after (phase.Waking left) = 10 ∷ []
+words_of after phase.Calling = dmpaft
+words_of after phase.Heading = stamp_frame_of after
+words_of after (phase.Asking more left said) = said ∷ []
+words_of after (phase.Resettling more left said) = []
+words_of after phase.Acking = 6 ∷ []
+words_of after (phase.GivingUp trouble) = 27 ∷ []
+
+-- only the last bytes of what it hears matter
+abbrev pub settles : Phase → Bool
+settles phase.Settling = true
+settles (phase.Waking left) = true
+settles phase.Calling = false
+settles phase.Heading = false
+settles (phase.Asking more left said) = false
+settles (phase.Resettling more left said) = true
+settles phase.Acking = false
+settles (phase.GivingUp trouble) = false
+
+-- before the header there is no place and no page; while a page is asked for, it and those after it are not too many
+abbrev pub Fits : Phase → ℕ → List (List ℕ) → Type 0
+Fits phase.Settling place taken = (place ≡ 0) × (taken ≡ [])
+Fits (phase.Waking left) place taken = (place ≡ 0) × (taken ≡ [])
+Fits phase.Calling place taken = (place ≡ 0) × (taken ≡ [])
+Fits phase.Heading place taken = (place ≡ 0) × (taken ≡ [])
+Fits (phase.Asking more left said) place taken = length taken + more < 513
+Fits (phase.Resettling more left said) place taken = length taken + more < 513
+Fits phase.Acking place taken = Unit {0}
+Fits (phase.GivingUp trouble) place taken = Unit {0}
+
+-- it hears something
+abbrev pub Hears : Phase → Type 0
+Hears phase.Settling = Unit {0}
+Hears (phase.Waking left) = Unit {0}
+Hears phase.Calling = Unit {0}
+Hears phase.Heading = Unit {0}
+Hears (phase.Asking more left said) = Unit {0}
+Hears (phase.Resettling more left said) = Unit {0}
+Hears phase.Acking = ⊥
+Hears (phase.GivingUp trouble) = ⊥
+
+-- it says something
+abbrev pub Speaks : Phase → Type 0
+Speaks phase.Settling = ⊥
+Speaks (phase.Waking left) = Unit {0}
+Speaks phase.Calling = Unit {0}
+Speaks phase.Heading = Unit {0}
+Speaks (phase.Asking more left said) = Unit {0}
+Speaks (phase.Resettling more left said) = ⊥
+Speaks phase.Acking = Unit {0}
+Speaks (phase.GivingUp trouble) = Unit {0}
+
+-- it takes fewer steps than this: its words are said, and then each byte and each wait is heard
+abbrev pub span_of : Phase → ℕ
+span_of phase.Settling = 500000
+span_of (phase.Waking left) = 500000
+span_of phase.Calling = 2000
+span_of phase.Heading = 2000
+span_of (phase.Asking more left said) = 2000
+span_of (phase.Resettling more left said) = 500000
+span_of phase.Acking = 2000
+span_of (phase.GivingUp trouble) = 2000
+
+-- so many steps may follow it at most; a page with its askings and settlings takes fewer than 1,600,000
+abbrev pub rest_of : Phase → ℕ
+rest_of phase.Settling = 822304000
+rest_of (phase.Waking left) = 820804000 + 500000 * left
+rest_of phase.Calling = 820802000
+rest_of phase.Heading = 820800000
+rest_of (phase.Asking more left said) = 1600000 * more + 502000 * left + 2001
+rest_of (phase.Resettling more left said) = 1600000 * more + 502000 * left + 4001
+rest_of phase.Acking = 0
+rest_of (phase.GivingUp trouble) = 0

@@ -1,0 +1,11 @@
+-- What the reading of a slot tells.
+use Rattle.std.specs.Prelude.{◌≡◌, ℕ, true, false, List}
+use Rattle.dmpaft_pump.specs.declared.slot.SlotRead.{SlotRead}
+use Rattle.dmpaft_pump.specs.declared.slot.SlotRead.TheVariants as slot_read
+use Rattle.dmpaft_pump.specs.Slot.{is_record, is_skipped}
+
+-- what a slot is read as
+abbrev pub TellsSlot : List ℕ → SlotRead → Type 0
+TellsSlot bytes (slot_read.Record row) = (is_record bytes ≡ true) × (is_skipped bytes ≡ false) × (row ≡ bytes)
+TellsSlot bytes slot_read.Empty = (is_record bytes ≡ false) × (is_skipped bytes ≡ false)
+TellsSlot bytes slot_read.Skipped = (is_record bytes ≡ false) × (is_skipped bytes ≡ true)
