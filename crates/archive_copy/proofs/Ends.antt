@@ -2,7 +2,7 @@
 use Rattle.std.proofs.Common.{◌≡◌, ◌+◌, ◌-◌, ◌*◌, ℕ, false, List, length, refl, sym, ◌∙◌, ap, subst}
 use Rattle.causes.specs.Lists.{IsFrontOf}
 use Rattle.station_base.specs.declared.row.Row.{Row}
-use Rattle.weather_book.specs.Rows.{RowsOf, holds, rows_of}
+use Rattle.packed_rows.specs.Rows.{RowsOf, holds, rows_of}
 use Rattle.archive_copy.specs.declared.end.CopyEnd.{CopyEnd}
 use Rattle.archive_copy.specs.declared.end.CopyEnd.TheVariants.{Done, FromNotArchive, FromDamaged, Full, ToNotArchive, ToOldVersion, ToDamaged, NotPrefix, FromFault, ToFault, OutOfMemory}
 use Rattle.archive_copy.specs.Adding.{IsOfAdding, Moves, batches, next_rows, to_add}

@@ -3,7 +3,7 @@ use Rattle.std.proofs.Common.{◌≡◌, ℕ, zero, suc, ◌+◌, ◌*◌, ◌<�
 use Rattle.disk_model.specs.Medium.{Medium}
 use Rattle.gated_log.specs.Calls.{Looked}
 use Rattle.station_base.specs.declared.row.Row.{Row}
-use Rattle.weather_book.specs.Rows.{slot_total}
+use Rattle.packed_rows.specs.Rows.{slot_total}
 use Rattle.archive_copy.specs.Calls.{slots_end}
 
 some_slots : (n : ℕ) → 0 < n → 176 * (n + 1) ≡ slots_end n

@@ -8,9 +8,9 @@ use Rattle.std.proofs.lemmas.Option.{slice_get_within, get_or_from_slice_get}
 use Rattle.station_base.specs.CivilMinute.{CivilMinute}
 use Rattle.station_base.specs.declared.row.Row.{Row}
 use Rattle.causes.specs.Lists.{IsFrontOf}
-use Rattle.weather_book.specs.Rising.{exceeds, rise, last_after, last_stamp}
+use Rattle.packed_rows.specs.Rising.{exceeds, rise, last_after, last_stamp}
 use Rattle.archive_copy.specs.Adding.{batches}
-use Rattle.weather_book.proofs.RowLaws.{rise_front, rise_behind}
+use Rattle.packed_rows.proofs.RowLaws.{rise_front, rise_behind}
 
 -- one more of the next rows
 pub next_row : (rows : List Row) (at k : ℕ) (row : Row) → slice_get rows (at + k) ≡ Some row → take (k + 1) (drop at rows) ≡ take k (drop at rows) ++ row ∷ []

@@ -7,10 +7,10 @@ use Rattle.gated_log.proofs.Ending.{stands_now}
 use Rattle.gated_log.proofs.Versions.{has_closed}
 use Rattle.station_base.specs.declared.row.Row.{Row}
 use Rattle.weather_book.specs.declared.book.Book.{Book}
-use Rattle.weather_book.specs.Rows.{rows_from, slot_total, holds}
+use Rattle.packed_rows.specs.Rows.{rows_from, slot_total, holds}
 use Rattle.weather_book.specs.Stands.{HasRows, NowHasRows, ReadsRows, StandsOn, StandsToReadOn}
 use Rattle.weather_book.proofs.Adds.{has_rows}
-use Rattle.weather_book.proofs.Versions.{read_second}
+use Rattle.packed_rows.proofs.Versions.{read_second}
 use Rattle.archive_copy.specs.Adding.{HasSome}
 
 -- the same rows, and the same next ones

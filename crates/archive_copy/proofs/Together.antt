@@ -10,7 +10,7 @@ use Rattle.gated_log.proofs.CallsMade.{any_join, no_changes}
 use Rattle.station_base.specs.declared.row.Row.{Row}
 use Rattle.weather_book.specs.declared.book.Book.{Book}
 use Rattle.weather_book.specs.Book.{StandsFor, slots_of_book}
-use Rattle.weather_book.specs.Rows.{slot_total}
+use Rattle.packed_rows.specs.Rows.{slot_total}
 use Rattle.weather_book.proofs.KeptLaws.{total_kept}
 use Rattle.archive_copy.specs.Calls.{AddsBatches, changes_for, failed_answer, OnlyReads, rows_in, slots_end, ToCalls}
 use Rattle.archive_copy.proofs.Changes.{are_for, are_take, changes_join, fit_more, fits_join, up_fits, up_kept}

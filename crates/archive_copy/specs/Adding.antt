@@ -2,7 +2,7 @@
 use Rattle.std.specs.Prelude.{◌≡◌, ◌⊎◌, ℕ, ◌+◌, ◌-◌, ◌*◌, ◌/◌, ◌<◌, ◌≤◌, List, [], ◌++◌, length, take, drop}
 use Rattle.station_base.specs.declared.row.Row.{Row}
 use Rattle.gated_log.specs.Start.{MovedToWrite}
-use Rattle.weather_book.specs.Rows.{RowsOf, holds, rows_of}
+use Rattle.packed_rows.specs.Rows.{RowsOf, holds, rows_of}
 use Rattle.weather_book.specs.Stands.{HasRows}
 use Rattle.archive_copy.specs.declared.adding.BatchEnd.{BatchEnd}
 use Rattle.archive_copy.specs.declared.adding.BatchEnd.TheVariants as batch

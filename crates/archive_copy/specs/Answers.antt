@@ -6,7 +6,7 @@ use Rattle.gated_log.specs.declared.start.Purpose.TheVariants.{Write}
 use Rattle.station_base.specs.declared.row.Row.{Row}
 use Rattle.disk_model.specs.Medium.{Medium}
 use Rattle.weather_book.specs.Stands.{NowHasRows, ReadsRows}
-use Rattle.weather_book.specs.Rows.{rows_of, holds, not_archive, damaged}
+use Rattle.packed_rows.specs.Rows.{rows_of, holds, not_archive, damaged}
 use Rattle.archive_copy.specs.declared.end.CopyEnd.{CopyEnd}
 use Rattle.archive_copy.specs.declared.end.CopyEnd.TheVariants.{Done, FromNotArchive, FromDamaged, Full}
 use Rattle.archive_copy.specs.declared.end.CopyEnd.TheVariants.{ToNotArchive, ToOldVersion, ToDamaged}

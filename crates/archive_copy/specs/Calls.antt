@@ -8,7 +8,7 @@ use Rattle.disk_model.specs.declared.disk.Disked.{Disked}
 use Rattle.disk_model.specs.declared.disk.Disked.TheVariants.{Done, Failed}
 use Rattle.gated_log.specs.Calls.{any_failed, changes, four_changes, reads_fit, recovery_changes, up_to}
 use Rattle.station_base.specs.declared.row.Row.{Row}
-use Rattle.weather_book.specs.Rows.{slot_total}
+use Rattle.packed_rows.specs.Rows.{slot_total}
 use Rattle.weather_book.specs.declared.book.Book.{Book}
 use Rattle.weather_book.specs.Book.{slots_of_book}
 use Rattle.archive_copy.specs.declared.adding.BatchEnd.{BatchEnd}

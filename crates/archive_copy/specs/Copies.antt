@@ -5,7 +5,7 @@ use Rattle.causes.specs.Told.{WhereTold}
 use Rattle.disk_model.specs.Disk.{Begins, Faults, LeavesOnly, Stays}
 use Rattle.disk_model.specs.Medium.{Medium}
 use Rattle.station_base.specs.declared.row.Row.{Row}
-use Rattle.weather_book.specs.Rows.{holds, rows_of}
+use Rattle.packed_rows.specs.Rows.{holds, rows_of}
 use Rattle.weather_book.specs.Stands.{NowHasRows}
 use Rattle.archive_copy.specs.Adding.{HasSome, Moves, next_rows, to_add}
 use Rattle.archive_copy.specs.Answers.{Answers, IsCopied, OnFromDamaged, OnFromRefused}

@@ -3,7 +3,7 @@ use Rattle.std.specs.Prelude.{◌≡◌, ℕ, ◌+◌, ◌<◌, ◌≤◌, List,
 use Rattle.causes.specs.Told.{WhereTold}
 use Rattle.disk_model.specs.Medium.{Medium}
 use Rattle.station_base.specs.declared.row.Row.{Row}
-use Rattle.weather_book.specs.Adding.{AreLimited, ArePrintable}
+use Rattle.packed_rows.specs.Adding.{AreLimited, ArePrintable}
 use Rattle.weather_book.specs.declared.book.Book.{Book}
 use Rattle.weather_book.specs.Book.{len_of}
 use Rattle.weather_book.specs.Stands.{StandsToReadOn}

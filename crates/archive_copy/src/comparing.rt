@@ -5,7 +5,7 @@ ghost use Rattle.disk_model.specs.Disk.{Faults, Stays};
 ghost use Rattle.gated_log.specs.Calls.{Looked};
 ghost use Rattle.station_base.specs.declared.row.Row.{Row};
 ghost use Rattle.weather_book.specs.Book.{StandsFor, len_of};
-ghost use Rattle.weather_book.specs.Rows.{slot_total};
+ghost use Rattle.packed_rows.specs.Rows.{slot_total};
 ghost use Rattle.weather_book.specs.Stands.{StandsToReadOn};
 ghost use Rattle.archive_copy.specs.Calls.{from_failed, slots_end, to_failed};
 ghost use Rattle.archive_copy.specs.Comparing.{Compares};

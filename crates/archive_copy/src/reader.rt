@@ -6,7 +6,7 @@ ghost use Rattle.station_base.specs.FieldSet.{AreMissing};
 ghost use Rattle.station_base.specs.RowLine.{IsPrintable};
 ghost use Rattle.station_base.specs.declared.row.Row.{Row};
 ghost use Rattle.weather_book.specs.Book.{StandsFor, len_of};
-ghost use Rattle.weather_book.specs.Rows.{slot_total};
+ghost use Rattle.packed_rows.specs.Rows.{slot_total};
 ghost use Rattle.weather_book.specs.Stands.{StandsToReadOn};
 ghost use Rattle.weather_book.specs.Start.{OnRow, OnRows, is_no_row, rows_failed};
 

@@ -5,7 +5,7 @@ use Rattle.station_base.specs.DayText.{IsDayNumber, day_text}
 use Rattle.station_base.specs.declared.day.DayNumber.{DayNumber}
 use Rattle.station_base.specs.declared.row.Row.{Row}
 use Rattle.daily_summary.specs.Bounds.{IsInBounds}
-use Rattle.weather_book.specs.Days.{days_of}
+use Rattle.packed_rows.specs.Days.{days_of}
 use Rattle.weather_reports.specs.Months.{is_of_month, month_text}
 use Rattle.climate_table.specs.declared.span.Span.{Span}
 use Rattle.climate_table.specs.Climate.{IsOfDays, climate_of}

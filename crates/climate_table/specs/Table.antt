@@ -6,7 +6,7 @@ use Rattle.station_base.specs.DayText.{day_text}
 use Rattle.station_base.specs.declared.row.Row.{Row}
 use Rattle.daily_summary.specs.declared.field_sum.FieldSum.{FieldSum}
 use Rattle.daily_summary.specs.declared.summary.DaySummary.{DaySummary}
-use Rattle.weather_book.specs.Days.{days_of}
+use Rattle.packed_rows.specs.Days.{days_of}
 use Rattle.weather_reports.specs.Months.{months_of}
 use Rattle.climate_table.specs.Climate.{climate_of}
 use Rattle.climate_table.specs.DegreeDays.{degrees_of}

@@ -18,8 +18,8 @@ use Rattle.station_session.specs.declared.report.Report.{Report}
 use Rattle.station_session.specs.declared.round_end.RoundEnd.{RoundEnd}
 use Rattle.station_session.specs.declared.round_end.RoundEnd.TheVariants as round
 use Rattle.weather_book.specs.Book.{last_of}
-use Rattle.weather_book.specs.Rising.{last_stamp}
-use Rattle.weather_book.specs.Rows.{damaged, holds, not_archive}
+use Rattle.packed_rows.specs.Rising.{last_stamp}
+use Rattle.packed_rows.specs.Rows.{damaged, holds, not_archive}
 use Rattle.weather_book.specs.Start.{Finds}
 use Rattle.weather_book.specs.declared.book.Book.{Book}
 use Rattle.weather_book.specs.declared.start.BookStart.{BookStart}

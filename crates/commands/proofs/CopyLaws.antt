@@ -14,7 +14,7 @@ use Rattle.causes.specs.Told.{WhereTold}
 use Rattle.disk_model.specs.Disk.{Faults}
 use Rattle.disk_model.specs.Medium.{Medium}
 use Rattle.station_base.specs.declared.row.Row.{Row}
-use Rattle.weather_book.specs.Rows.{damaged, holds, not_archive}
+use Rattle.packed_rows.specs.Rows.{damaged, holds, not_archive}
 use Rattle.run_output.specs.Causes.{HasCauses, RoseOnOne}
 use Rattle.run_output.specs.Ended.{Lines, output_of}
 use Rattle.run_output.specs.Output.{Output}

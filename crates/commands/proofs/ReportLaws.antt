@@ -8,7 +8,7 @@ use Rattle.command_words.specs.declared.wanted.Wanted.{Wanted}
 use Rattle.disk_model.specs.Medium.{Medium}
 use Rattle.gated_log.specs.declared.start.Purpose.TheVariants.{Read}
 use Rattle.station_base.specs.declared.row.Row.{Row}
-use Rattle.weather_book.specs.Rows.{damaged, holds, not_archive}
+use Rattle.packed_rows.specs.Rows.{damaged, holds, not_archive}
 use Rattle.weather_book.specs.Start.{Finds}
 use Rattle.weather_book.specs.declared.book.Book.{Book}
 use Rattle.weather_book.specs.declared.start.BookStart.{BookStart}

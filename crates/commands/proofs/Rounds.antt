@@ -18,8 +18,8 @@ use Rattle.station_session.specs.Session.{settings_of}
 use Rattle.station_session.specs.declared.report.Report.{Report}
 use Rattle.station_session.specs.declared.round_end.RoundEnd.{RoundEnd}
 use Rattle.station_session.specs.declared.round_end.RoundEnd.TheVariants as round
-use Rattle.weather_book.specs.Rising.{last_stamp}
-use Rattle.weather_book.specs.Rows.{slot_total}
+use Rattle.packed_rows.specs.Rising.{last_stamp}
+use Rattle.packed_rows.specs.Rows.{slot_total}
 use Rattle.weather_book.specs.declared.book.Book.{Book}
 use Rattle.run_output.specs.Causes.{HasCauses, WentWell}
 use Rattle.run_output.specs.Ended.{EndsBy}

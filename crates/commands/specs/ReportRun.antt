@@ -19,7 +19,7 @@ use Rattle.run_output.specs.declared.status.Status.TheVariants as ends
 use Rattle.station_base.specs.declared.day.DayNumber.{DayNumber}
 use Rattle.station_base.specs.declared.row.Row.{Row}
 use Rattle.weather_book.specs.Book.{StandsFor}
-use Rattle.weather_book.specs.Rows.{holds, rows_of}
+use Rattle.packed_rows.specs.Rows.{holds, rows_of}
 use Rattle.weather_book.specs.Stands.{ReadsRows}
 use Rattle.weather_book.specs.declared.book.Book.{Book}
 use Rattle.weather_reports.specs.Report.{day_table_lines, listing_lines, month_table_lines}

@@ -22,7 +22,7 @@ use Rattle.station_session.specs.declared.report.Report.{Report}
 use Rattle.station_session.specs.declared.round_end.RoundEnd.{RoundEnd}
 use Rattle.station_session.specs.declared.round_end.RoundEnd.TheVariants as round
 use Rattle.station_session.specs.declared.session.Session.{Session}
-use Rattle.weather_book.specs.Rising.{last_stamp}
+use Rattle.packed_rows.specs.Rising.{last_stamp}
 use Rattle.weather_book.specs.Stands.{StandsOn}
 use Rattle.weather_book.specs.declared.book.Book.{Book}
 use Rattle.command_words.specs.Command.{StationNames}

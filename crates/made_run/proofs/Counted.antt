@@ -10,10 +10,10 @@ use Rattle.schedule_file.specs.declared.schedule.step.Step as code_step
 use Rattle.schedule_file.specs.Steps.{steps_seen}
 use Rattle.station_replay.specs.Replay.{start}
 use Rattle.station_replay.specs.Schedule.{records}
-use Rattle.schedule_replay.specs.Accepted.{AreAccepted, HasRecord}
+use Rattle.schedule_steps.specs.Accepted.{AreAccepted, HasRecord}
 use Rattle.schedule_replay.specs.Counting.{count_telling, counted, no_counts}
 use Rattle.schedule_replay.specs.declared.counts.Counts.{Counts}
-use Rattle.schedule_replay.specs.Steps.{steps_for}
+use Rattle.schedule_steps.specs.Steps.{steps_for}
 use Rattle.schedule_replay.specs.Told.{TellsRun}
 use Rattle.made_run.specs.CountsRun.{CountsRun}
 use Rattle.made_run.specs.Made.{made_steps}

@@ -11,11 +11,11 @@ use Rattle.schedule_file.specs.declared.schedule.step.Step as code_step
 use Rattle.schedule_file.specs.Steps.{MidRecord, Step, no_details, records_in, steps_seen}
 use Rattle.station_replay.specs.Schedule.{records}
 use Rattle.station_replay.specs.Stopped.{IsStop}
-use Rattle.schedule_replay.specs.Accepted.{AreAccepted, HasRecord}
-use Rattle.schedule_replay.specs.Steps.{steps_for}
-use Rattle.schedule_replay.specs.Stops.{stop_set}
-use Rattle.schedule_replay.proofs.Accepting.{falling_accepted}
-use Rattle.schedule_replay.proofs.Falling.{AllFall, MidsFall, lines_in}
+use Rattle.schedule_steps.specs.Accepted.{AreAccepted, HasRecord}
+use Rattle.schedule_steps.specs.Steps.{steps_for}
+use Rattle.schedule_steps.specs.Stops.{stop_set}
+use Rattle.schedule_steps.proofs.Accepting.{falling_accepted}
+use Rattle.schedule_steps.proofs.Falling.{AllFall, MidsFall, lines_in}
 use Rattle.archive_record.proofs.Stamping.{IsNumbered, numbered_after}
 use Rattle.draws.specs.Draws.{drawn, next}
 use Rattle.made_run.specs.Made.{after_rounds, details_of, due_after, due_row, due_step, first_due, host_lost, is_round, kind_drawn, made_steps, reply_cut, reply_late, rounds_behind, steps_from, stop_drawn, stop_of}

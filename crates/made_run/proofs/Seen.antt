@@ -25,7 +25,7 @@ use Rattle.station_sim.specs.Line.{Line, begins_with_ack, completes, counted, ea
 use Rattle.station_sim.specs.Talk.{console_talk, started, step}
 use Rattle.station_replay.specs.Replay.{IsBroken, Item, Stage}
 use Rattle.station_replay.specs.Schedule.{Stop}
-use Rattle.station_replay.proofs.Framing.{hearing_is, waiting_is}
+use Rattle.line_laws.proofs.Framing.{hearing_is, waiting_is}
 use Rattle.made_run.proofs.Replies.{Fair, IsFair, fair_hear, fair_tick}
 
 -- a message comes whole, or not at all

@@ -12,7 +12,7 @@ use Rattle.schedule_file.specs.Lists.{entry_of}
 use Rattle.schedule_file.specs.Steps.{Details, Step as Seen, DueStep, RunStep, IdleStep, OpenStep, RoundStep, no_details, steps_seen}
 use Rattle.station_replay.specs.Replay.{IsUnseen, Item, Stage}
 use Rattle.station_replay.specs.Schedule.{Step, Stop}
-use Rattle.schedule_replay.specs.Steps.{steps_for}
+use Rattle.schedule_steps.specs.Steps.{steps_for}
 use Rattle.draws.specs.Draws.{next}
 use Rattle.made_run.specs.Made.{after_rounds, host_lost, is_round, kind_drawn, made_steps, reply_cut, reply_late, rounds_behind, steps_from}
 use Rattle.made_run.proofs.Seen.{IsPlain, IsWholeOrCut, IsWholeOrLost, none_broken}

@@ -11,7 +11,7 @@ use Rattle.station_replay.specs.Replay.{IsWhole, Item, start}
 use Rattle.station_replay.specs.Schedule.{records}
 use Rattle.schedule_replay.specs.Counting.{counted, no_counts}
 use Rattle.schedule_replay.specs.declared.counts.Counts.{Counts}
-use Rattle.schedule_replay.specs.Steps.{steps_for}
+use Rattle.schedule_steps.specs.Steps.{steps_for}
 use Rattle.made_run.specs.Made.{made_steps}
 
 -- The counts are those of items that are the run of the steps made from the seed, over a new console and a new

@@ -5,7 +5,8 @@ ghost use Rattle.made_run.specs.MakeEnd.{IfDone};
 use crate::schedule::{MOST_MADE, made_schedule};
 use causes::OutOfMemory;
 use loop_packet::LoopPacket;
-use schedule_replay::{Counts, ReplayEnd, new_disk, new_line, records_known, replay_steps};
+use schedule_replay::{Counts, ReplayEnd, new_disk, new_line, replay_steps};
+use schedule_steps::records_known;
 use settings_file::Settings;
 use std::alloc::Global;
 

@@ -7,10 +7,10 @@ use Rattle.console_model.specs.Due.{due}
 use Rattle.console_server.proofs.RunEnds.{none_left}
 use Rattle.console_server.specs.Ready.{made_ready, ticked}
 use Rattle.console_server.specs.Runs as served
-use Rattle.schedule_replay.proofs.RunRecords.{run_next, run_of_two, run_on}
-use Rattle.schedule_replay.specs.Accepted.{IsInRange}
-use Rattle.schedule_replay.specs.Runs as run
-use Rattle.schedule_replay.specs.Steps.{steps_for}
+use Rattle.schedule_steps.proofs.RunRecords.{run_next, run_of_two, run_on}
+use Rattle.schedule_steps.specs.Accepted.{IsInRange}
+use Rattle.schedule_steps.specs.Runs as run
+use Rattle.schedule_steps.specs.Steps.{steps_for}
 use Rattle.station_sim.specs.Line.{due_all}
 use Rattle.schedule_file.specs.declared.schedule.step.Step.{Step}
 use Rattle.schedule_file.specs.declared.schedule.step.Step.TheVariants.{Due, Run, Idle, Open, Round}

@@ -8,7 +8,7 @@ use Rattle.run_output.specs.declared.status.Status.TheVariants as ends
 use Rattle.schedule_file.specs.Answer.{ReadsAs}
 use Rattle.schedule_file.specs.Reading.{LineFault, steps_of}
 use Rattle.schedule_file.specs.declared.schedule.Schedule.{Schedule}
-use Rattle.schedule_replay.specs.Accepted.{IsAccepted}
+use Rattle.schedule_steps.specs.Accepted.{IsAccepted}
 use Rattle.station_base.specs.NumberText.{number_text}
 use Rattle.station_io.specs.Files.{Shelf}
 

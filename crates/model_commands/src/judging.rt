@@ -1,10 +1,10 @@
 ghost use Rattle.std.specs.Prelude.{◌≡◌, ◌≤◌, IfOk, length};
 ghost use Rattle.model_commands.specs.ScheduleReading.{SaysSchedule, bad_schedule, reads_schedule};
-ghost use Rattle.schedule_replay.specs.Accepted.{IsAccepted};
+ghost use Rattle.schedule_steps.specs.Accepted.{IsAccepted};
 
 use run_output::{Ending, Status, Text, read};
 use schedule_file::{Schedule, ScheduleFault};
-use schedule_replay::accepted;
+use schedule_steps::accepted;
 use station_base::{Period, push_bytes, push_number};
 use station_fleet::a_schedule_has_few_steps;
 use station_io::Files;

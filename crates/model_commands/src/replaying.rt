@@ -2,7 +2,7 @@ ghost use Rattle.std.specs.Prelude.{◌≡◌, []};
 ghost use Rattle.model_commands.specs.ReplayRun.{replay_status, replays, replays_files};
 ghost use Rattle.run_output.specs.Ended.{output_of};
 ghost use Rattle.run_output.specs.Outside.{means};
-ghost use Rattle.schedule_replay.specs.Accepted.{IsAccepted};
+ghost use Rattle.schedule_steps.specs.Accepted.{IsAccepted};
 ghost use Rattle.schedule_replay.specs.Replayed.{steps_in};
 
 use crate::judging::read_schedule;

@@ -3,7 +3,7 @@ ghost use Rattle.command_words.specs.Command.{console_names};
 ghost use Rattle.model_commands.specs.ConsoleRun.{readied, served_line, serves, serves_files};
 ghost use Rattle.run_output.specs.Output.{no_memory};
 ghost use Rattle.run_output.specs.Outside.{means};
-ghost use Rattle.schedule_replay.specs.Accepted.{IsAccepted};
+ghost use Rattle.schedule_steps.specs.Accepted.{IsAccepted};
 ghost use Rattle.schedule_replay.specs.Replayed.{steps_in};
 
 use crate::judging::read_schedule;

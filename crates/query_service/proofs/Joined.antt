@@ -9,7 +9,7 @@ use Rattle.serial_link.specs.declared.talk.TalkItem.{TalkItem}
 use Rattle.serial_link.proofs.Growing.{adds_none}
 use Rattle.serial_link.proofs.Joining.{talks_as, talks_then}
 use Rattle.std.specs.Prelude.{◌+◌, ◌*◌}
-use Rattle.weather_book.specs.Rows.{slot_total}
+use Rattle.packed_rows.specs.Rows.{slot_total}
 use Rattle.weather_book.specs.declared.book.Book.{Book}
 use Rattle.weather_book.proofs.Looks.{no_look}
 use Rattle.weather_book.proofs.Pieces.{more_reads}

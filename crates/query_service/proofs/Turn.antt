@@ -15,7 +15,7 @@ use Rattle.station_base.specs.declared.row.Row.{Row}
 use Rattle.wake_retry.specs.Bounds.{said}
 use Rattle.wake_retry.specs.Parts.{heard}
 use Rattle.wake_retry.proofs.Endings.{heard-append}
-use Rattle.weather_book.specs.Rows.{slot_total}
+use Rattle.packed_rows.specs.Rows.{slot_total}
 use Rattle.weather_book.specs.declared.book.Book.{Book}
 use Rattle.weather_book.proofs.Looks.{no_look}
 use Rattle.query_service.specs.Answers.{answer_to}

@@ -10,7 +10,7 @@ use Rattle.station_base.specs.RowLine.{row_line}
 use Rattle.station_base.specs.declared.row.Row.{Row}
 use Rattle.station_io.specs.Sink.{Outlet}
 use Rattle.weather_book.specs.Book.{StandsFor}
-use Rattle.weather_book.specs.Rows.{slot_total}
+use Rattle.packed_rows.specs.Rows.{slot_total}
 use Rattle.weather_book.specs.declared.book.Book.{Book}
 use Rattle.weather_book.proofs.Looks.{no_look}
 use Rattle.weather_reports.specs.Report.{later_lines}

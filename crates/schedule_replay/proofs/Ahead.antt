@@ -13,12 +13,12 @@ use Rattle.schedule_file.specs.Fates.{Fates}
 use Rattle.station_replay.specs.Replay.{IsBroken, Item, Stage, first, opened}
 use Rattle.station_replay.specs.Schedule.{Stop}
 use Rattle.schedule_replay.specs.declared.cut.Cut.{Cut}
-use Rattle.schedule_replay.specs.declared.playing.Played.{Played}
+use Rattle.round_play.specs.declared.playing.Played.{Played}
 use Rattle.schedule_replay.specs.declared.run.Run.{Run}
 use Rattle.schedule_replay.specs.Left.{left_to_open}
-use Rattle.schedule_replay.specs.Opening.{limits_of}
-use Rattle.schedule_replay.specs.Played.{Host, IsPlayedOut}
-use Rattle.schedule_replay.specs.Resting.{GoesOn}
+use Rattle.round_play.specs.Opening.{limits_of}
+use Rattle.round_play.specs.Played.{Host, IsPlayedOut}
+use Rattle.round_play.specs.Resting.{GoesOn}
 use Rattle.schedule_replay.specs.Running.{After}
 use Rattle.schedule_replay.specs.Standing.{HasSaid, HasSession, HoldsAt, LineAt, Readies, round_step}
 use Rattle.schedule_replay.specs.Telling.{Telling}

@@ -24,13 +24,13 @@ use Rattle.station_replay.proofs.Roomy.{room_law, round_in_run}
 use Rattle.station_replay.proofs.Running.{begun_law, schedules_law}
 use Rattle.station_replay.proofs.Stops.{slots_is}
 use Rattle.schedule_replay.specs.declared.run.Run.{Run}
-use Rattle.schedule_replay.specs.Accepted.{AreAccepted, IsInRange}
-use Rattle.schedule_replay.specs.Opening.{limits_of}
-use Rattle.schedule_replay.specs.Resting.{AtRest, IsRoomFor}
+use Rattle.schedule_steps.specs.Accepted.{AreAccepted, IsInRange}
+use Rattle.round_play.specs.Opening.{limits_of}
+use Rattle.round_play.specs.Resting.{AtRest, IsRoomFor}
 use Rattle.schedule_replay.specs.Running.{BreaksAt, IsCut}
 use Rattle.schedule_replay.specs.SoFar.{SoFar}
 use Rattle.schedule_replay.specs.Standing.{HasRunRoom, HasSaid, HasSession, HoldsAt, LineAt, MayTake, StandsThere, said_in}
-use Rattle.schedule_replay.specs.Steps.{step_of, steps_for}
+use Rattle.schedule_steps.specs.Steps.{step_of, steps_for}
 use Rattle.schedule_replay.specs.Telling.{Telling}
 use Rattle.schedule_replay.specs.Turns.{BreaksRun, CutsRun, EndsRun}
 use Rattle.schedule_replay.proofs.Ahead.{is_opened}

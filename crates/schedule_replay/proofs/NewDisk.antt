@@ -9,13 +9,13 @@ use Rattle.disk_model.specs.declared.mem_disk.MemDisk.{MemDisk}
 use Rattle.disk_model.specs.declared.stopping.Stopping.{Stopping}
 use Rattle.gated_log.specs.Log.{log_of}
 use Rattle.gated_log.specs.Version.{version_of}
-use Rattle.weather_book.specs.Rows.{rows_of}
+use Rattle.packed_rows.specs.Rows.{rows_of}
 use Rattle.weather_book.specs.Stands.{HasRows}
 use Rattle.station_replay.specs.Keeping.{Archive}
 use Rattle.loop_packet.specs.declared.packet.LoopPacket.{LoopPacket}
 use Rattle.schedule_replay.specs.Replayed.{IsNewDisk}
-use Rattle.schedule_replay.specs.Resting.{AtRest, IsRoomFor}
-use Rattle.schedule_replay.proofs.Opened.{left_by}
+use Rattle.round_play.specs.Resting.{AtRest, IsRoomFor}
+use Rattle.round_play.proofs.Opened.{left_by}
 
 -- an archive that was never opened
 abbrev pub unopened : Archive

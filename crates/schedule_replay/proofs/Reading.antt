@@ -17,17 +17,17 @@ use Rattle.station_base.specs.declared.row.Row.{Row}
 use Rattle.settings_file.specs.StationSettings.{StationSettings}
 use Rattle.weather_book.specs.declared.book.Book.{Book}
 use Rattle.weather_book.specs.Book.{StandsFor}
-use Rattle.weather_book.specs.Rows.{rows_from, slot_total}
+use Rattle.packed_rows.specs.Rows.{rows_from, slot_total}
 use Rattle.weather_book.specs.Stands.{StandsOn, StandsToReadOn}
-use Rattle.weather_book.proofs.Versions.{read_second}
+use Rattle.packed_rows.proofs.Versions.{read_second}
 use Rattle.weather_reports.specs.Reported.{AsFailed, ReadsOver}
 use Rattle.weather_reports.specs.declared.end.ReportEnd.{ReportEnd}
 use Rattle.station_session.specs.declared.session.Session.{Session}
 use Rattle.station_session.specs.Session.{book_of}
 use Rattle.station_replay.specs.Keeping.{Archive}
-use Rattle.schedule_replay.specs.Resting.{AtRest, GoesOn, HasLeft}
-use Rattle.schedule_replay.proofs.Changing.{by_changes, fails_by_changes}
-use Rattle.schedule_replay.proofs.Opened.{stands_stays, synced_seen}
+use Rattle.round_play.specs.Resting.{AtRest, GoesOn, HasLeft}
+use Rattle.round_play.proofs.Changing.{by_changes, fails_by_changes}
+use Rattle.round_play.proofs.Opened.{stands_stays, synced_seen}
 use Rattle.schedule_replay.specs.Writing.{IsOnlyRead, IsReadable}
 
 -- reads within the length leave the state as it is, and none fails

@@ -22,14 +22,14 @@ use Rattle.station_replay.specs.Round.{tried_of}
 use Rattle.station_session.specs.Attempts.{all_said}
 use Rattle.station_replay.proofs.Leaving.{total_few}
 use Rattle.station_replay.proofs.Stops.{slots_is}
-use Rattle.schedule_replay.specs.declared.playing.Played.{Played}
+use Rattle.round_play.specs.declared.playing.Played.{Played}
 use Rattle.schedule_replay.specs.declared.run.Run.{Run}
-use Rattle.schedule_replay.specs.Opening.{CanOpen, limits_of}
-use Rattle.schedule_replay.specs.Played.{Host, IsCounted, IsPlayedOut, IsToldOf, MayPlay, PlaysBy}
-use Rattle.schedule_replay.specs.Resting.{GoesOn, IsRoomFor}
+use Rattle.round_play.specs.Opening.{CanOpen, limits_of}
+use Rattle.round_play.specs.Played.{Host, IsCounted, IsPlayedOut, IsToldOf, MayPlay, PlaysBy}
+use Rattle.round_play.specs.Resting.{GoesOn, IsRoomFor}
 use Rattle.schedule_replay.specs.Running.{After, IsCut}
 use Rattle.schedule_replay.specs.Standing.{HasRunRoom, HasSaid, HasSession, HoldsAt, IsTold, LineAt, MayOpen, MayRun, Readies, StandsThere, round_step, said_in}
-use Rattle.schedule_replay.specs.Stops.{stop_set}
+use Rattle.schedule_steps.specs.Stops.{stop_set}
 use Rattle.schedule_replay.specs.Telling.{Telling}
 
 opened_line : (t : Bool) (s : Stage) → (opened t s).line ≡ s.line

@@ -13,15 +13,15 @@ use Rattle.station_replay.specs.Schedule.{Stop}
 use Rattle.station_replay.specs.Replay.{Does, Item, Opens, Stage, cut_archive, cut_short, first, made_ready, opened, opening, recovered, stops_opening, is_stop, Rounded}
 use Rattle.schedule_replay.specs.declared.cut.Cut.{Cut}
 use Rattle.schedule_replay.specs.declared.cut.Cut.TheVariants.{WriteFault, OutOfMemory}
-use Rattle.schedule_replay.specs.declared.playing.Played.{Played}
+use Rattle.round_play.specs.declared.playing.Played.{Played}
 use Rattle.schedule_replay.specs.declared.round_line.RoundLine.{RoundLine}
 use Rattle.schedule_replay.specs.declared.run.Run.{Run}
-use Rattle.schedule_replay.specs.Played.{IsToldOf, Tells}
+use Rattle.round_play.specs.Played.{IsToldOf, Tells}
 use Rattle.schedule_replay.specs.RoundLine.{ending_of, Tells as TellsLine}
-use Rattle.schedule_replay.specs.Opening.{IsOpened, OpensBy}
+use Rattle.round_play.specs.Opening.{IsOpened, OpensBy}
 use Rattle.schedule_replay.specs.Running.{IsCut}
-use Rattle.schedule_replay.specs.Stops.{stop_of}
-use Rattle.schedule_replay.specs.Resting.{AtRest, GoesOn}
+use Rattle.schedule_steps.specs.Stops.{stop_of}
+use Rattle.round_play.specs.Resting.{AtRest, GoesOn}
 use Rattle.schedule_replay.specs.Standing.{HasSession, HoldsAt, IsTold, MayOpen, Readies, open_step}
 use Rattle.schedule_replay.specs.Telling.{Telling, TellsAll}
 use Rattle.schedule_replay.specs.Writing.{IsOnlyRead, IsReadable}

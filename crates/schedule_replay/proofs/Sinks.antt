@@ -14,7 +14,7 @@ use Rattle.station_replay.specs.Texts.{text_of}
 use Rattle.schedule_replay.specs.declared.cut.Cut.{Cut}
 use Rattle.schedule_replay.specs.declared.cut.Cut.TheVariants.{WriteFault, OutOfMemory}
 use Rattle.schedule_replay.specs.Replayed.{IsCutOff, IsReplayed, TookPart, steps_in}
-use Rattle.schedule_replay.specs.Steps.{steps_for}
+use Rattle.schedule_steps.specs.Steps.{steps_for}
 use Rattle.schedule_replay.specs.Telling.{TellsAll}
 use Rattle.schedule_replay.specs.TextTelling.{text_telling}
 use Rattle.schedule_replay.specs.Told.{TellsFront, TellsRun}

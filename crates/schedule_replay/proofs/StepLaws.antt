@@ -15,8 +15,8 @@ use Rattle.station_replay.specs.Schedule.{Step, Stop}
 use Rattle.schedule_replay.specs.declared.run.Run.{Run}
 use Rattle.schedule_replay.specs.Running.{After, IsCut}
 use Rattle.schedule_replay.specs.Standing.{HasSaid, HoldsAt, LeadsTo, LineAt, open_step, said_in}
-use Rattle.schedule_replay.specs.Steps.{passed, step_of}
-use Rattle.schedule_replay.specs.Stops.{stop_of}
+use Rattle.schedule_steps.specs.Steps.{passed, step_of}
+use Rattle.schedule_steps.specs.Stops.{stop_of}
 use Rattle.schedule_replay.specs.Telling.{Telling}
 use Rattle.schedule_replay.proofs.RunLaws.{rest_on}
 

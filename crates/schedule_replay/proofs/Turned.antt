@@ -18,25 +18,25 @@ use Rattle.station_sim.specs.declared.sim.Sim.{Sim}
 use Rattle.station_replay.specs.Replay.{Item, OpensNext, Runs, Stage, first, opened, start}
 use Rattle.station_replay.specs.Room.{line_of, lines}
 use Rattle.station_replay.specs.Schedule.{IsSchedule, Step, records}
-use Rattle.schedule_replay.specs.declared.playing.Playing.{Playing}
+use Rattle.round_play.specs.declared.playing.Playing.{Playing}
 use Rattle.schedule_replay.specs.declared.run.Run.{Run}
 use Rattle.schedule_replay.specs.declared.turns.ReplayRun.{ReplayRun}
 use Rattle.schedule_replay.specs.declared.turns.ReplayTurn.{ReplayTurn}
 use Rattle.schedule_replay.specs.declared.turns.ReplayTurn.TheVariants as turn
 use Rattle.schedule_replay.specs.Left.{left_by, left_in, left_to_open}
-use Rattle.schedule_replay.specs.Opening.{limits_of}
-use Rattle.schedule_replay.specs.Played.{Host}
-use Rattle.schedule_replay.specs.Playing.{IsOver, IsUnderWay, MayGoOn}
+use Rattle.round_play.specs.Opening.{limits_of}
+use Rattle.round_play.specs.Played.{Host}
+use Rattle.round_play.specs.Playing.{IsOver, IsUnderWay, MayGoOn}
 use Rattle.schedule_replay.specs.Replayed.{TookPart}
 use Rattle.schedule_replay.specs.Replaying.{Course, IsNext, OpenedAhead, StandsAt, StandsBy}
-use Rattle.schedule_replay.specs.Resting.{GoesOn}
+use Rattle.round_play.specs.Resting.{GoesOn}
 use Rattle.schedule_replay.specs.Running.{After, IsCut}
 use Rattle.schedule_replay.specs.SoFar.{SoFar}
 use Rattle.schedule_replay.specs.Standing.{HasSaid, HoldsAt, IsNextRound, IsNoRound, LineAt, MayOpen, MayRun, Readies, StandsThere, round_step}
-use Rattle.schedule_replay.specs.Steps.{step_of, steps_for}
+use Rattle.schedule_steps.specs.Steps.{step_of, steps_for}
 use Rattle.schedule_replay.specs.Telling.{Telling}
 use Rattle.schedule_replay.specs.Told.{TellsFront, TellsRun}
-use Rattle.schedule_replay.specs.Stops.{stop_set}
+use Rattle.schedule_steps.specs.Stops.{stop_set}
 use Rattle.schedule_replay.specs.Turns.{BreaksRun, CutsRun, EndsRun, Moves, TurnsTo}
 use Rattle.schedule_replay.proofs.Ahead.{is_opened}
 use Rattle.schedule_replay.proofs.Looping.{IsReady, begun_too, few_rounds, has_run_room, may_take_next, ready, round_broken, round_cut, round_more, so_far_more, step_cut, steps_more, steps_parts, steps_split}

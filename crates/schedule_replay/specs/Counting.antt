@@ -1,7 +1,7 @@
 -- What is counted of the items of a run.
 use Rattle.std.specs.Prelude.{◌≡◌, ℕ, ◌+◌, ◌-◌, ◌^◌, min, List, [], ◌∷◌, ◌++◌, length}
 use Rattle.std.proofs.Common.{refl, sym, ap, ◌∙◌, append_assoc}
-use Rattle.weather_book.specs.Days.{days_of}
+use Rattle.packed_rows.specs.Days.{days_of}
 use Rattle.station_replay.specs.Round.{Ending}
 use Rattle.station_replay.specs.Replay.{Item}
 use Rattle.schedule_replay.specs.declared.counts.Counts.{Counts}

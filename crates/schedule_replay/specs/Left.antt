@@ -5,8 +5,8 @@ use Rattle.station_session.specs.RoundAt.{left}
 use Rattle.station_session.specs.declared.session.Session.{Session}
 use Rattle.schedule_file.specs.declared.schedule.step.Step as code_step
 use Rattle.station_replay.specs.Room.{lines}
-use Rattle.schedule_replay.specs.declared.playing.Playing.{Playing}
-use Rattle.schedule_replay.specs.Steps.{steps_for}
+use Rattle.round_play.specs.declared.playing.Playing.{Playing}
+use Rattle.schedule_steps.specs.Steps.{steps_for}
 
 -- so many turns are left at most behind the steps before: one for each step, and 2 ^ 33 for each that opens the
 -- archive or makes a round

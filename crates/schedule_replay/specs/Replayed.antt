@@ -16,10 +16,10 @@ use Rattle.station_replay.specs.Kept.{Kept}
 use Rattle.station_replay.specs.Schedule.{Step, records}
 use Rattle.station_replay.specs.Replay.{IsBegun, IsReplay, IsReplayBy, Item, Runs, Stage, closing, opened, start}
 use Rattle.station_replay.specs.Texts.{text}
-use Rattle.schedule_replay.specs.Opening.{limits_of}
-use Rattle.schedule_replay.specs.Resting.{AtRest, IsRoomFor}
+use Rattle.round_play.specs.Opening.{limits_of}
+use Rattle.round_play.specs.Resting.{AtRest, IsRoomFor}
 use Rattle.schedule_replay.specs.Standing.{said_in}
-use Rattle.schedule_replay.specs.Steps.{steps_for}
+use Rattle.schedule_steps.specs.Steps.{steps_for}
 
 -- the steps of a schedule, as those of a run
 abbrev pub steps_in : Schedule → List Step

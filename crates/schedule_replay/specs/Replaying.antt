@@ -11,19 +11,19 @@ use Rattle.station_sim.specs.declared.sim.Sim.{Sim}
 use Rattle.station_replay.specs.Room.{lines}
 use Rattle.station_replay.specs.Schedule.{Step, records}
 use Rattle.station_replay.specs.Replay.{Item, OpensNext, Runs, Stage, first, opened, start}
-use Rattle.schedule_replay.specs.declared.playing.Playing.{Playing}
+use Rattle.round_play.specs.declared.playing.Playing.{Playing}
 use Rattle.schedule_replay.specs.declared.run.Run.{Run}
 use Rattle.schedule_replay.specs.declared.turns.ReplayRun.{ReplayRun}
-use Rattle.schedule_replay.specs.Accepted.{AreAccepted}
+use Rattle.schedule_steps.specs.Accepted.{AreAccepted}
 use Rattle.schedule_replay.specs.Left.{left_by}
-use Rattle.schedule_replay.specs.Opening.{limits_of}
-use Rattle.schedule_replay.specs.Played.{Host}
-use Rattle.schedule_replay.specs.Playing.{IsUnderWay, MayGoOn}
-use Rattle.schedule_replay.specs.Resting.{IsRoomFor}
+use Rattle.round_play.specs.Opening.{limits_of}
+use Rattle.round_play.specs.Played.{Host}
+use Rattle.round_play.specs.Playing.{IsUnderWay, MayGoOn}
+use Rattle.round_play.specs.Resting.{IsRoomFor}
 use Rattle.schedule_replay.specs.SoFar.{SoFar}
 use Rattle.schedule_replay.specs.Standing.{HasSaid, HoldsAt, LineAt, WasBegun, round_step}
-use Rattle.schedule_replay.specs.Steps.{step_of, steps_for}
-use Rattle.schedule_replay.specs.Stops.{stop_set}
+use Rattle.schedule_steps.specs.Steps.{step_of, steps_for}
+use Rattle.schedule_steps.specs.Stops.{stop_set}
 use Rattle.schedule_replay.specs.Telling.{Telling}
 
 -- What a run is made of: what its console holds and sends, the steps, and its line and its disk as they were made.

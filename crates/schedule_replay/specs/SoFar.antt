@@ -8,7 +8,7 @@ use Rattle.station_replay.specs.Schedule.{Step}
 use Rattle.station_replay.specs.Replay.{Item, Runs, Stage}
 use Rattle.station_replay.specs.Room.{lines}
 use Rattle.schedule_replay.specs.declared.run.Run.{Run}
-use Rattle.schedule_replay.specs.Opening.{limits_of}
+use Rattle.round_play.specs.Opening.{limits_of}
 use Rattle.schedule_replay.specs.Standing.{HasSaid, HoldsAt, LineAt}
 
 -- These steps were taken from a stage, and gave these items: the run, its line and its disk stand where they lead, and

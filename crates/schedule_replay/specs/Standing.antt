@@ -22,10 +22,10 @@ use Rattle.station_replay.specs.Keeping.{Archive}
 use Rattle.station_replay.specs.Stopped.{IsStop}
 use Rattle.station_replay.specs.Round.{tried_of}
 use Rattle.schedule_replay.specs.declared.run.Run.{Run}
-use Rattle.schedule_replay.specs.Opening.{CanOpen, limits_of}
-use Rattle.schedule_replay.specs.Played.{Host, IsCounted, MayPlay}
-use Rattle.schedule_replay.specs.Resting.{AtRest, GoesOn, IsRoomFor}
-use Rattle.schedule_replay.specs.Stops.{stop_set}
+use Rattle.round_play.specs.Opening.{CanOpen, limits_of}
+use Rattle.round_play.specs.Played.{Host, IsCounted, MayPlay}
+use Rattle.round_play.specs.Resting.{AtRest, GoesOn, IsRoomFor}
+use Rattle.schedule_steps.specs.Stops.{stop_set}
 use Rattle.schedule_replay.specs.Telling.{Telling}
 
 -- by whether the run is open: its session goes on, or it has none

@@ -8,13 +8,13 @@ use Rattle.station_sim.specs.declared.sim.Sim.{Sim}
 use Rattle.station_replay.specs.Kept.{Kept}
 use Rattle.station_replay.specs.Schedule.{Step, records}
 use Rattle.station_replay.specs.Replay.{IsBegun, IsReplay, IsUnseen, Item, Stage, start}
-use Rattle.schedule_replay.specs.declared.playing.Playing.{Playing}
+use Rattle.round_play.specs.declared.playing.Playing.{Playing}
 use Rattle.schedule_replay.specs.declared.turns.ReplayRun.{ReplayRun}
 use Rattle.schedule_replay.specs.declared.turns.ReplayTurn.{ReplayTurn}
 use Rattle.schedule_replay.specs.declared.turns.ReplayTurn.TheVariants as turn
 use Rattle.schedule_replay.specs.Replayed.{TookPart}
 use Rattle.schedule_replay.specs.Replaying.{Course, StandsWith}
-use Rattle.schedule_replay.specs.Steps.{steps_for}
+use Rattle.schedule_steps.specs.Steps.{steps_for}
 use Rattle.schedule_replay.specs.Telling.{Telling}
 
 -- The run came to its end: behind the items before, those given are the closing of the run. They are told, all is kept,

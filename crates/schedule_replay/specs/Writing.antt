@@ -15,7 +15,7 @@ use Rattle.station_session.specs.declared.session.Session.{Session}
 use Rattle.station_replay.specs.Keeping.{Archive}
 use Rattle.schedule_replay.specs.declared.cut.Cut.{Cut}
 use Rattle.schedule_replay.specs.declared.cut.Cut.TheVariants.{WriteFault, OutOfMemory}
-use Rattle.schedule_replay.specs.Resting.{AtRest, GoesOn}
+use Rattle.round_play.specs.Resting.{AtRest, GoesOn}
 
 -- The text was written: to the bytes of the sink, where it tells them, and by its calls.
 pub record IsWritten {K : Type 0} (outlet : Outlet K) (old new : K) (text : List ℕ) : Type 0 where

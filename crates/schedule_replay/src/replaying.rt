@@ -3,10 +3,10 @@ ghost use Rattle.causes.specs.Cause.{Cause};
 ghost use Rattle.loop_packet.specs.declared.packet.LoopPacket.{LoopPacket};
 ghost use Rattle.station_replay.specs.Replay.{start};
 ghost use Rattle.station_replay.specs.Schedule.{records};
-ghost use Rattle.schedule_replay.specs.Accepted.{AreAccepted, IsAccepted};
+ghost use Rattle.schedule_steps.specs.Accepted.{AreAccepted, IsAccepted};
 ghost use Rattle.schedule_replay.specs.Replayed.{IsCutOff, IsNewDisk, IsReplayed, TookPart, steps_in};
 ghost use Rattle.schedule_replay.specs.Standing.{LineAt};
-ghost use Rattle.schedule_replay.specs.Steps.{steps_for};
+ghost use Rattle.schedule_steps.specs.Steps.{steps_for};
 ghost use Rattle.schedule_replay.specs.Told.{TellsFront, TellsRun};
 
 use crate::teller::Teller;

@@ -3,7 +3,7 @@ ghost use Rattle.causes.specs.Cause.{Cause};
 ghost use Rattle.station_base.specs.declared.row.Row.{Row};
 ghost use Rattle.settings_file.specs.StationSettings.{StationSettings};
 ghost use Rattle.station_replay.specs.Replay.{Item, Rounded, is_stop};
-ghost use Rattle.schedule_replay.specs.Resting.{GoesOn};
+ghost use Rattle.round_play.specs.Resting.{GoesOn};
 ghost use Rattle.schedule_replay.specs.RoundLine.{Tells, ending_of};
 ghost use Rattle.schedule_replay.specs.Telling.{Telling, TellsAll};
 ghost use Rattle.schedule_replay.specs.Writing.{IsOnlyRead, IsReadable};

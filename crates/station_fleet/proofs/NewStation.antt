@@ -5,9 +5,9 @@ use Rattle.disk_model.specs.declared.mem_disk.MemDisk.{MemDisk}
 use Rattle.disk_model.specs.declared.stopping.Stopping.{Stopping}
 use Rattle.schedule_file.specs.declared.schedule.Schedule.{Schedule}
 use Rattle.station_replay.specs.Schedule.{records}
-use Rattle.schedule_replay.specs.Accepted.{AreAccepted, IsAccepted}
+use Rattle.schedule_steps.specs.Accepted.{AreAccepted, IsAccepted}
 use Rattle.schedule_replay.specs.Replayed.{IsNewDisk}
-use Rattle.schedule_replay.specs.Steps.{steps_for}
+use Rattle.schedule_steps.specs.Steps.{steps_for}
 
 -- the steps of a schedule that is accepted, for its period
 pub accepted_steps : (schedule : Schedule) (period : ℕ) → schedule.period ≡ period → IsAccepted schedule

@@ -17,7 +17,7 @@ use Rattle.schedule_replay.specs.declared.turns.ReplayRun.{ReplayRun}
 use Rattle.schedule_replay.specs.declared.turns.ReplayTurn.{ReplayTurn}
 use Rattle.schedule_replay.specs.declared.turns.ReplayTurn.TheVariants as replay
 use Rattle.schedule_replay.specs.Replaying.{Course, Replaying, MayTurn, left_of, TakesTurn as TakesRunTurn}
-use Rattle.schedule_replay.specs.Steps.{steps_for}
+use Rattle.schedule_steps.specs.Steps.{steps_for}
 use Rattle.schedule_replay.specs.TextTelling.{text_telling}
 use Rattle.schedule_replay.specs.Turns.{BreaksRun, CutsRun, EndsRun}
 use Rattle.station_fleet.specs.declared.station.Station.{Station}

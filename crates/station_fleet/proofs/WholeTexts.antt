@@ -14,7 +14,7 @@ use Rattle.fleet.specs.Lines.{AreLines, pen_after}
 use Rattle.fleet.specs.PenLaws.{pen_append}
 use Rattle.daily_summary.specs.declared.field_sum.FieldSum.{FieldSum}
 use Rattle.daily_summary.specs.Summary.{rows_of_day, summary_of}
-use Rattle.weather_book.specs.Days.{days_of}
+use Rattle.packed_rows.specs.Days.{days_of}
 use Rattle.weather_reports.specs.Line.{line_of, lines_from, sum_line, sum_text}
 use Rattle.weather_reports.specs.Report.{all_day_lines, day_lines, later_lines}
 use Rattle.station_session.specs.Attempts.{page_count, skip_count}

@@ -11,7 +11,7 @@ use Rattle.station_replay.specs.Replay.{IsBegun, IsReplay, IsUnseen, Item, Stage
 use Rattle.station_replay.specs.Texts.{text}
 use Rattle.schedule_replay.specs.Replayed.{TookPart}
 use Rattle.schedule_replay.specs.Replaying.{Course, Replaying}
-use Rattle.schedule_replay.specs.Steps.{steps_for}
+use Rattle.schedule_steps.specs.Steps.{steps_for}
 use Rattle.station_fleet.specs.declared.station.Station.{Station}
 
 -- the stage at which a course starts

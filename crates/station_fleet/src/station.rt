@@ -1,6 +1,6 @@
 ghost use Rattle.std.specs.Prelude.{◌≡◌, ◌<◌, ◌^◌, ℕ, [], List, length};
 ghost use Rattle.loop_packet.specs.declared.packet.LoopPacket.{LoopPacket};
-ghost use Rattle.schedule_replay.specs.Accepted.{IsAccepted};
+ghost use Rattle.schedule_steps.specs.Accepted.{IsAccepted};
 ghost use Rattle.schedule_replay.specs.Replayed.{IsNewDisk};
 ghost use Rattle.schedule_replay.specs.Standing.{LineAt};
 ghost use Rattle.station_replay.specs.Replay.{start};

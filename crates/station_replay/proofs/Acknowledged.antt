@@ -7,7 +7,7 @@ use Rattle.vantage_frames.specs.StampFrame.{stamp_frame_of}
 use Rattle.serial_link.specs.declared.talk.TalkItem.{TalkItem}
 use Rattle.serial_link.specs.declared.talk.TalkItem.TheVariants.{Said}
 use Rattle.settings_file.specs.StationSettings.{StationSettings}
-use Rattle.weather_book.specs.Rising.{last_stamp}
+use Rattle.packed_rows.specs.Rising.{last_stamp}
 use Rattle.dmpaft_driver.specs.Attempt.{Attempt, End}
 use Rattle.dmpaft_pump.specs.Batch.{slots, rising, newest, add, batches, records_in, EndsGiving}
 use Rattle.dmpaft_driver.specs.Gathered.{steps_of, RefusesLast}

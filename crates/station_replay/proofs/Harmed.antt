@@ -21,7 +21,7 @@ use Rattle.station_session.proofs.Ends.{last_in, went_on}
 use Rattle.station_session.proofs.Parts.{fit_parts}
 use Rattle.station_session.specs.declared.report.Report.{Report}
 use Rattle.station_session.specs.Round.{RoundHost, Serves, AnswersRound}
-use Rattle.weather_book.specs.Rising.{last_stamp}
+use Rattle.packed_rows.specs.Rising.{last_stamp}
 use Rattle.station_base.specs.declared.row.Row.{Row}
 use Rattle.disk_model.specs.Medium.{Medium}
 use Rattle.station_sim.specs.declared.sim.Sim.{Sim}
@@ -37,11 +37,11 @@ use Rattle.station_sim.specs.Sound.{IsSound, AreSound}
 use Rattle.station_sim.specs.Talk.{console_talk}
 use Rattle.station_sim.proofs.Sounding.{sound_talk}
 use Rattle.station_replay.specs.Harm.{DiskFailed, LinkShort, EndsUnharmed, IsSpared, EachOver, EachHarmed, HarmTells}
-use Rattle.station_replay.proofs.Attempts.{attempt_law}
-use Rattle.station_replay.proofs.Clean.{goes_harmed}
-use Rattle.station_replay.proofs.Completing.{clean_law}
-use Rattle.station_replay.proofs.Headers.{frame_good}
-use Rattle.station_replay.proofs.Pages.{goes_unseen}
+use Rattle.line_laws.proofs.Attempts.{attempt_law}
+use Rattle.line_laws.proofs.Clean.{goes_harmed}
+use Rattle.line_laws.proofs.Completing.{clean_law}
+use Rattle.line_laws.proofs.Headers.{frame_good}
+use Rattle.line_laws.proofs.Pages.{goes_unseen}
 use Rattle.station_replay.proofs.Rounds.{IsPlain, end_of, plain_ended}
 
 -- no batch that was judged is refused as stale

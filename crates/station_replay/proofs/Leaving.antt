@@ -7,10 +7,10 @@ use Rattle.causes.specs.declared.stored.Stored.TheVariants as kept
 use Rattle.dmpaft_pump.specs.Batch.{batches}
 use Rattle.dmpaft_driver.specs.Gathered as outcome
 use Rattle.dmpaft_pump.specs.Keeper.{Handed, join}
-use Rattle.weather_book.specs.Closing.{closings, begins_day}
-use Rattle.weather_book.specs.Rising.{last_stamp}
-use Rattle.weather_book.specs.Rows.{slot_total}
-use Rattle.weather_book.proofs.RowLaws.{total_push}
+use Rattle.packed_rows.specs.Closing.{closings, begins_day}
+use Rattle.packed_rows.specs.Rising.{last_stamp}
+use Rattle.packed_rows.specs.Rows.{slot_total}
+use Rattle.packed_rows.proofs.RowLaws.{total_push}
 use Rattle.station_session.specs.Attempts.{Tried, all_batches, batches_in, stamp_after}
 use Rattle.station_session.specs.Batches.{all_records, kept_records, last_answer}
 use Rattle.station_session.specs.Holding.{rows_with}

@@ -30,12 +30,12 @@ use Rattle.station_sim.specs.Calm.{IsCalm, IsBrief, pending}
 use Rattle.station_sim.specs.Line.{due_all}
 use Rattle.station_sim.specs.Sound.{AreRecords, IsSound}
 use Rattle.station_sim.proofs.Sounding.{well_due_all, is_well, is_sound}
-use Rattle.station_replay.specs.Gathers.{newer_held}
+use Rattle.line_laws.specs.Gathers.{newer_held}
 use Rattle.station_replay.specs.Minutes.{zeros, time_word, minute_record, minute_records, new_line, filled_line}
 use Rattle.station_replay.specs.Schedule.{Step, IsSchedule}
-use Rattle.station_replay.proofs.Asked.{at_state}
-use Rattle.station_replay.proofs.Batches.{frame_words}
-use Rattle.station_replay.proofs.Levels.{newest_more}
+use Rattle.line_laws.proofs.Asked.{at_state}
+use Rattle.line_laws.proofs.Batches.{frame_words}
+use Rattle.line_laws.proofs.Levels.{newest_more}
 
 -- the minute of the calendar
 at_minute : ℕ → CivilMinute

@@ -11,15 +11,15 @@ use Rattle.station_base.specs.declared.row.Row.{Row}
 use Rattle.settings_file.specs.StationSettings.{StationSettings}
 use Rattle.dmpaft_pump.specs.Keeper.{Refusal, Handed}
 use Rattle.causes.specs.declared.stored.Stored.TheVariants as kept
-use Rattle.weather_book.specs.Rows.{slot_total}
-use Rattle.weather_book.specs.Rising.{last_stamp}
+use Rattle.packed_rows.specs.Rows.{slot_total}
+use Rattle.packed_rows.specs.Rising.{last_stamp}
 use Rattle.station_session.specs.Batches.{kept_count, kept_records, last_answer, changes_for, slots_more}
 use Rattle.station_session.specs.Records.{stored_rows}
 use Rattle.station_session.specs.Attempts.{Tried, all_batches}
 use Rattle.station_replay.specs.Session.{NotPast}
 use Rattle.station_replay.specs.Schedule.{Stop}
 use Rattle.station_replay.specs.Stopped.{armed_by, IsStop}
-use Rattle.station_replay.proofs.Stopping.{not_one, one_of, wrote_done, synced_done, written, after_sync}
+use Rattle.gated_log.proofs.StoppedCalls.{not_one, one_of, wrote_done, synced_done, written, after_sync}
 use Rattle.station_replay.proofs.Stops.{stops_part, not_past, total_grows}
 use Rattle.station_session.proofs.Stamps.{stored_append}
 

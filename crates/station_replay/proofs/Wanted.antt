@@ -15,7 +15,7 @@ use Rattle.dmpaft_pump.specs.declared.outcome.DumpEnd.{DumpEnd}
 use Rattle.dmpaft_pump.specs.declared.outcome.DumpEnd.TheVariants as dump_end
 use Rattle.dmpaft_pump.proofs.Keeping.{join_none, one_size, count_join}
 use Rattle.dmpaft_driver.proofs.Bounding.{frame_long}
-use Rattle.weather_book.specs.Rising.{last_stamp}
+use Rattle.packed_rows.specs.Rising.{last_stamp}
 use Rattle.station_session.specs.declared.round_end.RoundEnd.{RoundEnd}
 use Rattle.station_session.specs.declared.round_end.RoundEnd.TheVariants as round_end
 use Rattle.station_session.specs.Attempts.{Tried, Attempts, IsTried, all_said, all_batches, batches_in, end_after, stamp_after}
@@ -30,15 +30,15 @@ use Rattle.station_sim.specs.Line.{Line}
 use Rattle.station_sim.specs.Talk.{console_talk, ConsoleTalk}
 use Rattle.station_sim.specs.Calm.{IsCalm}
 use Rattle.station_sim.specs.Sound.{AreRecords, IsSound, AreSound}
-use Rattle.station_replay.specs.Records.{Now}
+use Rattle.line_laws.specs.Records.{Now}
 use Rattle.station_replay.specs.Keeping.{Archive}
 use Rattle.station_replay.specs.Pairs.{Pair, Gathered, pairs_of}
 use Rattle.station_replay.specs.Room.{AreFew}
 use Rattle.station_replay.specs.Round.{Attempted, IsAttempted}
-use Rattle.station_replay.proofs.Attempts.{attempt_dry}
+use Rattle.line_laws.proofs.Attempts.{attempt_dry}
 use Rattle.station_replay.proofs.Bridge.{attempted_by, went, said_one}
 use Rattle.station_replay.proofs.Counting.{few_of, stamp_of}
-use Rattle.station_replay.proofs.Pages.{goes_unseen}
+use Rattle.line_laws.proofs.Pages.{goes_unseen}
 use Rattle.station_replay.proofs.Giving.{keeps_part}
 use Rattle.station_replay.proofs.Room.{AllSome, batches_some}
 use Rattle.station_replay.proofs.Rounds.{IsPlain, plain_ended, one_law, gathered_join, batches_of, rows_length}

@@ -35,18 +35,18 @@ use Rattle.schedule_file.specs.Lists.{no_fates}
 use Rattle.station_sim.specs.Sound.{AreRecords}
 use Rattle.station_sim.specs.Talk.{console_talk, ConsoleTalk, hearing, and_then, fresh_line}
 use Rattle.station_sim.specs.declared.unseen.Unseen.{Unseen}
-use Rattle.station_replay.specs.Gathers.{newer_held, begun_after, Gives}
+use Rattle.line_laws.specs.Gathers.{newer_held, begun_after, Gives}
 use Rattle.station_replay.specs.Minutes.{minute_records, filled_line}
 use Rattle.station_replay.specs.WholeAttempt.{WholeAttempt}
-use Rattle.station_replay.proofs.Asked.{at_state}
-use Rattle.station_replay.proofs.Batches.{attempt_gives}
-use Rattle.station_replay.proofs.Completing.{page_for, page_has}
-use Rattle.station_replay.proofs.Delivery.{page_length}
+use Rattle.line_laws.proofs.Asked.{at_state}
+use Rattle.line_laws.proofs.Batches.{attempt_gives}
+use Rattle.line_laws.proofs.Completing.{page_for, page_has}
+use Rattle.line_laws.proofs.Delivery.{page_length}
 use Rattle.station_replay.proofs.Example.{six, wake, sound_fates}
-use Rattle.station_replay.proofs.Heading.{heading, good_frame, whole_frame, frame_goes}
-use Rattle.station_replay.proofs.Headers.{frame_good, header_length, header_made, page_is_good, plan_small}
+use Rattle.line_laws.proofs.Heading.{heading, good_frame, whole_frame, frame_goes}
+use Rattle.line_laws.proofs.Headers.{frame_good, header_length, header_made, page_is_good, plan_small}
 use Rattle.station_replay.proofs.Minutes.{filled_console, filled_calm, filled_sound, are_records, minutes_kept}
-use Rattle.station_replay.proofs.Unharmed.{next_page}
+use Rattle.line_laws.proofs.Unharmed.{next_page}
 
 same_byte : (b : ℕ) → (b == b) ≡ true
 same_byte b = grind (arith, nat_tests)

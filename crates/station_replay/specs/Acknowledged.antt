@@ -7,7 +7,7 @@ use Rattle.station_base.specs.declared.row.Row.{Row}
 use Rattle.vantage_frames.specs.StampFrame.{stamp_frame_of}
 use Rattle.serial_link.specs.declared.talk.TalkItem.{TalkItem}
 use Rattle.settings_file.specs.StationSettings.{StationSettings}
-use Rattle.weather_book.specs.Rising.{last_stamp}
+use Rattle.packed_rows.specs.Rising.{last_stamp}
 use Rattle.dmpaft_pump.specs.Batch.{batches, records_in}
 use Rattle.dmpaft_driver.specs.OneAttempt.{Acknowledges}
 use Rattle.station_session.specs.Attempts.{Tried, kept_batches}

@@ -11,7 +11,7 @@ ghost use Rattle.station_sim.specs.Calm.{IsCalm};
 ghost use Rattle.schedule_file.specs.Lists.{no_fates};
 ghost use Rattle.station_sim.specs.Sound.{AreRecords, IsSound, AreSound};
 ghost use Rattle.station_sim.specs.Talk.{fresh_line};
-ghost use Rattle.station_replay.specs.Gathers.{newer_held};
+ghost use Rattle.line_laws.specs.Gathers.{newer_held};
 ghost use Rattle.station_replay.specs.Minutes.{minute_records, new_line, filled_line};
 ghost use Rattle.station_replay.specs.Schedule.{Step, IsSchedule};
 ghost use Rattle.station_replay.specs.WholeAttempt.{WholeAttempt};

@@ -8,12 +8,12 @@ use Rattle.gated_log.specs.Calls.{up_to, four_changes}
 use Rattle.station_base.specs.declared.row.Row.{Row}
 use Rattle.settings_file.specs.StationSettings.{StationSettings}
 use Rattle.weather_book.specs.declared.book.Book.{Book}
-use Rattle.weather_book.specs.Adding.{OnUndone, rows_after}
+use Rattle.packed_rows.specs.Adding.{OnUndone, rows_after}
 use Rattle.causes.specs.Stored.{stale_after}
 use Rattle.disk_model.specs.Stored.{disk_answer}
 use Rattle.weather_book.specs.Book.{StandsFor, len_of, last_of, most_of, is_stale}
-use Rattle.weather_book.specs.Rising as book
-use Rattle.weather_book.specs.Rows.{slot_total}
+use Rattle.packed_rows.specs.Rising as book
+use Rattle.packed_rows.specs.Rows.{slot_total}
 use Rattle.gated_log.specs.Appending.{ByGate, Moved, OnAppended, OnRefused}
 use Rattle.weather_book.specs.Stands.{HasRows, NowHasRows, RowsOldOrAll, StandsOn, StandsToReadOn}
 use Rattle.causes.specs.declared.stored.Stored.{Stored}

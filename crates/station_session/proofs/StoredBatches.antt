@@ -4,7 +4,7 @@ use Rattle.disk_model.specs.Medium.{Medium}
 use Rattle.station_base.specs.declared.row.Row.{Row}
 use Rattle.settings_file.specs.StationSettings.{StationSettings}
 use Rattle.weather_book.specs.Book.{StandsFor, len_of, most_of, is_stale}
-use Rattle.weather_book.specs.Rows.{slot_total}
+use Rattle.packed_rows.specs.Rows.{slot_total}
 use Rattle.weather_book.specs.Stands.{HasRows, StandsOn, StandsToReadOn}
 use Rattle.causes.specs.declared.stored.Stored.{Stored}
 use Rattle.causes.specs.declared.stored.Stored.TheVariants.{Done, Full, Stale, DiskFault}

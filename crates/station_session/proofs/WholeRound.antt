@@ -10,7 +10,7 @@ use Rattle.station_base.specs.declared.row.Row.{Row}
 use Rattle.settings_file.specs.StationSettings.{StationSettings}
 use Rattle.weather_book.specs.declared.book.Book.{Book}
 use Rattle.weather_book.specs.Book.{StandsFor, IsSameBook, len_of, last_of, most_of, is_stale}
-use Rattle.weather_book.specs.Rising.{last_stamp}
+use Rattle.packed_rows.specs.Rising.{last_stamp}
 use Rattle.weather_book.specs.Stands.{StandsOn}
 use Rattle.causes.specs.declared.stored.Stored.{Stored}
 use Rattle.causes.specs.declared.stored.Stored.TheVariants.{Done}

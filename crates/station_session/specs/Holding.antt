@@ -7,7 +7,7 @@ use Rattle.settings_file.specs.StationSettings.{StationSettings}
 use Rattle.weather_book.specs.declared.book.Book.{Book}
 use Rattle.weather_book.specs.Book.{StandsFor, most_of}
 use Rattle.gated_log.specs.Appending.{ByGate}
-use Rattle.weather_book.specs.Rows.{slot_total}
+use Rattle.packed_rows.specs.Rows.{slot_total}
 use Rattle.weather_book.specs.Stands.{HasRows, StandsOn, StandsToReadOn}
 use Rattle.causes.specs.declared.stored.Stored.TheVariants as stored
 use Rattle.dmpaft_pump.specs.Keeper.{Handed}

@@ -1,7 +1,7 @@
 ghost use Rattle.std.specs.Prelude.{All, IfOk};
 ghost use Rattle.station_base.specs.FieldSet.{AreMissing};
 ghost use Rattle.station_base.specs.RowLine.{IsPrintable};
-ghost use Rattle.weather_book.specs.Adding.{ArePrintable, AreLimited};
+ghost use Rattle.packed_rows.specs.Adding.{ArePrintable, AreLimited};
 
 use station_base::{Period, Row, Stamp};
 use std::alloc::Global;

@@ -1,7 +1,7 @@
 //! What the tests of an archive test before they add rows to it.
 
 ghost use Rattle.std.specs.Prelude.{◌≡◌, IsTrue};
-ghost use Rattle.weather_book.specs.Rising.{RowsRise, rise};
+ghost use Rattle.packed_rows.specs.Rising.{RowsRise, rise};
 
 use station_base::{Row, Stamp};
 

@@ -10,11 +10,11 @@ use Rattle.std.proofs.lemmas.Bool.{and_parts}
 use Rattle.station_base.specs.declared.row.Row.{Row}
 use Rattle.row_slot.specs.Slot.{row_in}
 use Rattle.gated_log.specs.Log.{unmarked}
-use Rattle.weather_book.specs.Closing.{closing_slot, closings, begins_day}
-use Rattle.weather_book.specs.Rising.{last_stamp}
-use Rattle.weather_book.specs.Rows.{may_follow, is_closing, is_right, rows_with, shown_with, slot_total, rows_from, holds}
+use Rattle.packed_rows.specs.Closing.{closing_slot, closings, begins_day}
+use Rattle.packed_rows.specs.Rising.{last_stamp}
+use Rattle.packed_rows.specs.Rows.{may_follow, is_closing, is_right, rows_with, shown_with, slot_total, rows_from, holds}
 use Rattle.weather_book.proofs.Places.{found, with_found, splits, rows_found, right_front, found_join, last_get}
-use Rattle.weather_book.proofs.RowLaws.{AreRight, rows_to, shown_to, from_holds, count_right, follow_shown}
+use Rattle.packed_rows.proofs.RowLaws.{AreRight, rows_to, shown_to, from_holds, count_right, follow_shown}
 
 -- right slots without a row are the next that close the day of the rows before
 record NoRow (rows : List Row) (shown : ℕ) (xs : List (List ℕ)) (after : List Row) (t : ℕ) : Type 0 where

@@ -13,20 +13,20 @@ use Rattle.station_base.specs.CivilMinute.{CivilMinute, archive_day_of}
 use Rattle.daily_summary.specs.Measured.{IsMeasured}
 use Rattle.daily_summary.specs.Summary.{is_of_day, rows_of_day, summary_of}
 use Rattle.daily_summary.proofs.Typed.{bounds_of, typed_of}
-use Rattle.weather_book.specs.Closed.{IsClosedAt}
-use Rattle.weather_book.specs.Closing.{begins_day, closings, day_of_stamp, last_day, closing_slot, summary_slot}
-use Rattle.weather_book.specs.Days.{day_of_row, is_before, is_up_to}
+use Rattle.packed_rows.specs.Closed.{IsClosedAt}
+use Rattle.packed_rows.specs.Closing.{begins_day, closings, day_of_stamp, last_day, closing_slot, summary_slot}
+use Rattle.packed_rows.specs.Days.{day_of_row, is_before, is_up_to}
 use Rattle.weather_book.specs.Kept.{KeepsOf}
-use Rattle.weather_book.specs.Packed.{AreReadBack}
-use Rattle.weather_book.specs.Rising.{exceeds, rise, last_after, last_stamp}
-use Rattle.weather_book.specs.Rows.{rows_from, holds, slot_total}
+use Rattle.packed_rows.specs.Packed.{AreReadBack}
+use Rattle.packed_rows.specs.Rising.{exceeds, rise, last_after, last_stamp}
+use Rattle.packed_rows.specs.Rows.{rows_from, holds, slot_total}
 use Rattle.weather_book.specs.declared.kept.DayEntry.{DayEntry}
-use Rattle.weather_book.specs.declared.tail.Tail.{Tail}
+use Rattle.packed_rows.specs.declared.tail.Tail.{Tail}
 use Rattle.weather_book.proofs.ClosedDays.{closing_at}
-use Rattle.weather_book.proofs.DayRows.{splits, day_count, last_day_is, few_of}
+use Rattle.packed_rows.proofs.DayRows.{splits, day_count, last_day_is, few_of}
 use Rattle.weather_book.proofs.Measured.{all_measured}
-use Rattle.weather_book.proofs.RowLaws.{last_join, rise_front, rise_behind, total_push}
-use Rattle.weather_book.proofs.DayLaws.{later_day, still_beyond}
+use Rattle.packed_rows.proofs.RowLaws.{last_join, rise_front, rise_behind, total_push}
+use Rattle.packed_rows.proofs.DayLaws.{later_day, still_beyond}
 
 -- the last row is past a day where an earlier one is
 last_past : (s : CivilMinute) (rows : List Row) (f : ℤ) → rise (Some s) rows ≡ true → int_le (pos (archive_day_of s)) f ≡ false → int_le (day_of_stamp (last_after (Some s) rows)) f ≡ false

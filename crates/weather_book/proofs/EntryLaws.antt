@@ -7,18 +7,18 @@ use Rattle.std.proofs.Math.Seq.{drop-cons}
 use Rattle.std.proofs.lemmas.List.{drop_all, length-take}
 use Rattle.std.proofs.Common.{length-drop}
 use Rattle.std.proofs.lemmas.Bool.{and_parts, and_right}
-use Rattle.weather_book.specs.Rows.{slot_total}
-use Rattle.weather_book.specs.declared.tail.Tail.{Tail}
+use Rattle.packed_rows.specs.Rows.{slot_total}
+use Rattle.packed_rows.specs.declared.tail.Tail.{Tail}
 use Rattle.std.proofs.lemmas.Option.{slice_get-map, slice_get-get_or}
 use Rattle.station_base.specs.declared.row.Row.{Row}
 use Rattle.station_base.specs.declared.day.DayNumber.{DayNumber}
 use Rattle.station_base.specs.DayText.{IsDayNumber}
 use Rattle.station_base.specs.CivilMinute.{CivilMinute, archive_day_of}
 use Rattle.weather_book.specs.declared.kept.DayEntry.{DayEntry}
-use Rattle.weather_book.specs.Days.{day_of_row, is_day, with_day, days_from, days_of, is_before, is_up_to, is_within, is_on, kept_front, days_front, day_front, day_rest}
+use Rattle.packed_rows.specs.Days.{day_of_row, is_day, with_day, days_from, days_of, is_before, is_up_to, is_within, is_on, kept_front, days_front, day_front, day_rest}
 use Rattle.weather_book.specs.Kept.{with_entry, entries_from, entries_of, AreKnown, KeepsOf}
-use Rattle.weather_book.specs.Rising.{exceeds, rise}
-use Rattle.weather_book.proofs.DayLaws.{later_day, still_not, still_beyond, count_yes, count_no}
+use Rattle.packed_rows.specs.Rising.{exceeds, rise}
+use Rattle.packed_rows.proofs.DayLaws.{later_day, still_not, still_beyond, count_yes, count_no}
 
 -- the days of entries are those of the rows
 day_of_entry : DayEntry → ℤ

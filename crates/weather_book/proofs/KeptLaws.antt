@@ -6,16 +6,16 @@ use Rattle.station_base.specs.declared.row.Row.{Row}
 use Rattle.station_base.specs.CivilMinute.{CivilMinute, archive_day_of}
 use Rattle.station_base.specs.DayText.{IsDayNumber}
 use Rattle.weather_book.specs.declared.kept.DayEntry.{DayEntry}
-use Rattle.weather_book.specs.declared.tail.Tail.{Tail}
-use Rattle.weather_book.specs.Closing.{begins_day}
-use Rattle.weather_book.specs.Days.{day_of_row, is_day, with_day, days_from}
-use Rattle.weather_book.specs.Rows.{slot_total}
+use Rattle.packed_rows.specs.declared.tail.Tail.{Tail}
+use Rattle.packed_rows.specs.Closing.{begins_day}
+use Rattle.packed_rows.specs.Days.{day_of_row, is_day, with_day, days_from}
+use Rattle.packed_rows.specs.Rows.{slot_total}
 use Rattle.weather_book.specs.Kept.{with_entry, days_to, entries_from, entries_of, KeepsOf, AreKnown}
-use Rattle.weather_book.specs.Packed.{IsReadBack}
-use Rattle.weather_book.specs.Rising.{exceeds, last_after, last_stamp}
-use Rattle.weather_book.specs.Tail.{EndsRows}
-use Rattle.weather_book.proofs.TailLaws.{later_day, other_nat}
-use Rattle.weather_book.proofs.RowLaws.{day_after, day_stamp, begins_by, read_back-push}
+use Rattle.packed_rows.specs.Packed.{IsReadBack}
+use Rattle.packed_rows.specs.Rising.{exceeds, last_after, last_stamp}
+use Rattle.packed_rows.specs.Tail.{EndsRows}
+use Rattle.packed_rows.proofs.TailLaws.{later_day, other_nat}
+use Rattle.packed_rows.proofs.RowLaws.{day_after, day_stamp, begins_by, read_back-push}
 
 entry_of : ℕ → Row → DayEntry
 entry_of n row = record { day = record { 0 = day_of_row row }; first = n }

@@ -15,7 +15,7 @@ use Rattle.row_slot.specs.Values.{number_in, is_allowed, values_in}
 use Rattle.row_slot.proofs.Inverse.{parts_of, end_of}
 use Rattle.row_slot.proofs.Slots.{parts-row_in}
 use Rattle.daily_summary.specs.Measured.{IsMeasured}
-use Rattle.weather_book.specs.Packed.{IsReadBack, AreReadBack}
+use Rattle.packed_rows.specs.Packed.{IsReadBack, AreReadBack}
 
 within_bound : (z : ℤ) → nat_le (unsigned_abs z) 2000000 ≡ true → IsPrintable (Some z)
 within_bound z is =

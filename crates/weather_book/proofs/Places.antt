@@ -15,10 +15,10 @@ use Rattle.station_base.specs.CivilMinute.{CivilMinute}
 use Rattle.station_base.specs.RowLine.{blank_row}
 use Rattle.std.specs.Option.{unwrap_or}
 use Rattle.weather_book.specs.ReadBack.{row_back, rows_back, slot_in}
-use Rattle.weather_book.specs.Rows.{rows_with, shown_with, slot_total, rows_from, holds, as_read}
+use Rattle.packed_rows.specs.Rows.{rows_with, shown_with, slot_total, rows_from, holds, as_read}
 use Rattle.weather_book.proofs.Pieces.{slot_of_piece}
-use Rattle.weather_book.proofs.Versions.{row_read}
-use Rattle.weather_book.proofs.RowLaws.{AreRight, rows_to, shown_to, from_holds, count_right, shown_to_join}
+use Rattle.packed_rows.proofs.Versions.{row_read}
+use Rattle.packed_rows.proofs.RowLaws.{AreRight, rows_to, shown_to, from_holds, count_right, shown_to_join}
 
 abbrev pub with_found : Option Row → List Row → List Row
 with_found None rows = rows

@@ -8,11 +8,11 @@ use Rattle.std.proofs.lemmas.Bool.Decides.{nat_tests}
 use Rattle.station_base.specs.declared.row.Row.{Row}
 use Rattle.station_base.specs.CivilMinute.{CivilMinute, archive_day_of}
 use Rattle.weather_book.specs.declared.kept.DayEntry.{DayEntry}
-use Rattle.weather_book.specs.declared.tail.Tail.{Tail}
-use Rattle.weather_book.specs.Days.{day_of_row, is_day, days_of, day_rest}
+use Rattle.packed_rows.specs.declared.tail.Tail.{Tail}
+use Rattle.packed_rows.specs.Days.{day_of_row, is_day, days_of, day_rest}
 use Rattle.weather_book.specs.Kept.{with_entry, entries_from, entries_of, KeepsOf}
-use Rattle.weather_book.specs.Rising.{exceeds, rise}
-use Rattle.weather_book.proofs.DayLaws.{later_day}
+use Rattle.packed_rows.specs.Rising.{exceeds, rise}
+use Rattle.packed_rows.proofs.DayLaws.{later_day}
 use Rattle.weather_book.proofs.EntryLaws.{past, first_past, one_begun, begun, later_first, stop_is, end_is, later_stop, later_end, begun_stop, begun_end}
 
 -- each entry is of no earlier day and no earlier row than the one before, and the first than these

@@ -5,7 +5,7 @@ use Rattle.std.specs.List.{range_with_len}
 use Rattle.std.proofs.Math.Seq.{take-append_seam}
 use Rattle.std.proofs.lemmas.List.{length-drop, drop-drop, drop-take, take-take, length-take}
 use Rattle.daily_summary.proofs.Pieces.{put_behind}
-use Rattle.weather_book.specs.Closed.{IsClosedAt, part_at, parts_at}
+use Rattle.packed_rows.specs.Closed.{IsClosedAt, part_at, parts_at}
 use borrow.Rule.Slice.PartMut.{put_mid}
 use Rattle.daily_summary.specs.declared.summary.DaySummary.{DaySummary}
 use Rattle.daily_summary.specs.Bounds.{IsInBounds}
@@ -14,7 +14,7 @@ use Rattle.daily_summary.specs.WellFormed.{IsStoredAs}
 use Rattle.daily_summary.proofs.PartsLaws.{part_long}
 use Rattle.gated_log.specs.Log.{unmarked}
 use Rattle.gated_log.specs.Stands.{AreSlots, IsSlot}
-use Rattle.weather_book.specs.Closing.{summary_slot}
+use Rattle.packed_rows.specs.Closing.{summary_slot}
 
 -- the part in a slot
 pub part_in : List ℕ → List ℕ

@@ -6,7 +6,7 @@ use Rattle.station_base.specs.RowLine.{blank_row}
 use Rattle.row_slot.specs.Slot.{row_in}
 use Rattle.gated_log.specs.Log.{unmarked}
 use Rattle.gated_log.specs.declared.version.Version.{Version}
-use Rattle.weather_book.specs.Rows.{as_read, slot_total}
+use Rattle.packed_rows.specs.Rows.{as_read, slot_total}
 
 -- the row of a slot as its version reads it, its gate and the number of its batch's slots aside, and the default row of
 -- a slot that is ill-formed

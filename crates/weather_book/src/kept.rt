@@ -3,15 +3,15 @@ ghost use Rattle.station_base.specs.CivilMinute.{archive_day_of};
 ghost use Rattle.station_base.specs.DayText.{IsDayNumber};
 ghost use Rattle.station_base.specs.RowLine.{IsPrintable};
 ghost use Rattle.station_base.specs.declared.row.Row.{Row};
-ghost use Rattle.weather_book.specs.Closing.{begins_day};
-ghost use Rattle.weather_book.specs.Days.{days_of, day_rest, is_before, is_up_to};
+ghost use Rattle.packed_rows.specs.Closing.{begins_day};
+ghost use Rattle.packed_rows.specs.Days.{days_of, day_rest, is_before, is_up_to};
 ghost use Rattle.weather_book.specs.Kept.{KeepsOf};
-ghost use Rattle.weather_book.specs.Packed.{IsReadBack, AreReadBack};
-ghost use Rattle.weather_book.specs.Rising.{exceeds, rise, last_after};
-ghost use Rattle.weather_book.specs.Rows.{slot_total};
+ghost use Rattle.packed_rows.specs.Packed.{IsReadBack, AreReadBack};
+ghost use Rattle.packed_rows.specs.Rising.{exceeds, rise, last_after};
+ghost use Rattle.packed_rows.specs.Rows.{slot_total};
 
-use crate::tail::Tail;
 use causes::OutOfMemory;
+use packed_rows::Tail;
 use station_base::{DayNumber, Row};
 use std::alloc::Global;
 

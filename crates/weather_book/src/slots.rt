@@ -8,21 +8,21 @@ ghost use Rattle.row_slot.specs.Slot.{row_in};
 ghost use Rattle.station_base.specs.FieldSet.{AreMissing};
 ghost use Rattle.station_base.specs.RowLine.{IsPrintable};
 ghost use Rattle.station_base.specs.declared.row.Row.{Row};
-ghost use Rattle.weather_book.specs.Adding.{AreLimited, ArePrintable};
+ghost use Rattle.packed_rows.specs.Adding.{AreLimited, ArePrintable};
 ghost use Rattle.daily_summary.specs.Bounds.{IsInBounds};
 ghost use Rattle.daily_summary.specs.declared.summary.DaySummary.{DaySummary};
-ghost use Rattle.weather_book.specs.Closed.{IsClosedAt, parts_at};
-ghost use Rattle.weather_book.specs.Packed.{AreRowsAt};
+ghost use Rattle.packed_rows.specs.Closed.{IsClosedAt, parts_at};
+ghost use Rattle.packed_rows.specs.Packed.{AreRowsAt};
 ghost use Rattle.weather_book.specs.ReadBack.{row_back, rows_back};
-ghost use Rattle.weather_book.specs.Rows.{as_read};
+ghost use Rattle.packed_rows.specs.Rows.{as_read};
 ghost use Rattle.weather_book.specs.Start.{OnRows, OnSummary, day_failed, has_no_rows, rows_failed};
 
-use crate::tail::{PART, is_known, without_marks};
 use crate::{DayAnswer, RowsAnswer};
 use arrayvec::ArrayVec;
 use daily_summary::{DaySummary, PART_COUNT, PART_SIZE, PARTS_SIZE};
 use disk_model::{Disk, Disked};
 use gated_log::{GatedLog, SLOT_SIZE, Version};
+use packed_rows::{PART, is_known, without_marks};
 use station_base::Row;
 
 // The row of a slot as its version reads it, and none where it is ill-formed.

@@ -7,7 +7,7 @@ use Rattle.std.proofs.lemmas.Bool.{and_from}
 use Rattle.jiff_core.proofs.SignedLemmas.{signed_arith}
 use Rattle.station_base.specs.DayText.{IsDayNumber}
 use Rattle.station_base.specs.declared.day.DayNumber.{DayNumber}
-use Rattle.weather_book.specs.Days.{Ascend}
+use Rattle.packed_rows.specs.Days.{Ascend}
 use Rattle.weather_reports.specs.Report.{is_among}
 
 lt_trans : (a b c : ℤ) → int_lt a b ≡ true → int_lt b c ≡ true → int_lt a c ≡ true

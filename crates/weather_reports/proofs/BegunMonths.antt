@@ -11,7 +11,7 @@ use Rattle.daily_summary.specs.declared.summary.DaySummary.{DaySummary}
 use Rattle.daily_summary.specs.Summary.{rows_of_day, summary_of}
 use Rattle.weather_book.specs.declared.book.Book.{Book}
 use Rattle.weather_book.specs.Book.{StandsFor}
-use Rattle.weather_book.specs.Days.{Ascend, days_of}
+use Rattle.packed_rows.specs.Days.{Ascend, days_of}
 use Rattle.weather_book.proofs.Standing.{some_rows}
 use Rattle.weather_reports.specs.declared.month.Month.{Month}
 use Rattle.weather_reports.specs.Begun.{Grows, IsBegun, IsInOrder, HasFewRows, begun_lines, months_after}

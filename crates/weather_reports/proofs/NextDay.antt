@@ -9,7 +9,7 @@ use Rattle.station_base.specs.DayText.{day_text}
 use Rattle.station_base.specs.declared.row.Row.{Row}
 use Rattle.daily_summary.specs.declared.summary.DaySummary.{DaySummary}
 use Rattle.daily_summary.specs.Summary.{rows_of_day, summary_of}
-use Rattle.weather_book.specs.Days.{days_of}
+use Rattle.packed_rows.specs.Days.{days_of}
 use Rattle.weather_reports.specs.Line.{lines_of}
 use Rattle.weather_reports.specs.Report.{day_lines}
 use Rattle.weather_reports.specs.Reported.{text_of}

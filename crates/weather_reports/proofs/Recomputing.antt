@@ -18,10 +18,10 @@ use Rattle.daily_summary.specs.Readings.{Reading, reading, readings, time, total
 use Rattle.daily_summary.specs.Summary.{field_sum, is_of_day, rows_of_day, summary_of}
 use Rattle.daily_summary.proofs.Extremes.{greatest_first, least_first}
 use Rattle.daily_summary.proofs.Fields.{field_is}
-use Rattle.weather_book.specs.Days.{Ascend, day_of_row, days_from, days_of, is_day, with_day}
-use Rattle.weather_book.specs.Rising.{RowsRise}
-use Rattle.weather_book.proofs.DayLaws.{days_in_order}
-use Rattle.weather_book.proofs.RowLaws.{rise_when}
+use Rattle.packed_rows.specs.Days.{Ascend, day_of_row, days_from, days_of, is_day, with_day}
+use Rattle.packed_rows.specs.Rising.{RowsRise}
+use Rattle.packed_rows.proofs.DayLaws.{days_in_order}
+use Rattle.packed_rows.proofs.RowLaws.{rise_when}
 use Rattle.weather_reports.specs.Line.{line_of, lines_from}
 use Rattle.weather_reports.specs.Recomputed.{AreDayLines, ComesBefore, DayLine, IsRecomputed, IsTold, printed}
 use Rattle.weather_reports.specs.Report.{all_day_lines, day_lines}

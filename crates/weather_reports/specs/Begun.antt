@@ -5,7 +5,7 @@ use Rattle.station_base.specs.DayText.{IsDayNumber}
 use Rattle.station_base.specs.declared.row.Row.{Row}
 use Rattle.daily_summary.specs.Bounds.{IsInBounds}
 use Rattle.daily_summary.specs.Summary.{summary_of}
-use Rattle.weather_book.specs.Days.{days_of}
+use Rattle.packed_rows.specs.Days.{days_of}
 use Rattle.weather_reports.specs.declared.month.Month.{Month}
 use Rattle.weather_reports.specs.Line.{lines_of}
 use Rattle.weather_reports.specs.Months.{month_text, months_from, months_of}

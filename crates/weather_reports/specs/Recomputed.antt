@@ -7,7 +7,7 @@ use Rattle.daily_summary.specs.declared.field_sum.FieldSum.{FieldSum}
 use Rattle.daily_summary.specs.Extremes.{IsGreatestAt, IsLeastAt}
 use Rattle.daily_summary.specs.Readings.{readings, time, total, value_of, weighted}
 use Rattle.daily_summary.specs.Summary.{rows_of_day}
-use Rattle.weather_book.specs.Days.{day_of_row}
+use Rattle.packed_rows.specs.Days.{day_of_row}
 use Rattle.weather_reports.specs.Line.{sum_line}
 use Rattle.weather_reports.specs.Reported.{text_of}
 

@@ -6,7 +6,7 @@ use Rattle.station_base.specs.RowLine.{row_line}
 use Rattle.station_base.specs.declared.day.DayNumber.{DayNumber}
 use Rattle.station_base.specs.declared.row.Row.{Row}
 use Rattle.daily_summary.specs.Summary.{rows_of_day, summary_of}
-use Rattle.weather_book.specs.Days.{days_of, is_within}
+use Rattle.packed_rows.specs.Days.{days_of, is_within}
 use Rattle.weather_reports.specs.Line.{lines_of}
 use Rattle.weather_reports.specs.Months.{month_text, months_of}
 

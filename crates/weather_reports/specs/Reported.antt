@@ -7,7 +7,7 @@ use Rattle.causes.specs.Written.{WritesPart}
 use Rattle.disk_model.specs.Medium.{Medium}
 use Rattle.gated_log.specs.Calls.{Looked}
 use Rattle.station_base.specs.declared.row.Row.{Row}
-use Rattle.weather_book.specs.Rows.{slot_total}
+use Rattle.packed_rows.specs.Rows.{slot_total}
 use Rattle.weather_reports.specs.declared.end.ReportEnd.{ReportEnd}
 use Rattle.weather_reports.specs.declared.end.ReportEnd.TheVariants.{Done, DiskFault, WriteFault}
 

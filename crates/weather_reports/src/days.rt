@@ -6,7 +6,7 @@ ghost use Rattle.station_base.specs.declared.row.Row.{Row};
 ghost use Rattle.daily_summary.specs.Summary.{rows_of_day, summary_of};
 ghost use Rattle.gated_log.specs.Calls.{Looked};
 ghost use Rattle.weather_book.specs.Book.{StandsFor};
-ghost use Rattle.weather_book.specs.Rows.{slot_total};
+ghost use Rattle.packed_rows.specs.Rows.{slot_total};
 ghost use Rattle.weather_book.specs.Stands.{StandsToReadOn};
 ghost use Rattle.weather_book.specs.Start.{IsOfADay};
 ghost use Rattle.weather_reports.specs.Report.{is_among};

@@ -1,6 +1,6 @@
 ghost use Rattle.std.specs.Prelude.{List, None};
 ghost use Rattle.station_base.specs.declared.row.Row.{Row};
-ghost use Rattle.weather_book.specs.Rising.{RowsRise};
+ghost use Rattle.packed_rows.specs.Rising.{RowsRise};
 ghost use Rattle.weather_reports.specs.Recomputed.{AreDayLines};
 ghost use Rattle.weather_reports.specs.Report.{all_day_lines};
 ghost use Rattle.weather_reports.specs.Reported.{text_of};

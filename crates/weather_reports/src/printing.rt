@@ -4,7 +4,7 @@ ghost use Rattle.arrayvec.specs.ArrayVec.{array_vec_len};
 ghost use Rattle.causes.specs.Cause.{Cause};
 ghost use Rattle.causes.specs.Written.{Leaves, WritesPart};
 ghost use Rattle.station_base.specs.RowLine.{row_line};
-ghost use Rattle.weather_book.specs.Adding.{AreLimited, ArePrintable};
+ghost use Rattle.packed_rows.specs.Adding.{AreLimited, ArePrintable};
 ghost use Rattle.weather_reports.specs.Line.{lines_from};
 ghost use Rattle.weather_reports.specs.Reported.{text_of};
 ghost use Rattle.weather_reports.specs.Wrote.{Flushes, Prints};

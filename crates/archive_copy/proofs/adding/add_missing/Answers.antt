@@ -3,12 +3,12 @@ use Rattle.std.proofs.lemmas.List.{take_all, length-drop}
 use Rattle.disk_model.specs.Disk.{stays_none, stays_joins}
 use Rattle.station_base.specs.declared.row.Row.{Row}
 use Rattle.weather_book.specs.Book.{StandsFor, len_of}
-use Rattle.weather_book.specs.Rows.{slot_total}
+use Rattle.packed_rows.specs.Rows.{slot_total}
 use Rattle.weather_book.proofs.Looks.{no_look}
 use Rattle.weather_book.proofs.Pieces.{more_reads}
 use Rattle.archive_copy.specs.Calls.{rows_in, slots_end}
 use Rattle.archive_copy.proofs.Batches.{adds_none, adds_one, ends_so, fails_one, front_of}
-use Rattle.weather_book.specs.Rising.{last_stamp, rise}
+use Rattle.packed_rows.specs.Rising.{last_stamp, rise}
 use Rattle.weather_book.specs.Stands.{StandsOn}
 use Rattle.weather_book.proofs.Standing.{to_read_stays}
 use Rattle.archive_copy.specs.Adding.{HasSome, batches}

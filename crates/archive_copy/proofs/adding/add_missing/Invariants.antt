@@ -5,7 +5,7 @@ use Rattle.station_base.specs.declared.row.Row.{Row}
 use Rattle.weather_book.specs.Book.{StandsFor, is_stale, len_of, most_of}
 use Rattle.weather_book.specs.Stands.{StandsOn, StandsToReadOn}
 use Rattle.gated_log.specs.Calls.{Looked}
-use Rattle.weather_book.specs.Rows.{slot_total}
+use Rattle.packed_rows.specs.Rows.{slot_total}
 use Rattle.archive_copy.specs.Calls.{slots_end}
 use Rattle.archive_copy.proofs.Batches.{AddedSo}
 use Rattle.archive_copy.specs.Adding.{HasSome, batches}

@@ -6,13 +6,13 @@ use Rattle.disk_model.specs.Disk.{stays_none, stays_joins}
 use Rattle.station_base.specs.FieldSet.{AreMissing}
 use Rattle.station_base.specs.RowLine.{IsPrintable}
 use Rattle.station_base.specs.declared.row.Row.{Row}
-use Rattle.weather_book.specs.Rows.{slot_total}
+use Rattle.packed_rows.specs.Rows.{slot_total}
 use Rattle.weather_book.proofs.Looks.{no_look}
 use Rattle.weather_book.proofs.Pieces.{more_reads}
 use Rattle.archive_copy.specs.Calls.{slots_end}
 use Rattle.archive_copy.proofs.Looks.{some_look}
-use Rattle.weather_book.specs.Rising.{exceeds, last_after}
-use Rattle.weather_book.proofs.RowLaws.{last_join, rise_join, rise_tells}
+use Rattle.packed_rows.specs.Rising.{exceeds, last_after}
+use Rattle.packed_rows.proofs.RowLaws.{last_join, rise_join, rise_tells}
 use Rattle.weather_book.proofs.Standing.{to_read_stays}
 use Rattle.archive_copy.proofs.NextRows.{breaks_batch, next_row, one_rises, up_to_five}
 use Rattle.archive_copy.proofs.batch.next_batch.Goals as goal

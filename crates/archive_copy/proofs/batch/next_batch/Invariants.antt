@@ -4,11 +4,11 @@ use Rattle.disk_model.specs.Disk.{Stays}
 use Rattle.station_base.specs.declared.row.Row.{Row}
 use Rattle.gated_log.specs.Calls.{Looked}
 use Rattle.weather_book.specs.Book.{StandsFor}
-use Rattle.weather_book.specs.Rows.{slot_total}
+use Rattle.packed_rows.specs.Rows.{slot_total}
 use Rattle.archive_copy.specs.Calls.{slots_end}
 use Rattle.archive_copy.specs.Reading.{IsAhead}
-use Rattle.weather_book.specs.Adding.{AreLimited, ArePrintable}
-use Rattle.weather_book.specs.Rising.{last_after, rise}
+use Rattle.packed_rows.specs.Adding.{AreLimited, ArePrintable}
+use Rattle.packed_rows.specs.Rising.{last_after, rise}
 use Rattle.weather_book.specs.Stands.{StandsToReadOn}
 use Rattle.archive_copy.proofs.batch.next_batch.Given as goal
 

@@ -1,12 +1,12 @@
 use Rattle.std.proofs.Common.{◌≡◌, ◌∙◌, drop, length, min, refl, ap, arith, true, false}
 use Rattle.std.proofs.lemmas.List.{length-take}
 use Rattle.disk_model.specs.Disk.{stays_none, stays_joins}
-use Rattle.weather_book.specs.Rows.{slot_total}
+use Rattle.packed_rows.specs.Rows.{slot_total}
 use Rattle.weather_book.proofs.Looks.{no_look}
 use Rattle.weather_book.proofs.Pieces.{more_reads}
 use Rattle.archive_copy.specs.Calls.{slots_end}
 use Rattle.archive_copy.proofs.Looks.{some_look}
-use Rattle.weather_book.specs.Days.{day_rest}
+use Rattle.packed_rows.specs.Days.{day_rest}
 use Rattle.weather_book.proofs.Standing.{to_read_stays}
 use Rattle.archive_copy.proofs.Fronts.{all_in_front, first_unlike, front_grows, none_there}
 use Rattle.archive_copy.proofs.comparing.compare.Goals as goal

@@ -3,7 +3,7 @@ use Rattle.causes.specs.Told.{map_told}
 use Rattle.gated_log.specs.Start.{remade}
 use Rattle.station_base.specs.declared.row.Row.{Row}
 use Rattle.weather_book.specs.Book.{len_of}
-use Rattle.weather_book.specs.Rows.{RowsOf, rows_of, slot_total}
+use Rattle.packed_rows.specs.Rows.{RowsOf, rows_of, slot_total}
 use Rattle.weather_book.proofs.Pieces.{more_reads}
 use Rattle.weather_book.specs.Stands.{HasRows, StandsOn}
 use Rattle.weather_book.proofs.Standing.{to_read_stays}

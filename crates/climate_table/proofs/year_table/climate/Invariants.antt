@@ -5,9 +5,9 @@ use Rattle.causes.specs.Told.{WhereTold}
 use Rattle.disk_model.specs.Disk.{Stays}
 use Rattle.station_base.specs.declared.row.Row.{Row}
 use Rattle.weather_book.specs.Book.{StandsFor}
-use Rattle.weather_book.specs.Days.{days_of}
+use Rattle.packed_rows.specs.Days.{days_of}
 use Rattle.gated_log.specs.Calls.{Looked}
-use Rattle.weather_book.specs.Rows.{slot_total}
+use Rattle.packed_rows.specs.Rows.{slot_total}
 use Rattle.weather_book.specs.Stands.{StandsToReadOn}
 use Rattle.weather_reports.specs.declared.printing.TheConstants.{PIECE}
 use Rattle.weather_reports.proofs.Progress.{Comes}

@@ -1,6 +1,6 @@
 use Rattle.std.proofs.Common.{◌≡◌, ℕ, List, Err, length, sym, ap, subst, ◌∙◌, rules}
 use Rattle.weather_book.specs.Book.{StandsFor}
-use Rattle.weather_book.specs.Days.{days_of}
+use Rattle.packed_rows.specs.Days.{days_of}
 use Rattle.weather_book.specs.declared.book.Book.{Book}
 use Rattle.station_replay.specs.Texts.{days_text, end_line, text_of}
 use Rattle.schedule_replay.specs.Writing.{Writes}

@@ -1,4 +1,4 @@
-use Rattle.weather_book.specs.Adding.{ArePrintable, AreLimited}
+use Rattle.packed_rows.specs.Adding.{ArePrintable, AreLimited}
 use Rattle.storage_tests.proofs.dated_rows.rows_of.Given as goal
 
 abbrev pub invariant-loop-day : goal.invariant-loop-day

@@ -1,6 +1,6 @@
 use Rattle.std.proofs.Common.{List, sym, subst}
 use Rattle.station_base.specs.declared.row.Row.{Row}
-use Rattle.weather_book.specs.Adding.{ArePrintable, AreLimited}
+use Rattle.packed_rows.specs.Adding.{ArePrintable, AreLimited}
 use Rattle.storage_tests.proofs.weather_book_tests.add.Goals as goal
 
 pub add-requires-clause-printable : goal.add-requires-clause-printable

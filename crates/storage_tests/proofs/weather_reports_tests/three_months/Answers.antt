@@ -4,7 +4,7 @@ use Rattle.station_base.proofs.FieldSets.{none_missing_of}
 use Rattle.station_base.specs.FieldSet.{AreMissing}
 use Rattle.station_base.specs.RowLine.{IsPrintable}
 use Rattle.station_base.specs.declared.row.Row.{Row}
-use Rattle.weather_book.specs.Adding.{AreLimited, ArePrintable}
+use Rattle.packed_rows.specs.Adding.{AreLimited, ArePrintable}
 use Rattle.storage_tests.proofs.weather_reports_tests.three_months.Goals as goal
 
 printable : (row : Row) (rows : List Row) → All IsPrintable row.values → ArePrintable rows → ArePrintable (row ∷ rows)

@@ -1,6 +1,6 @@
 use Rattle.std.proofs.Common.{sym, ◌∙◌}
-use Rattle.weather_book.specs.Rows.{is_known}
-use Rattle.weather_book.proofs.Versions.{unknown_none}
+use Rattle.packed_rows.specs.Rows.{is_known}
+use Rattle.packed_rows.proofs.Versions.{unknown_none}
 use Rattle.weather_book.proofs.slots.read_as.Goals as goal
 
 pub returns-else-known-clause-row : goal.returns-else-known-clause-row

@@ -4,8 +4,8 @@ use Rattle.arrayvec.specs.ArrayVec.{array_vec_len}
 use Rattle.station_base.specs.declared.row.Row.{Row}
 use Rattle.gated_log.specs.GatedLog.{slot_count, log_version}
 use Rattle.gated_log.specs.Stands.{StandsToRead}
-use Rattle.weather_book.specs.Adding.{AreLimited, ArePrintable}
-use Rattle.weather_book.specs.Packed.{AreRowsAt}
+use Rattle.packed_rows.specs.Adding.{AreLimited, ArePrintable}
+use Rattle.packed_rows.specs.Packed.{AreRowsAt}
 use Rattle.weather_book.specs.ReadBack.{rows_back}
 use Rattle.weather_book.proofs.slots.read_slots.Given as goal
 

@@ -3,7 +3,7 @@ use Rattle.std.specs.Prelude.{flat_map, slice_get}
 use Rattle.std.proofs.lemmas.List.{take_all}
 use Rattle.causes.proofs.Writing.{Appends-nil}
 use Rattle.std.specs.Io.KnownBytes.{Appends}
-use Rattle.weather_book.specs.Days.{days_of}
+use Rattle.packed_rows.specs.Days.{days_of}
 use Rattle.weather_reports.specs.Report.{day_lines}
 use Rattle.weather_reports.specs.Reported.{text_of}
 use Rattle.weather_reports.proofs.Ascending.{all_among}

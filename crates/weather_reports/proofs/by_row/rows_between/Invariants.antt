@@ -6,7 +6,7 @@ use Rattle.station_base.specs.RowLine.{row_line}
 use Rattle.station_base.specs.declared.row.Row.{Row}
 use Rattle.weather_book.specs.Book.{StandsFor}
 use Rattle.gated_log.specs.Calls.{Looked}
-use Rattle.weather_book.specs.Rows.{slot_total}
+use Rattle.packed_rows.specs.Rows.{slot_total}
 use Rattle.weather_book.specs.Stands.{StandsToReadOn}
 use Rattle.weather_reports.specs.declared.printing.TheConstants.{PIECE}
 use Rattle.weather_reports.specs.Wrote.{Wrote}

@@ -2,7 +2,7 @@ use Rattle.std.proofs.Common.{◌≡◌, ◌+◌, ℕ, List, None, Err, sym, ap,
 use Rattle.station_replay.specs.Replay.{Item, Stage, opened}
 use Rattle.station_session.specs.Round.{round_host}
 use Rattle.schedule_file.specs.Lists.{fates_of, left_in}
-use Rattle.schedule_replay.specs.Stops.{stop_set}
+use Rattle.schedule_steps.specs.Stops.{stop_set}
 use Rattle.schedule_replay.proofs.Ahead.{broken_opened, none_first, played_opened, with_limits}
 use Rattle.schedule_replay.proofs.RoundLaws.{number_of, opened_rounds, played_seen, played_unseen, told_after, told_cut, told_of, unseen_after, unseen_cut, written_of}
 use Rattle.schedule_replay.proofs.RunLaws.{told_front}

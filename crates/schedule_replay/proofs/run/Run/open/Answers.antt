@@ -1,6 +1,6 @@
 use Rattle.std.proofs.Common.{◌≡◌, ◌+◌, ℕ, None, Err, [], ◌∷◌, subst, ◌∙◌, rules}
 use Rattle.station_replay.specs.Replay.{Item, cut_short, opening, recovered}
-use Rattle.schedule_replay.specs.Stops.{stop_of}
+use Rattle.schedule_steps.specs.Stops.{stop_of}
 use Rattle.schedule_replay.specs.Telling.{TellsAll}
 use Rattle.schedule_replay.proofs.RunLaws.{closed_stage, does_open, does_plainly, does_stop, holds_closed, on_err, on_ok, open_cut, opens_none, opens_some, told_all, told_front, told_less}
 use Rattle.schedule_replay.proofs.run.Run.open.Goals as goal

@@ -3,7 +3,7 @@ use Rattle.schedule_file.specs.declared.schedule.step.Step as code_step
 use Rattle.station_sim.specs.Standing.{StandsFor}
 use Rattle.station_replay.specs.Room.{line_of}
 use Rattle.schedule_replay.specs.Running.{After, IsCut}
-use Rattle.schedule_replay.specs.Steps.{passed, step_of}
+use Rattle.schedule_steps.specs.Steps.{passed, step_of}
 use Rattle.schedule_replay.specs.Standing.{HasSaid, HoldsAt, IsNoRound, LineAt}
 use Rattle.schedule_replay.proofs.Ahead.{err_of, few_to_open, ok_of}
 use Rattle.schedule_replay.proofs.RoundLaws.{may_open}

@@ -3,7 +3,7 @@ use Rattle.weather_book.specs.declared.book.Book.{Book}
 use Rattle.weather_book.specs.Book.{StandsFor}
 use Rattle.disk_model.specs.StoppingState.{StoppingState}
 use Rattle.station_replay.specs.Replay.{is_stop}
-use Rattle.schedule_replay.specs.Stops.{stop_set}
+use Rattle.schedule_steps.specs.Stops.{stop_set}
 use Rattle.schedule_replay.proofs.RunLaws.{line_tells, told_on}
 use Rattle.schedule_replay.proofs.Told.{not_stopped}
 use Rattle.schedule_replay.proofs.run.Run.tell_round.Goals as goal

@@ -4,12 +4,12 @@ use Rattle.station_replay.specs.Replay.{Item, start}
 use Rattle.station_replay.specs.Schedule.{records}
 use Rattle.schedule_file.specs.declared.schedule.step.Step.TheVariants as code
 use Rattle.schedule_replay.specs.Standing.{round_step}
-use Rattle.schedule_replay.specs.Steps.{steps_for}
+use Rattle.schedule_steps.specs.Steps.{steps_for}
 use Rattle.schedule_replay.specs.Turns.{CutsRun}
 use Rattle.schedule_replay.proofs.Looping.{ready}
 use Rattle.schedule_replay.proofs.RoundLaws.{moments_left}
 use Rattle.schedule_replay.proofs.StepLaws.{wait_cut}
-use Rattle.schedule_replay.proofs.TurnPlayed.{one_call_behind, still_then}
+use Rattle.round_play.proofs.TurnPlayed.{one_call_behind, still_then}
 use Rattle.schedule_replay.proofs.Turned.{begun_moves, goes_on_ahead, left_behind, left_none, left_some, next_round, none_plays, opens_next, recovered_left, recovered_moves, round_cut_off, stands, stands_begun, stands_open, without_session}
 use Rattle.schedule_replay.proofs.turns.ReplayRun.begin_round.Goals as goal
 

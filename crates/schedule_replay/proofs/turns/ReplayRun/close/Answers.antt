@@ -1,7 +1,7 @@
 use Rattle.std.proofs.Common.{◌≡◌, ◌+◌, ◌++◌, List, None, Some, sym, subst, ap, rules}
 use Rattle.station_replay.specs.Replay.{Item, first, start}
 use Rattle.station_replay.specs.Schedule.{IsSchedule, Step}
-use Rattle.schedule_replay.specs.Steps.{steps_for}
+use Rattle.schedule_steps.specs.Steps.{steps_for}
 use Rattle.schedule_replay.specs.Turns.{CutsRun, EndsRun}
 use Rattle.schedule_replay.proofs.Looping.{all_done, end_cut, steps_all}
 use Rattle.schedule_replay.proofs.RunLaws.{ready_readable, told_front}

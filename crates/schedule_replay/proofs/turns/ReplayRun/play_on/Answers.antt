@@ -4,19 +4,19 @@ use Rattle.std.proofs.lemmas.Option.{same_Some}
 use Rattle.station_replay.specs.Replay.{Item, Stage, first, opened, start}
 use Rattle.station_replay.specs.Schedule.{records}
 use Rattle.schedule_file.specs.declared.schedule.step.Stop as code_stop
-use Rattle.schedule_replay.specs.declared.playing.Playing.{Playing}
-use Rattle.schedule_replay.specs.Opening.{limits_of}
-use Rattle.schedule_replay.specs.Playing.{IsUnderWay}
+use Rattle.round_play.specs.declared.playing.Playing.{Playing}
+use Rattle.round_play.specs.Opening.{limits_of}
+use Rattle.round_play.specs.Playing.{IsUnderWay}
 use Rattle.schedule_replay.specs.Replaying.{StandsAt}
 use Rattle.schedule_replay.specs.Running.{After}
 use Rattle.schedule_replay.specs.Standing.{HasSaid, HoldsAt, LineAt, round_step}
-use Rattle.schedule_replay.specs.Steps.{steps_for}
-use Rattle.schedule_replay.specs.Stops.{stop_set}
+use Rattle.schedule_steps.specs.Steps.{steps_for}
+use Rattle.schedule_steps.specs.Stops.{stop_set}
 use Rattle.schedule_replay.specs.Turns.{BreaksRun, CutsRun}
 use Rattle.schedule_replay.proofs.Ahead.{few_to_open}
 use Rattle.schedule_replay.proofs.Looping.{few_rounds, ready}
 use Rattle.schedule_replay.proofs.RoundLaws.{opened_rounds}
-use Rattle.schedule_replay.proofs.TurnPlayed.{then_still}
+use Rattle.round_play.proofs.TurnPlayed.{then_still}
 use Rattle.schedule_replay.proofs.Turned.{cut_else, cut_to, ends_moves, goes_on_moves, left_none, left_playing, none_plays, round_cut_off, round_taken, stands_some, taken_on, taken_out, turn_broken}
 use Rattle.schedule_replay.proofs.turns.ReplayRun.play_on.Goals as goal
 

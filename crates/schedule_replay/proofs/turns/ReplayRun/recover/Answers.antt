@@ -1,6 +1,6 @@
 use Rattle.std.proofs.Common.{◌+◌, ◌++◌, None, Option, inr, refl, sym, subst, ap, ◌∙◌, arith}
 use Rattle.station_replay.specs.Replay.{first}
-use Rattle.schedule_replay.specs.declared.playing.Playing.{Playing}
+use Rattle.round_play.specs.declared.playing.Playing.{Playing}
 use Rattle.schedule_replay.specs.Left.{left_to_open}
 use Rattle.schedule_replay.specs.Replaying.{StandsAt}
 use Rattle.schedule_replay.proofs.Looping.{ready}

@@ -1,9 +1,9 @@
 use Rattle.std.proofs.Common.{◌+◌, ◌++◌, None, Option, inl, length, sym, subst, arith}
 use Rattle.station_replay.specs.Schedule.{records}
-use Rattle.schedule_replay.specs.declared.playing.Playing.{Playing}
-use Rattle.schedule_replay.specs.Accepted.{IsInRange}
+use Rattle.round_play.specs.declared.playing.Playing.{Playing}
+use Rattle.schedule_steps.specs.Accepted.{IsInRange}
 use Rattle.schedule_replay.specs.Replaying.{StandsAt}
-use Rattle.schedule_replay.specs.Steps.{steps_for}
+use Rattle.schedule_steps.specs.Steps.{steps_for}
 use Rattle.schedule_replay.proofs.Looping.{in_range_at, ready}
 use Rattle.schedule_replay.proofs.Turned.{cut_to, left_behind, left_none, may_run, stands, stands_between, turn_cut, turn_taken}
 use Rattle.schedule_replay.proofs.turns.ReplayRun.take.Goals as goal

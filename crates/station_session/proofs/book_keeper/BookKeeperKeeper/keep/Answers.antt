@@ -1,8 +1,8 @@
 use Rattle.std.proofs.Common.{List, length, refl, sym, ◌∙◌, ap, subst, arith}
 use Rattle.std.proofs.lemmas.Grind.{common_steps}
 use Rattle.station_base.specs.declared.row.Row.{Row}
-use Rattle.weather_book.specs.Adding.{ArePrintable, AreLimited}
-use Rattle.weather_book.specs.Rising.{RowsRise}
+use Rattle.packed_rows.specs.Adding.{ArePrintable, AreLimited}
+use Rattle.packed_rows.specs.Rising.{RowsRise}
 use Rattle.weather_book.specs.Book.{last_of}
 use Rattle.causes.specs.declared.stored.Stored.TheVariants as stored
 use Rattle.dmpaft_pump.proofs.Keeping.{one_size}

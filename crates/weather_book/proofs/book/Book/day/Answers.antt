@@ -5,18 +5,18 @@ use Rattle.std.proofs.lemmas.List.{nil_from_length}
 use Rattle.gated_log.specs.GatedLog.{slot_count}
 use Rattle.gated_log.specs.Stands.{StandsToRead}
 use Rattle.daily_summary.specs.Summary.{rows_of_day, summary_of}
-use Rattle.weather_book.specs.Rows.{slot_total}
+use Rattle.packed_rows.specs.Rows.{slot_total}
 use Rattle.weather_book.specs.declared.answers.DayAnswer.{DayAnswer}
 use Rattle.weather_book.specs.declared.answers.DayAnswer.TheVariants as answers
 use Rattle.weather_book.specs.Start.{OnSummary, has_no_rows}
 use Rattle.weather_book.proofs.DayOf.{over_kept, rows_between, running_is, summary_rows}
 use Rattle.daily_summary.specs.declared.summary.DaySummary.{DaySummary}
-use Rattle.weather_book.specs.Closed.{IsClosedAt}
-use Rattle.weather_book.proofs.DayRows.{day_count, few_of}
+use Rattle.packed_rows.specs.Closed.{IsClosedAt}
+use Rattle.packed_rows.proofs.DayRows.{day_count, few_of}
 use Rattle.weather_book.proofs.KeptLaws.{total_kept}
-use Rattle.weather_book.specs.Rows.{as_read}
+use Rattle.packed_rows.specs.Rows.{as_read}
 use Rattle.std.proofs.Common.{map}
-use Rattle.weather_book.proofs.Versions.{closed_read}
+use Rattle.packed_rows.proofs.Versions.{closed_read}
 use Rattle.weather_book.proofs.book.Book.day.Goals as goal
 
 pub returns-then-end-first-clause-none : goal.returns-then-end-first-clause-none

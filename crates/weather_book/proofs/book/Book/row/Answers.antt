@@ -3,10 +3,10 @@ use Rattle.std.specs.Prelude.{get_or}
 use Rattle.gated_log.specs.GatedLog.{slot_count, log_version}
 use Rattle.gated_log.specs.Stands.{StandsToRead}
 use Rattle.row_slot.specs.Slot.{row_in}
-use Rattle.weather_book.specs.Rows.{slot_total, as_read}
+use Rattle.packed_rows.specs.Rows.{slot_total, as_read}
 use Rattle.gated_log.specs.declared.version.Version.{Version}
 use Rattle.weather_book.specs.ReadBack.{row_back, slot_in, slot_number}
-use Rattle.weather_book.proofs.Versions.{read_at}
+use Rattle.packed_rows.proofs.Versions.{read_at}
 use Rattle.weather_book.proofs.Places.{place_is, slot_row}
 use Rattle.weather_book.proofs.KeptLaws.{total_kept}
 use Rattle.weather_book.proofs.Looks.{one_look}

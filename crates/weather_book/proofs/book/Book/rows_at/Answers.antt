@@ -5,10 +5,10 @@ use Rattle.weather_book.specs.declared.answers.RowsAnswer.{RowsAnswer}
 use Rattle.weather_book.specs.declared.answers.RowsAnswer.TheVariants as rows
 use Rattle.std.specs.Prelude.{get_or}
 use Rattle.row_slot.specs.Slot.{row_in}
-use Rattle.weather_book.specs.Rows.{slot_total, as_read}
+use Rattle.packed_rows.specs.Rows.{slot_total, as_read}
 use Rattle.gated_log.specs.declared.version.Version.{Version}
 use Rattle.weather_book.specs.ReadBack.{rows_back, slot_number}
-use Rattle.weather_book.proofs.Versions.{read_at}
+use Rattle.packed_rows.proofs.Versions.{read_at}
 use Rattle.weather_book.specs.Start.{OnRows}
 use Rattle.weather_book.proofs.Places.{place_is}
 use Rattle.weather_book.proofs.KeptLaws.{total_kept}

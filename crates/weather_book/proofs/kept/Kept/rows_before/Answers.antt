@@ -3,8 +3,8 @@ use Rattle.std.specs.Prelude.{int_lt, count_by}
 use Rattle.std.specs.List.Sorted.{IsPartitionedBy, IsPartitionPoint}
 use Rattle.std.proofs.lemmas.List.Sorted.{IsPartitionPoint-from_clause}
 use Rattle.weather_book.specs.declared.kept.DayEntry.{DayEntry}
-use Rattle.weather_book.specs.Days.{is_before}
-use Rattle.weather_book.proofs.DayLaws.{still_not}
+use Rattle.packed_rows.specs.Days.{is_before}
+use Rattle.packed_rows.proofs.DayLaws.{still_not}
 use Rattle.weather_book.proofs.EntryLaws.{before_rows}
 use Rattle.weather_book.proofs.Search.{parted_days, first_found}
 use Rattle.weather_book.proofs.kept.Kept.rows_before.Goals as goal

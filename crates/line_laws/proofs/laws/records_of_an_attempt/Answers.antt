@@ -1,0 +1,5 @@
+use Rattle.line_laws.proofs.Walking.{now_attempt}
+use Rattle.line_laws.proofs.laws.records_of_an_attempt.Goals as goal
+
+pub returns : goal.returns
+returns c = now_attempt

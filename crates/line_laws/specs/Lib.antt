@@ -1,0 +1,4 @@
+pub mod Host
+pub mod Gathers
+pub mod Records
+pub mod Unharmed

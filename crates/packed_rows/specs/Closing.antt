@@ -1,0 +1,54 @@
+-- The summary slots that close a day. The layout is this project's own.
+use Rattle.std.specs.Prelude.{ℕ, ℤ, pos, Bool, true, false, not, nat_eq, List, ◌∷◌, ◌++◌, replicate, map, Some, None}
+use Rattle.std.specs.declared.option.Option.{Option}
+use Rattle.std.specs.Int.{w32, cast_unsigned}
+use Rattle.std.specs.List.{range_with_len}
+use Rattle.byteorder.specs.Endian.{little_bytes}
+use Rattle.station_base.specs.declared.row.Row.{Row}
+use Rattle.station_base.specs.CivilMinute.{CivilMinute, archive_day_of}
+use Rattle.daily_summary.specs.declared.summary.DaySummary.{DaySummary}
+use Rattle.daily_summary.specs.Parts.{part_of}
+use Rattle.daily_summary.specs.Summary.{summary_of, rows_of_day}
+use Rattle.packed_rows.specs.Rising.{last_stamp}
+
+-- the archive day of a stamp, in days since 1970-01-01
+abbrev pub day_of_stamp : Option CivilMinute → ℤ
+day_of_stamp None = pos 0
+day_of_stamp (Some stamp) = pos (archive_day_of stamp)
+
+-- the archive day of the last row
+abbrev pub last_day : List Row → ℤ
+last_day rows = day_of_stamp (last_stamp rows)
+
+-- the rows of the last row's day
+abbrev pub last_day_rows : List Row → List Row
+last_day_rows rows = rows_of_day (last_day rows) rows
+
+-- Part k of a stored summary: the slot of a closed gate, kind 2, no number of slots, the day, the number of the part,
+-- three bytes 0, the rows of the day, eight bytes 0, the part itself and twenty bytes 0.
+unfoldable pub summary_slot : ℤ → ℕ → DaySummary → List ℕ
+summary_slot day k s =
+    0 ∷ 2 ∷ 0 ∷ 0 ∷ (little_bytes 4 (cast_unsigned w32 day) ++ (k ∷ 0 ∷ 0 ∷ 0 ∷ (little_bytes 4 s.rows ++ (replicate 8 0
+    ++ (part_of k s ++ replicate 20 0)))))
+
+-- the slot k that closes the day of the last of these rows
+abbrev pub closing_slot : List Row → ℕ → List ℕ
+closing_slot rows k = summary_slot (last_day rows) k (summary_of (last_day_rows rows))
+
+-- all thirteen
+abbrev pub closing_slots : List Row → List (List ℕ)
+closing_slots rows = map (λ k. closing_slot rows k) (range_with_len 0 13)
+
+-- a row of this stamp begins a later day than the last row's
+abbrev pub begins_day : Option CivilMinute → CivilMinute → Bool
+begins_day None stamp = false
+begins_day (Some last) stamp = not (nat_eq (archive_day_of last) (archive_day_of stamp))
+
+-- how many summary slots stand before a row of this stamp
+abbrev pub closings : Bool → ℕ
+closings true = 13
+closings false = 0
+
+-- those that stand before a row behind these rows
+abbrev pub closing : List Row → Row → List (List ℕ)
+closing rows row = map (λ k. closing_slot rows k) (range_with_len 0 (closings (begins_day (last_stamp rows) row.stamp)))

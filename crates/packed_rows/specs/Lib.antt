@@ -1,0 +1,9 @@
+pub mod Adding
+pub mod Closing
+pub mod Days
+pub mod Into
+pub mod Packed
+pub mod Rising
+pub mod Rows
+pub mod Tail
+pub mod Closed

@@ -1,0 +1,5 @@
+pub mod Opening
+pub mod Played
+pub mod Playing
+pub mod Restarting
+pub mod Resting

@@ -1,0 +1,46 @@
+-- The opening of an archive on a disk at rest.
+use Rattle.std.specs.Prelude.{◌≡◌, ℕ, ◌+◌, ◌≤◌, Bool, true, false, Some, None}
+use Rattle.std.specs.declared.option.Option.{Option}
+use Rattle.settings_file.specs.StationSettings.{StationSettings}
+use Rattle.disk_model.specs.Disk.{MayBegin}
+use Rattle.disk_model.specs.DiskState.{Limits}
+use Rattle.disk_model.specs.Stopping.{stopping_medium, stopping_state_of}
+use Rattle.disk_model.specs.declared.mem_disk.MemDisk.{MemDisk}
+use Rattle.disk_model.specs.declared.stopping.Stopping.{Stopping}
+use Rattle.station_session.specs.declared.session.Session.{Session}
+use Rattle.station_replay.specs.Schedule.{Stop}
+use Rattle.station_replay.specs.Keeping.{Archive}
+use Rattle.station_replay.specs.Replay.{made_ready, cut_archive}
+use Rattle.round_play.specs.Resting.{AtRest, GoesOn}
+
+-- what the disk was made with
+abbrev pub limits_of : Stopping MemDisk → Limits
+limits_of disk = (stopping_state_of disk).inner.limits
+
+-- The disk has room for an opening: three changes at most, which write 177 bytes.
+pub record CanOpen (disk : Stopping MemDisk) : Type 0 where
+  pub capacity : 177 ≤ (limits_of disk).capacity
+  pub changes : 3 ≤ (stopping_state_of disk).inner.changes
+  pub bytes : 177 ≤ (stopping_state_of disk).inner.bytes
+  pub moments : MayBegin stopping_medium 3 disk
+
+-- it is at rest with some archive, which can be opened
+abbrev pub IsReady : Stopping MemDisk → Type 0
+IsReady disk = (openings : ℕ) × (a : Archive) × AtRest openings a disk × CanOpen disk
+
+-- the archive was opened: so many openings were made before, and the session goes on
+abbrev pub IsOpened : StationSettings → ℕ → Archive → Session → Stopping MemDisk → Type 0
+IsOpened settings openings a session disk =
+    AtRest (openings + 1) (made_ready a) disk × GoesOn settings a.rows session disk
+
+-- the same, if there is a session
+abbrev pub HasOpened : StationSettings → ℕ → Archive → Option Session → Stopping MemDisk → Type 0
+HasOpened settings openings a None disk = ⊥
+HasOpened settings openings a (Some session) disk = IsOpened settings openings a session disk
+
+-- By whether the stop was reached: there is no session and the disk is at rest with what the stop left, or the
+-- archive was opened.
+abbrev pub OpensBy : Bool → StationSettings → Stop → ℕ → Archive → Option Session → Stopping MemDisk → Type 0
+OpensBy true settings stop openings a session disk =
+    (session ≡ None) × AtRest (openings + 1) (cut_archive stop a) disk
+OpensBy false settings stop openings a session disk = HasOpened settings openings a session disk

@@ -1,7 +1,0 @@
-use Rattle.std.proofs.Common.{take}
-use Rattle.std.specs.List.{AllByRecursion}
-use Rattle.schedule_replay.specs.Accepted.{HasRecord}
-use Rattle.schedule_replay.proofs.schedule_laws.records_known.Given as goal
-
-abbrev pub invariant-loop-step : goal.invariant-loop-step
-invariant-loop-step l = AllByRecursion HasRecord (take l.step-index l.steps)

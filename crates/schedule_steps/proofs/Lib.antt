@@ -1,0 +1,7 @@
+pub mod Accepting
+pub mod Falling
+pub mod ReadForms
+pub mod Rising
+pub mod RunRecords
+pub mod SameValues
+pub mod Stamping
