@@ -6,6 +6,7 @@ ghost use Rattle.run_output.specs.Ended.{output_of};
 ghost use Rattle.run_output.specs.Output.{no_memory};
 ghost use Rattle.run_output.specs.Outside.{means};
 ghost use Rattle.station_session.specs.Report.{IsNew};
+ghost use Rattle.station_session.specs.Attempts.{most_attempts};
 
 use crate::recovering::recover;
 use command_words::StationWords;
@@ -91,7 +92,7 @@ const ATTEMPT_ROOM: usize = 100;
 // Appends the lines of the attempts that failed, from this number on.
 fn push_attempts(text: &mut Text, number: u64, troubles: &[Trouble])
     requires room { array_vec_len text.old + ATTEMPT_ROOM * length troubles.now ≤ ROOM }
-    requires few { number + length troubles.now ≤ 4 }
+    requires few { number + length troubles.now ≤ most_attempts + 1 }
     ensures text { text.new.items ≡ text.old.items ++ attempt_lines number troubles.now }
     ensures length { array_vec_len text.new ≤ array_vec_len text.old + ATTEMPT_ROOM * length troubles.now }
 {

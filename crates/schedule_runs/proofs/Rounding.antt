@@ -16,7 +16,7 @@ use Rattle.dmpaft_driver.proofs.Exactly.{sound}
 use Rattle.dmpaft_pump.proofs.Keeping.{join_none, kept_in_all}
 use Rattle.station_session.specs.declared.round_end.RoundEnd.{RoundEnd}
 use Rattle.station_session.specs.declared.round_end.RoundEnd.TheVariants as round_end
-use Rattle.station_session.specs.Attempts.{Tried, Attempts, IsTried, end_after, batches_in, stamp_after}
+use Rattle.station_session.specs.Attempts.{Tried, Attempts, IsTried, end_after, batches_in, stamp_after, most_attempts}
 use Rattle.station_session.specs.Attempts.{all_batches, all_said}
 use Rattle.station_session.specs.Batches.{kept_records, kept_count, Fit}
 use Rattle.station_session.proofs.Ends.{went_on}
@@ -82,7 +82,7 @@ module _ (most : ℕ) (stop : Option Stop) (f : Fates) where
     pub at : end ≡ round_end.DiskFault → ComesAt stop (before + kept_count (all_batches last tried))
 
   -- three attempts were made
-  three_made : (made : ℕ) (last : Option CivilMinute) (held before : ℕ) (w : Line) → made ≡ 3 → NotPast stop before
+  three_made : (made : ℕ) (last : Option CivilMinute) (held before : ℕ) (w : Line) → made ≡ most_attempts → NotPast stop before
       → Rounds made last held before w
   three_made made last held before w three not_past =
       let same : before ≡ before + 0 = omega arith in
@@ -99,7 +99,7 @@ module _ (most : ℕ) (stop : Option Stop) (f : Fates) where
       }
 
   -- a round ends with an attempt
-  last_one : (made : ℕ) (last : Option CivilMinute) (held before : ℕ) (w : Line) → made < 3
+  last_one : (made : ℕ) (last : Option CivilMinute) (held before : ℕ) (w : Line) → made < most_attempts
       → (x : Tries last held before w) (end : RoundEnd) → end_after x.tried.end ≡ Some end → IsFollowed end
       → (end ≡ round_end.DiskFault → keeper_answer x.tried.end ≡ stored.DiskFault) → Rounds made last held before w
   last_one made last held before w less x end ends followed fault =
@@ -117,7 +117,7 @@ module _ (most : ℕ) (stop : Option Stop) (f : Fates) where
       }
 
   -- a round goes on after an attempt that failed
-  one_more : (made : ℕ) (last : Option CivilMinute) (held before : ℕ) (w : Line) → made < 3
+  one_more : (made : ℕ) (last : Option CivilMinute) (held before : ℕ) (w : Line) → made < most_attempts
       → (x : Tries last held before w) → end_after x.tried.end ≡ None
       → Rounds (made + 1) (stamp_after last x.tried) (held + length (kept_records (batches_in last x.tried)))
       (before + kept_count (batches_in last x.tried)) x.line → Rounds made last held before w
@@ -142,7 +142,7 @@ module _ (most : ℕ) (stop : Option Stop) (f : Fates) where
       }
 
   -- what an attempt that ends so makes of a round
-  ends_with : (made : ℕ) (last : Option CivilMinute) (held before : ℕ) (w : Line) → made < 3
+  ends_with : (made : ℕ) (last : Option CivilMinute) (held before : ℕ) (w : Line) → made < most_attempts
       → (x : Tries last held before w) → (end : PumpEnd) → x.tried.end ≡ dump_end_of end
       → Rounds (made + 1) (stamp_after last x.tried) (held + length (kept_records (batches_in last x.tried)))
       (before + kept_count (batches_in last x.tried)) x.line → Rounds made last held before w
@@ -159,7 +159,7 @@ module _ (most : ℕ) (stop : Option Stop) (f : Fates) where
       last_one made last held before w less x round_end.Flood (ap end_after is) (inr refl) (λ e. cc)
 
   -- a round from here, with so many attempts more at most
-  rounds : (left made : ℕ) → made + left ≡ 3 → (last : Option CivilMinute) (held before : ℕ) (w : Line)
+  rounds : (left made : ℕ) → made + left ≡ most_attempts → (last : Option CivilMinute) (held before : ℕ) (w : Line)
       → NotPast stop before → Rounds made last held before w
   rounds zero made count last held before w not_past =
       three_made made last held before w (omega (arith, count)) not_past
@@ -172,7 +172,7 @@ module _ (most : ℕ) (stop : Option Stop) (f : Fates) where
 
   -- a round on whatever line
   pub round_ends : (last : Option CivilMinute) (held : ℕ) (w : Line) → Rounds 0 last held 0 w
-  round_ends last held w = rounds 3 0 (omega arith) last held 0 w (none_past stop)
+  round_ends last held w = rounds most_attempts 0 (omega arith) last held 0 w (none_past stop)
     where
       none_past : (s : Option Stop) → NotPast s 0
       none_past None = tt

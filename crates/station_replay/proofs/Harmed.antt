@@ -15,7 +15,7 @@ use Rattle.dmpaft_pump.specs.declared.outcome.DumpEnd.TheVariants as dump_end
 use Rattle.dmpaft_driver.proofs.Bounding.{frame_long}
 use Rattle.station_session.specs.declared.round_end.RoundEnd.{RoundEnd}
 use Rattle.station_session.specs.declared.round_end.RoundEnd.TheVariants as round_end
-use Rattle.station_session.specs.Attempts.{Tried, IsTried, Attempts, EndsBefore, end_after, batches_in, stamp_after, all_batches, all_said}
+use Rattle.station_session.specs.Attempts.{Tried, IsTried, Attempts, EndsBefore, end_after, batches_in, stamp_after, all_batches, all_said, most_attempts}
 use Rattle.station_session.specs.Batches.{last_answer, Fit}
 use Rattle.station_session.proofs.Ends.{last_in, went_on}
 use Rattle.station_session.proofs.Parts.{fit_parts}
@@ -85,7 +85,7 @@ module _ (f : Fates) (ok : AreSound f) (failed short : Type 0) where
   -- the attempts of a round from here, so many being made
   pub record Over (made : ℕ) (w : Line) (ts : List Tried) (end : RoundEnd) (v : Line) : Type 0 where
     pub each : EachOver (λ e harmed. (0 < harmed) ⊎ EndsUnharmed failed short e) f w ts v
-    pub gave_up : end ≡ round_end.GaveUp → (made + length ts ≡ 3) × EachHarmed f w ts v
+    pub gave_up : end ≡ round_end.GaveUp → (made + length ts ≡ most_attempts) × EachHarmed f w ts v
     pub spared : IsSpared failed short end ⊎ EachHarmed f w ts v
     pub calm : end ≢ round_end.OutOfMemory → IsCalm v
 

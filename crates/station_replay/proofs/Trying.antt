@@ -9,6 +9,7 @@ use Rattle.station_sim.specs.Line.{Line}
 use Rattle.station_replay.specs.Schedule.{Stop}
 use Rattle.station_replay.specs.Keeping.{Archive, appended, stopped, with_batch}
 use Rattle.station_replay.specs.Round.{Ending, Attempted, IsAttempted, EndsStopped}
+use Rattle.station_session.specs.Attempts.{most_attempts}
 
 -- what becomes of a batch
 pub data Answer : Type 0 where
@@ -51,9 +52,9 @@ Keeps settings stop stored a (batch ∷ more) k =
 -- was kept before the end, what is left of the archive, and the line.
 abbrev pub Tries : StationSettings → Fates → Option Stop → ℕ → ℕ → Archive → Line → List Attempted → Ending
     → Archive → Archive → Line → Type 0
-Tries settings f stop n stored a w [] end kept left v = (n ≡ 3) × (end ≡ Ending.GaveUp) × (kept ≡ a) × (left ≡ a)
+Tries settings f stop n stored a w [] end kept left v = (n ≡ most_attempts) × (end ≡ Ending.GaveUp) × (kept ≡ a) × (left ≡ a)
     × (v ≡ w)
-Tries settings f stop n stored a w (t ∷ ts) end kept left v = (n < 3) × ((u : Line) × (b : Archive)
+Tries settings f stop n stored a w (t ∷ ts) end kept left v = (n < most_attempts) × ((u : Line) × (b : Archive)
     × IsAttempted f a.rows w t b.rows u
     × (((m : ℕ) × Keeps settings stop stored a t.batches (Keeping.Goes m b) × ((trouble : Trouble) × (t.made.end
     ≡ dump_end.Failed trouble)) × Tries settings f stop (n + 1) m b u ts end kept left v)

@@ -6,7 +6,7 @@ use Rattle.dmpaft_pump.specs.declared.outcome.DumpEnd.{DumpEnd}
 use Rattle.dmpaft_pump.specs.declared.outcome.DumpEnd.TheVariants as dump_end
 use Rattle.station_session.specs.declared.round_end.RoundEnd.{RoundEnd}
 use Rattle.station_session.specs.declared.round_end.RoundEnd.TheVariants as round_end
-use Rattle.station_session.specs.Attempts.{Tried}
+use Rattle.station_session.specs.Attempts.{Tried, most_attempts}
 use Rattle.station_session.specs.Round.{RoundHost}
 use Rattle.station_sim.specs.declared.sim.Sim.{Sim}
 use Rattle.station_sim.specs.Calm.{IsCalm}
@@ -60,6 +60,6 @@ EachHarmed f w ts v = EachOver (λ end harmed. 0 < harmed) f w ts v
 pub record HarmTells (failed short : Type 0) (f : Fates) (w : Line) (ts : List Tried) (end : RoundEnd)
     (v : Line) : Type 0 where
   pub each : EachOver (λ e harmed. (0 < harmed) ⊎ EndsUnharmed failed short e) f w ts v
-  pub gave_up : end ≡ round_end.GaveUp → (length ts ≡ 3) × EachHarmed f w ts v
+  pub gave_up : end ≡ round_end.GaveUp → (length ts ≡ most_attempts) × EachHarmed f w ts v
   pub spared : IsSpared failed short end ⊎ EachHarmed f w ts v
   pub calm : end ≢ round_end.OutOfMemory → IsCalm v
