@@ -8,17 +8,8 @@ use Rattle.disk_model.specs.declared.disk.Disked.TheVariants.{Done}
 use Rattle.gated_log.specs.Calls.{any_failed, changes, last_length, Looked, RecoveryCalls, recovery_changes, up_to}
 use Rattle.gated_log.proofs.CallsMade.{any_join, no_changes}
 use Rattle.station_base.specs.declared.row.Row.{Row}
-use Rattle.weather_book.specs.declared.book.Book.{Book}
-use Rattle.weather_book.specs.Book.{StandsFor, slots_of_book}
-use Rattle.packed_rows.specs.Rows.{slot_total}
-use Rattle.weather_book.proofs.KeptLaws.{total_kept}
 use Rattle.archive_copy.specs.Calls.{AddsBatches, changes_for, failed_answer, OnlyReads, rows_in, slots_end, ToCalls}
 use Rattle.archive_copy.proofs.Changes.{are_for, are_take, changes_join, fit_more, fits_join, up_fits, up_kept}
-
--- a book has as many slots as its rows take
-pub slots_same : (book : Book) (rows : List Row) → StandsFor book rows → slots_of_book book ≡ slot_total rows
-slots_same book rows stands =
-    let total = total_kept book.kept.days.items book.kept.count book.kept.tail rows stands.keeps in omega (arith, book.counted, total)
 
 reach : (slots len : ℕ) → (0 < slots → 176 * (slots + 1) ≤ len) → slots_end slots ≤ len
 reach zero len is = omega arith

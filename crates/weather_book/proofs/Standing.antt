@@ -1,13 +1,16 @@
 -- The rows that a book stands for.
-use Rattle.std.proofs.Common.{List, sym, ◌∙◌}
+use Rattle.std.proofs.Common.{◌≡◌, true, List, sym, ◌∙◌, arith, None}
 use Rattle.std.proofs.Math.Logic.{∥∥₁_map}
 use Rattle.disk_model.specs.Disk.{Stays}
 use Rattle.disk_model.specs.Medium.{Medium}
 use Rattle.station_base.specs.declared.row.Row.{Row}
 use Rattle.weather_book.specs.declared.book.Book.{Book}
-use Rattle.weather_book.specs.Book.{StandsFor}
+use Rattle.weather_book.specs.Book.{StandsFor, slots_of_book}
 use Rattle.weather_book.specs.Kept.{KeepsOf}
 use Rattle.weather_book.specs.Stands.{StandsToReadOn}
+use Rattle.packed_rows.specs.Rising.{rise}
+use Rattle.packed_rows.specs.Rows.{slot_total}
+use Rattle.weather_book.proofs.KeptLaws.{total_kept}
 
 -- it stands for the rows of which it keeps days, number and end
 pub stands_by : (book : Book) (rows : List Row) → KeepsOf book.kept.days.items book.kept.count book.kept.tail rows → StandsFor book rows
@@ -33,3 +36,12 @@ to_read_stays medium book d e rows stands stays = record {
     reads = λ c told. stands.log.reads c (sym stays.reads ∙ told);
   };
 }
+
+-- the stamps of its rows rise
+pub stands_rise : (book : Book) (rows : List Row) → StandsFor book rows → rise None rows ≡ true
+stands_rise book rows stands = stands.keeps.ends.rising
+
+-- its log has as many slots as its rows take
+pub slots_same : (book : Book) (rows : List Row) → StandsFor book rows → slots_of_book book ≡ slot_total rows
+slots_same book rows stands =
+    let total = total_kept book.kept.days.items book.kept.count book.kept.tail rows stands.keeps in omega (arith, book.counted, total)

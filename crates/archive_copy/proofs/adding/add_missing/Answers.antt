@@ -10,7 +10,7 @@ use Rattle.archive_copy.specs.Calls.{rows_in, slots_end}
 use Rattle.archive_copy.proofs.Batches.{adds_none, adds_one, ends_so, fails_one, front_of}
 use Rattle.packed_rows.specs.Rising.{last_stamp, rise}
 use Rattle.weather_book.specs.Stands.{StandsOn}
-use Rattle.weather_book.proofs.Standing.{to_read_stays}
+use Rattle.weather_book.proofs.Standing.{stands_rise, to_read_stays}
 use Rattle.archive_copy.specs.Adding.{HasSome, batches}
 use Rattle.archive_copy.proofs.Kept.{batch_leaves, leaves_join, nothing_left}
 use Rattle.archive_copy.proofs.NextRows.{batch_less, front_next, more_next, next_joins, next_rise, up_to_five}
@@ -50,7 +50,7 @@ returns-in-OutOfOrder-clause-in_order g c e theirs mine one two front x told =
     let le : length mine ≤ at = omega (arith, i.from_first, two.stands_for.held_is) in
     let wrong = c.next_batch.ensures.out_of_order c.in-OutOfOrder.is theirs (to_read_stays g.D.Disk.medium c.args.theirs.now _ _ theirs one i.stays) x (i.stays.reads ∙ told) in
     let last = c.last.ensures.rows _ (i.stands theirs mine one two x told).stands_for ∙ ap last_stamp (front_next mine theirs at front le) in
-    let right = next_rise theirs at 5 one.stands_for.keeps.ends.rising in
+    let right = next_rise theirs at 5 (stands_rise c.args.theirs.now theirs one.stands_for) in
     let no = sym wrong ∙ ap (λ o. rise o (take 5 (drop at theirs))) last ∙ right in cc
 
 pub add_batch-requires-clause-printable : goal.add_batch-requires-clause-printable

@@ -12,7 +12,8 @@ use Rattle.archive_copy.specs.Adding.{HasSome, batches, next_rows, to_add}
 use Rattle.archive_copy.specs.Answers.{CanBeAddedTo, CanBeCopied}
 use Rattle.archive_copy.proofs.Ends.{adding_adds, adding_answers, adding_undamaged, adding_moves, done_count, from_answers, from_moves, no_from_fault, no_to_fault, to_answers, to_moves}
 use Rattle.archive_copy.specs.Calls.{is_from_fault, is_to_fault}
-use Rattle.archive_copy.proofs.Together.{calls_added, calls_looked, calls_none, calls_opening, reads_more, reads_recovery, slots_same}
+use Rattle.archive_copy.proofs.Together.{calls_added, calls_looked, calls_none, calls_opening, reads_more, reads_recovery}
+use Rattle.weather_book.proofs.Standing.{slots_same}
 use Rattle.archive_copy.proofs.Kept.{leaves_join}
 use Rattle.archive_copy.proofs.NextRows.{front_rest}
 use Rattle.archive_copy.proofs.Standing.{adds_none, can_be_read, crash_rows, leaves_stays, reads_rows, same_rows, same_some, stands_stays}
