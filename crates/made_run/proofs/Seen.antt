@@ -23,6 +23,7 @@ use Rattle.station_sim.specs.Delivery.{delivered}
 use Rattle.station_sim.specs.Joining.{and_then_some}
 use Rattle.station_sim.specs.Line.{Line, begins_with_ack, completes, counted, earlier, flies, from_console, from_host, happens, hears, is_harmed, joins, pages, passes, replied, says}
 use Rattle.station_sim.specs.Talk.{console_talk, started, step}
+use Rattle.station_session.specs.Attempts.{all_said}
 use Rattle.station_replay.specs.Replay.{IsBroken, Item, Stage}
 use Rattle.station_replay.specs.Schedule.{Stop}
 use Rattle.line_laws.proofs.Framing.{hearing_is, waiting_is}
@@ -147,6 +148,6 @@ module _ (f : Fates) (plain : IsPlain f) where
   -- no round is broken by an unseen delivery
   pub none_broken : (settings : StationSettings) (stop : Option Stop) (s : Stage) (i : Item) → IsBroken settings f stop s i → ⊥
   none_broken settings stop s i h =
-      let none : h.line.unseen ≡ None = goes_seen _ (started s.line) h.line h.talks refl in
+      let none : h.line.unseen ≡ None = goes_seen (all_said h.tried) (started s.line) h.line h.talks refl in
       let e : Some h.which ≡ None = sym h.unseen ∙ none in
       cc

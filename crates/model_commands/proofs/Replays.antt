@@ -34,18 +34,7 @@ not_begun : (settings : StationSettings) (from : Stage) (steps : List Step) (kno
 not_begun settings from steps known = record {
   items = [];
   is_begun = inl ([], steps, [], from, refl, (refl, refl), inl refl);
-  kept = record {
-    gathers = tt;
-    never_shrinks = tt;
-    acknowledged = tt;
-    complete = tt;
-    stopped = tt;
-    gave_up = tt;
-    once = tt;
-    prints = tt;
-    few = tt;
-    recomputed = tt;
-  };
+  kept = tt;
   written = writes_nothing known [];
 }
 

@@ -14,7 +14,7 @@ use Rattle.station_sim.specs.declared.sim.Sim.{Sim}
 use Rattle.schedule_file.specs.Fates.{Fates}
 use Rattle.station_session.specs.Attempts.{all_said}
 use Rattle.station_session.specs.declared.session.Session.{Session}
-use Rattle.station_replay.specs.Replay.{Does, IsBegun, IsBroken, IsReplay, IsRound, IsUnseen, IsWhole, Item, Opens, OpensNext, Runs, Stage, closing, first, is_stop, opened, start, stops_opening}
+use Rattle.station_replay.specs.Replay.{Does, IsBegun, IsBroken, IsReplay, IsRound, IsUnseen, IsWhole, Item, Opens, OpensNext, Runs, Stage, closing, first, is_stop, left_by_round, opened, start, stops_opening}
 use Rattle.station_replay.specs.Room.{line_of, lines}
 use Rattle.station_replay.specs.Schedule.{IsSchedule, Step, Stop, records}
 use Rattle.station_replay.specs.Stopped.{IsStop}
@@ -67,7 +67,7 @@ does_rounds settings (Step.Idle n) s is u (i, e) = let same : u.rounds ≡ s.rou
 does_rounds settings (Step.Open None) s is u (i, e) = let same : u.rounds ≡ s.rounds = ap (λ (v : Stage). v.rounds) e in omega (arith, same)
 does_rounds settings (Step.Open (Some k)) s is u h = let same = opens_rounds (stops_opening k.change s.archive.size) k s is u h in omega (arith, same)
 does_rounds settings (Step.Round f left stop) s is u (r, made, i) =
-    let same : u.rounds ≡ (opened s.is_open s).rounds + 1 = ap (λ (v : Stage). v.rounds) made.next ∙ after_rounds (is_stop r.end) (opened s.is_open s) made.archive _ in
+    let same : u.rounds ≡ (opened s.is_open s).rounds + 1 = ap (λ (v : Stage). v.rounds) made.next ∙ after_rounds (is_stop r.end) (opened s.is_open s) (left_by_round settings stop (opened s.is_open s) made.made) _ in
     let before = opened_rounds s.is_open s in
     omega (arith, same, before)
 

@@ -16,7 +16,7 @@ use Rattle.schedule_file.specs.Fates.{Fates}
 use Rattle.schedule_file.specs.Lists.{fates_of, left_in}
 use Rattle.station_sim.specs.Standing.{StandsFor}
 use Rattle.station_replay.specs.Keeping.{Archive}
-use Rattle.station_replay.specs.Replay.{IsBroken, Item, Stage, after_round, first, is_stop, opened}
+use Rattle.station_replay.specs.Replay.{IsBroken, Item, Stage, after_round, first, is_stop, left_by_round, opened}
 use Rattle.station_replay.specs.Schedule.{Step, Stop, no_fates}
 use Rattle.station_replay.specs.Round.{tried_of}
 use Rattle.station_session.specs.Attempts.{all_said}
@@ -97,8 +97,8 @@ archive_of false s a w = refl
 pub told_of : (settings : StationSettings) (f : Fates) (left : ℕ → List (List ℕ)) (stop : Option Stop) (openings : ℕ) (s : Stage) (old : Host) (played : Played) (session : Session) (line : Sim) (disk : Stopping MemDisk)
     → (o : IsPlayedOut settings f left stop openings s old played (round_host session line disk)) → IsToldOf settings openings stop session played disk o.round o.next.archive
 told_of settings f left stop openings s old played session line disk o =
-    let arc : o.next.archive ≡ o.is_round.archive = ap (λ u. u.archive) o.is_round.next ∙ archive_of (is_stop o.round.end) s o.is_round.archive _ in
-    let rows : o.round.rows ≡ o.is_round.archive.rows = ap (λ r. r.rows) o.is_round.is in
+    let arc : o.next.archive ≡ left_by_round settings stop s o.is_round.made = ap (λ u. u.archive) o.is_round.next ∙ archive_of (is_stop o.round.end) s (left_by_round settings stop s o.is_round.made) _ in
+    let rows : o.round.rows ≡ (left_by_round settings stop s o.is_round.made).rows = ap (λ r. r.rows) o.is_round.is in
     let same : o.next.archive.rows ≡ o.round.rows = ap (λ a. a.rows) arc ∙ sym rows in
     record { tells = o.tells; rests = o.disk; rows = same; goes_on = λ still. subst (λ z. GoesOn settings z session disk) same (o.session still) }
 
@@ -132,10 +132,10 @@ pub told_after : {T : Type 0} (telling : Telling T) (openings : ℕ) (settings :
 told_after telling openings settings fates stop s old played session line disk now run before a b c o none told rounds written one two =
     let t = is_stop o.round.end in
     let n = o.is_round.next in
-    let arc : o.next.archive ≡ o.is_round.archive = ap (λ u. u.archive) n ∙ archive_of t (opened s.is_open s) o.is_round.archive _ in
-    let open_is : o.next.is_open ≡ not t = ap (λ u. u.is_open) n ∙ after_open t (opened s.is_open s) o.is_round.archive _ in
-    let rounds_are : o.next.rounds ≡ (opened s.is_open s).rounds + 1 = ap (λ u. u.rounds) n ∙ after_rounds t (opened s.is_open s) o.is_round.archive _ in
-    let written_is : o.next.written ≡ (if t then (opened s.is_open s).written else length o.is_round.archive.rows) = ap (λ u. u.written) n ∙ after_written t (opened s.is_open s) o.is_round.archive _ in (
+    let arc : o.next.archive ≡ left_by_round settings (stop_set stop) (opened s.is_open s) o.is_round.made = ap (λ u. u.archive) n ∙ archive_of t (opened s.is_open s) (left_by_round settings (stop_set stop) (opened s.is_open s) o.is_round.made) _ in
+    let open_is : o.next.is_open ≡ not t = ap (λ u. u.is_open) n ∙ after_open t (opened s.is_open s) (left_by_round settings (stop_set stop) (opened s.is_open s) o.is_round.made) _ in
+    let rounds_are : o.next.rounds ≡ (opened s.is_open s).rounds + 1 = ap (λ u. u.rounds) n ∙ after_rounds t (opened s.is_open s) (left_by_round settings (stop_set stop) (opened s.is_open s) o.is_round.made) _ in
+    let written_is : o.next.written ≡ (if t then (opened s.is_open s).written else length (left_by_round settings (stop_set stop) (opened s.is_open s) o.is_round.made).rows) = ap (λ u. u.written) n ∙ after_written t (opened s.is_open s) (left_by_round settings (stop_set stop) (opened s.is_open s) o.is_round.made) _ in (
       first s.is_open s ++ Item.Ran o.round ∷ [],
       o.next,
       (o.round, o.is_round, refl),
