@@ -8,3 +8,4 @@ pub mod OneStation
 pub mod PutPieces
 pub mod StationText
 pub mod Stations
+pub mod UnseenMember

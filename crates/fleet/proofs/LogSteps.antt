@@ -140,7 +140,7 @@ pub record SoFar {M K : Type 0} (turning : Turning M) (outlet : Outlet K) (seed 
   pub few : turns + turns_left turning now.members now.last ≤ turns_left turning old.members old.last
 
 -- where nothing is open no answer is More
-no_more : (n : ℕ) (last : List MemberTurn) (k : ℕ) → open_from n last ≡ [] → slice_index_or last k Ended ≡ More → ⊥
+pub no_more : (n : ℕ) (last : List MemberTurn) (k : ℕ) → open_from n last ≡ [] → slice_index_or last k Ended ≡ More → ⊥
 no_more n [] k none is = absurd (let bad : Ended ≡ More = is in cc)
 no_more n (More ∷ last) k none is = absurd (let bad : n ∷ open_from (n + 1) last ≡ [] = none in cc)
 no_more n (Ended ∷ last) zero none is = absurd (let bad : Ended ≡ More = is in cc)

@@ -1,12 +1,12 @@
 -- How the turns of all stations end.
-use Rattle.std.specs.Prelude.{ℕ, ◌≡◌, ◌≢◌, List, [], ◌∷◌, ◌++◌, length, slice_index_or, Some}
+use Rattle.std.specs.Prelude.{ℕ, ◌≡◌, ◌≢◌, ◌≤◌, List, [], ◌∷◌, ◌++◌, length, slice_index_or, Some}
 use Rattle.causes.specs.Cause.{Cause}
 use Rattle.station_io.specs.Sink.{Outlet}
 use Rattle.fleet.specs.declared.member.MemberTurn.{MemberTurn}
 use Rattle.fleet.specs.declared.member.MemberTurn.TheVariants as member
 use Rattle.fleet.specs.declared.run.FleetEnd.{FleetEnd}
 use Rattle.fleet.specs.declared.run.FleetEnd.TheVariants as fleet
-use Rattle.fleet.specs.Crew.{Crew}
+use Rattle.fleet.specs.Crew.{Crew, last_of}
 use Rattle.fleet.specs.Log.{Along, AreDrawn, IsUncut, switches_in}
 use Rattle.fleet.specs.MemberTurns.{Turning}
 use Rattle.fleet.specs.OpenStations.{least_unseen, open_from}
@@ -43,3 +43,9 @@ pub record RunsFleet {M K : Type 0} (turning : Turning M) (outlet : Outlet K) (s
   pub ends : EndsAs end log new.last
   pub cause : Cause (outlet.faults before) (outlet.faults after) (end ≡ fleet.WriteFault)
   pub still : end ≢ fleet.WriteFault → outlet.faults after ≡ outlet.faults before
+
+-- The station is a member, and its last answer is Unseen.
+pub record IsUnseenMember {M : Type 0} (crew : Crew M) (station : ℕ) : Type 0 where
+  pub from : 1 ≤ station
+  pub to : station ≤ length crew.members
+  pub unseen : last_of crew station ≡ member.Unseen

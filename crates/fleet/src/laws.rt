@@ -1,10 +1,12 @@
 ghost use Rattle.std.specs.Prelude.{ℕ, List, ◌≡◌, ◌≤◌};
-ghost use Rattle.fleet.specs.Crew.{Crew};
+ghost use Rattle.fleet.specs.Crew.{Crew, IsReady};
+ghost use Rattle.fleet.specs.FleetEnds.{IsUnseenMember, RunsFleet};
 ghost use Rattle.fleet.specs.Log.{Along, IsAlone, WrittenBy};
 ghost use Rattle.fleet.specs.StationLines.{AreUncut, lines_of};
 ghost use Rattle.fleet.specs.TurnText.{AreTextsOf, Entry};
 
 use crate::member::Member;
+use crate::run::FleetEnd;
 use station_io::Sink;
 
 /// The turns of other stations have no effect on a station: it is its opening member after its own turns, with their
@@ -31,4 +33,10 @@ pub fn each_station_has_its_lines<M: Member, K: Sink>()
         → ((station : ℕ) → WrittenBy K.outlet station log (texts station))
         → (text : List ℕ) × AreTextsOf K.outlet log text × K.outlet.wrote before text after
         × ((station : ℕ) → lines_of station text ≡ texts station) }
+{}
+
+/// The station that a fleet names for an unseen delivery is one of its members, and that one's last answer is `Unseen`.
+pub fn an_unseen_station_is_a_member<M: Member, K: Sink>()
+    ensures { (seed : ℕ) (old new : Crew M) (before after : K) (station : ℕ) → IsReady M.turning old
+        → RunsFleet M.turning K.outlet seed old before (FleetEnd.Unseen station) new after → IsUnseenMember new station }
 {}
