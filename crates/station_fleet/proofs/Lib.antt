@@ -3,3 +3,4 @@ pub mod NewStation
 pub mod OneTurn
 pub mod OwnRuns
 pub mod WholeTexts
+pub mod OwnTexts

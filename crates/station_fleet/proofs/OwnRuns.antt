@@ -114,7 +114,7 @@ module _ {K : Type 0} (outlet : Outlet K) where
       let apart : k ≢ e.station - 1 = grind (arith, nat_tests) in
       (t, sym (one.others k apart) ∙ is)
 
-  was_member : (old new : Crew Station) (before after : K) (log : List (Entry K)) (k : ℕ) (t : Station)
+  pub was_member : (old new : Crew Station) (before after : K) (log : List (Entry K)) (k : ℕ) (t : Station)
       → Along station_turning outlet old before log new after → slice_get new.members k ≡ Some t
       → (s : Station) × slice_get old.members k ≡ Some s
   was_member old new before after [] k t along is =
