@@ -5,6 +5,8 @@
 mod failing_replay_tests;
 #[cfg(test)]
 mod made_run_tests;
+#[cfg(test)]
+mod narrow_sink;
 mod periods;
 #[cfg(test)]
 mod replay_member;

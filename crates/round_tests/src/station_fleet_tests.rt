@@ -1,6 +1,7 @@
 ghost use Rattle.std.specs.Prelude.{◌<◌, ◌^◌, IfOk};
 ghost use Rattle.station_fleet.specs.StationTurns.{station_turning};
 
+use crate::narrow_sink::NarrowSink;
 use fleet::{Fleet, FleetEnd};
 use loop_packet::LoopPacket;
 use schedule_file::Schedule;
@@ -8,7 +9,7 @@ use schedule_replay::{new_disk, new_line};
 use schedule_steps::accepted;
 use settings_file::Settings;
 use station_fleet::Station;
-use station_io::MemSink;
+use station_io::{MemSink, Sink};
 use std::alloc::Global;
 use std::process::Abort;
 use std::test::Fail;
@@ -33,12 +34,12 @@ fn station(rt: &impl Abort, alloc: Global, text: &str) -> Result<Station, Fail>
 }
 
 // Runs a fleet of three stations, and says how it ended.
-fn run_three(
+fn run_three<K: Sink>(
     rt: &impl Abort,
     alloc: Global,
     schedules: [&str; 3],
     seed: u32,
-    out: &mut MemSink,
+    out: &mut K,
 ) -> Result<FleetEnd, Fail>
     requires { seed < 2 ^ 31 }
 {
@@ -75,5 +76,16 @@ fn the_least_unseen_station_is_named(rt: HostRuntime) -> Result<(), Fail> {
     let mut out = MemSink::new(rt.alloc(), ROOM)?;
     let end = run_three(&rt, rt.alloc(), ["", unseen, unseen], 1, &mut out)?;
     assert_eq!(rt; end, FleetEnd::Unseen(2));
+    Ok(())
+}
+
+#[test]
+fn a_write_may_fail_within_a_number(rt: HostRuntime) -> Result<(), Fail> {
+    // The line of the first turn, and of that of the second its digit.
+    let front = "3 open rows 0\n2";
+    let mut out = NarrowSink::new(rt.alloc(), front.len())?;
+    let end = run_three(&rt, rt.alloc(), ["", "", ""], 1, &mut out)?;
+    assert_eq!(rt; end, FleetEnd::WriteFault);
+    assert!(rt; out.taken.bytes() == front.as_bytes());
     Ok(())
 }
