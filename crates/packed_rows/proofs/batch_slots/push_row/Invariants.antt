@@ -5,7 +5,7 @@ use Rattle.station_base.specs.declared.row.Row.{Row}
 use Rattle.packed_rows.specs.Closing.{closing_slot}
 use Rattle.packed_rows.specs.Packed.{joined_slots}
 use Rattle.packed_rows.specs.Tail.{EndsRows}
-use Rattle.packed_rows.proofs.pack.push_row.Given as goal
+use Rattle.packed_rows.proofs.batch_slots.push_row.Given as goal
 
 abbrev pub invariant-loop-k : goal.invariant-loop-k
 invariant-loop-k l = record {

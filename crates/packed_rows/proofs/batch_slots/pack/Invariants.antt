@@ -5,7 +5,7 @@ use Rattle.packed_rows.specs.Packed.{joined_slots, AreReadBack}
 use Rattle.packed_rows.specs.Rising.{rise}
 use Rattle.packed_rows.specs.Rows.{slots_after}
 use Rattle.packed_rows.specs.Tail.{EndsRows}
-use Rattle.packed_rows.proofs.pack.pack.Given as goal
+use Rattle.packed_rows.proofs.batch_slots.pack.Given as goal
 
 abbrev pub invariant-loop-row : goal.invariant-loop-row
 invariant-loop-row l = record {

@@ -4,7 +4,7 @@ use Rattle.row_slot.specs.Slot.{row_in}
 use Rattle.std.specs.Prelude.{Option}
 use Rattle.packed_rows.specs.Closing.{closings, begins_day}
 use Rattle.packed_rows.proofs.Packing.{one_closing, is_thirteen, slots_and_row, small_closings}
-use Rattle.packed_rows.proofs.pack.push_row.Goals as goal
+use Rattle.packed_rows.proofs.batch_slots.push_row.Goals as goal
 
 pub closing_slot-slot-requires : goal.closing_slot-slot-requires
 closing_slot-slot-requires c = let few = small_closings (begins_day c.args.tail.now.last c.args.row.now.stamp) in omega (arith, few, c.closings-k-end.ensures)

@@ -12,7 +12,7 @@ use Rattle.station_base.specs.RowLine.{IsPrintable}
 use Rattle.station_base.specs.declared.row.Row.{Row}
 use Rattle.packed_rows.specs.Packed.{joined_slots, AreReadBack}
 use Rattle.packed_rows.proofs.Packing.{packed_at, read_back_at, rises_at, rises_on, front_at}
-use Rattle.packed_rows.proofs.pack.pack.Goals as goal
+use Rattle.packed_rows.proofs.batch_slots.pack.Goals as goal
 
 pub push_row-requires-clause-room : goal.push_row-requires-clause-room
 push_row-requires-clause-room c = omega (arith, c.loop-row.invariant.size, c.loop-row-test.true, c.requires.few)
