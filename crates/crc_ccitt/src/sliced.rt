@@ -2,6 +2,7 @@ ghost use Rattle.std.specs.Prelude.{◌≡◌, ℕ, ◌<◌, fold};
 ghost use Rattle.std.specs.List.{concat};
 ghost use Rattle.crc_ccitt.specs.Tables.{entry};
 ghost use Rattle.crc_ccitt.specs.Check.{check, bits, IsRemainder, message_bits, divided};
+ghost use Rattle.crc_ccitt.specs.Words.{after_word};
 
 use crate::table::TABLES;
 
@@ -18,13 +19,48 @@ pub fn crc(bytes: &[u8]) -> u16
 
 // The remainder after chunks of eight bytes.
 fn after_chunks(chunks: &[[u8; 8]]) -> u16
-    ensures { result ≡ fold divided 0 (message_bits (concat chunks.now)) }
+    ensures { result ≡ check (concat chunks.now) }
+{
+    let mut words = [0; 4];
+    for chunk in chunks {
+        fold_in(&mut words, chunk);
+    }
+    after_words(&words)
+}
+
+// Puts a chunk behind four words and takes the first word away. The remainder stays.
+//
+// A square over two elements has no mixed terms, so the sixteenth power of the polynomial is x^256 + x^192 + x^80 + 1.
+// The first word stands at x^256. It is added at x^192, x^80 and 1 instead.
+fn fold_in(words: &mut [u64; 4], chunk: &[u8; 8])
+    ensures { fold after_word 0 words.new ≡ fold divided (fold after_word 0 words.old) (message_bits chunk.now) }
+{
+    let [first, second, third, fourth] = *words;
+    let next = u64::from_be_bytes(*chunk);
+    *words = [
+        second ^ first,
+        third ^ (first >> 48),
+        fourth ^ (first << 16),
+        next ^ first,
+    ];
+}
+
+// The remainder of four words.
+fn after_words(words: &[u64; 4]) -> u16
+    ensures { result ≡ fold after_word 0 words.now }
 {
     let mut rest = 0;
-    for chunk in chunks {
-        rest = after_chunk(rest, chunk);
+    for word in words {
+        rest = after_word(rest, *word);
     }
     rest
+}
+
+// The remainder after one more word.
+fn after_word(rest: u16, word: u64) -> u16
+    ensures { result ≡ after_word rest word }
+{
+    after_chunk(rest, &word.to_be_bytes())
 }
 
 // The remainder after more bytes.
