@@ -10,6 +10,8 @@
 #include <sys/stat.h>
 #include <unistd.h>
 
+#include "stamp.h"
+
 enum { PAGE = 267, FIRST_SLOT = 1, SLOT = 52, SLOTS = 5, TIME = 2, OUTSIDE = 4, REVISION = 42, MISSING = 32767 };
 enum { BLOCK = 16, BLOCKS = PAGE / BLOCK, FRONT = PAGE % BLOCK, POLYNOMIAL = 0x1021 };
 enum { PIECE = 1 << 16, LINE = 64 };
@@ -71,15 +73,6 @@ static unsigned word(const uint8_t *bytes) {
 
 static int is_empty(const uint8_t *slot) {
     return slot[0] == 0xFF && memcmp(slot, slot + 1, SLOT - 1) == 0;
-}
-
-static int is_stamp(unsigned date, unsigned time) {
-    static const unsigned days[] = {31, 28, 31, 30, 31, 30, 31, 31, 30, 31, 30, 31};
-    unsigned year = 2000 + date / 512, month = date / 32 % 16, day = date % 32;
-    if (month < 1 || month > 12 || time / 100 > 23 || time % 100 > 59)
-        return 0;
-    unsigned leap = month == 2 && year % 4 == 0 && (year % 100 != 0 || year % 400 == 0);
-    return day >= 1 && day <= days[month - 1] + leap;
 }
 
 static char *print_text(char *to, const char *text) {

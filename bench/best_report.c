@@ -10,6 +10,8 @@
 #include <string.h>
 #include <unistd.h>
 
+#include "stamp.h"
+
 enum { SLOT = 176, SLOTS = 1024, FIELDS = 37, PARTS = 13, SUMS = 3, GREATEST = 2000000 };
 enum { KIND = 1, BATCH = 2, DATE = 4, TIME = 6, MINUTES = 8, SPARE = 10, PRESENCE = 12, VALUES = 20, LIMITED = 168 };
 enum { ROW_KIND = 1, PART_KIND = 2, DAY = 4, PART = 8, ROWS = 12, PART_SUMS = 24 };
@@ -68,15 +70,6 @@ static uint64_t bits(const uint8_t *bytes) {
     uint64_t value;
     memcpy(&value, bytes, sizeof value);
     return value;
-}
-
-static int is_stamp(unsigned date, unsigned time) {
-    static const unsigned days[] = {31, 28, 31, 30, 31, 30, 31, 31, 30, 31, 30, 31};
-    unsigned year = 2000 + date / 512, month = date / 32 % 16, day = date % 32;
-    if (month < 1 || month > 12 || time / 100 > 23 || time % 100 > 59)
-        return 0;
-    unsigned leap = month == 2 && year % 4 == 0 && (year % 100 != 0 || year % 400 == 0);
-    return day >= 1 && day <= days[month - 1] + leap;
 }
 
 /* The archive day, from 1970-01-01 on: a row of midnight is of the day that ends. */

@@ -5,6 +5,8 @@
 #include <stdlib.h>
 #include <string.h>
 
+#include "stamp.h"
+
 enum { PAGE = 267, SLOT = 52, SLOTS = 5 };
 
 static uint16_t table[256];
@@ -34,15 +36,6 @@ static int is_empty(const uint8_t *slot) {
         if (slot[i] != 0xFF)
             return 0;
     return 1;
-}
-
-static int is_stamp(unsigned date, unsigned time) {
-    static const unsigned days[] = {31, 28, 31, 30, 31, 30, 31, 31, 30, 31, 30, 31};
-    unsigned year = 2000 + date / 512, month = date / 32 % 16, day = date % 32;
-    if (month < 1 || month > 12 || time / 100 > 23 || time % 100 > 59)
-        return 0;
-    unsigned leap = month == 2 && year % 4 == 0 && (year % 100 != 0 || year % 400 == 0);
-    return day >= 1 && day <= days[month - 1] + leap;
 }
 
 static void print_slot(size_t page, int place, const uint8_t *slot) {
