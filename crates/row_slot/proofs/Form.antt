@@ -1,6 +1,7 @@
 -- A slot is read exactly where it is well-formed.
 use Rattle.std.proofs.Common.{◌≡◌, ℕ, zero, suc, ℤ, ◌+◌, ◌*◌, ◌<◌, ◌==◌, ◌↔◌, Bool, true, false, List, drop, get_or, arith, Option, Some, None, refl, sym, ap, ◌∙◌}
 use Rattle.std.specs.Prelude.{IsSome, is_some, not, ◌&&◌}
+use Rattle.std.specs.Bool.{then_some}
 use Rattle.std.specs.Int.{bit_at}
 use Rattle.std.proofs.lemmas.Nat.Bits.{bit_at-lt}
 use Rattle.std.proofs.lemmas.Bool.{false≢true}
@@ -91,10 +92,11 @@ formed_read slot is =
     some_row (is_marked slot) (is_period (interval_in slot)) (stamp_in slot) (interval_in slot) (values_in 37 (number_at 8 12 slot) (drop 20 slot)) (limited_in slot)
     (is_marked-marks slot marks) is.stamp is.interval (some_read 37 (number_at 8 12 slot) (drop 20 slot) fields) (missing_of slot is)
 
-some_formed : (slot : List ℕ) (read : Option Row) → row_in slot ≡ read → IsSome read → IsWellFormed slot
-some_formed slot None is some = absurd (false≢true some)
-some_formed slot (Some row) is some = read_formed slot row is
-
 -- a slot is read as a row exactly where it is well-formed
-pub read_where_formed : (slot : List ℕ) (read : Option Row) → read ≡ row_in slot → IsSome read ↔ IsWellFormed slot
-read_where_formed slot read is = (some_formed slot read (sym is), λ formed. ap is_some is ∙ formed_read slot formed)
+pub read_where_formed : (slot : List ℕ) (is_row : Bool) (row : Row) → row_in slot ≡ then_some is_row row → (is_row ≡ true) ↔ IsWellFormed slot
+read_where_formed slot true row is = (λ _. read_formed slot row is, λ _. refl)
+read_where_formed slot false row is = (λ e. absurd (false≢true e), λ formed. absurd (false≢true (sym (ap is_some is) ∙ formed_read slot formed)))
+
+-- the row that was read, where one was
+pub read_when : (slot : List ℕ) (is_row : Bool) (row : Row) → row_in slot ≡ then_some is_row row → is_row ≡ true → row_in slot ≡ Some row
+read_when slot is_row row is read = is ∙ ap (λ (b : Bool). then_some b row) read

@@ -7,6 +7,6 @@ mod values;
 mod writing;
 
 pub use layout::ROW_SIZE;
-pub use reading::read;
+pub use reading::read_into;
 pub use values::limited_in;
 pub use writing::write;

@@ -1,4 +1,5 @@
-ghost use Rattle.std.specs.Prelude.{◌≡◌, ◌+◌, ◌≤◌, ◌↔◌, All, IfSome, IsSome};
+ghost use Rattle.std.specs.Prelude.{◌≡◌, ◌+◌, ◌≤◌, ◌↔◌, All, true};
+ghost use Rattle.std.specs.Bool.{then_some};
 ghost use Rattle.station_base.specs.FieldSet.{AreMissing};
 ghost use Rattle.station_base.specs.RowLine.{IsPrintable};
 ghost use Rattle.row_slot.specs.Slot.{is_marked, number_at, row_in, slot_of};
@@ -7,40 +8,47 @@ ghost use Rattle.row_slot.specs.WellFormed.{IsWellFormed};
 use crate::layout::{BATCH, DATE, GATE, INTERVAL, KIND, ROW, ROW_SIZE, SPARE, TIME};
 use crate::values::{are_missing, limited_in, read_values};
 use byteorder::{ByteOrder, LittleEndian};
-use station_base::{FIELD_COUNT, Period, Row, Stamp};
+use station_base::{Period, Row, Stamp};
 
-/// The row of a slot, and none where the slot is ill-formed: its kind is not that of a row, a byte that should be 0 is
-/// not, its words name no stamp, its interval is no period, a value is beyond 2,000,000 either way or not 0 where it is
-/// missing, or a field that limits made missing is none of the 37 or has a value.
+/// Reads the row of a slot into a place that the caller lends, and returns whether the slot is well-formed. If it is
+/// not, what the place then holds means nothing.
 ///
-/// The gate and the number of slots are to be 0, as they are in a slot that is handed to a log.
+/// A slot is ill-formed if its kind is not that of a row, a byte that should be 0 is not, its words name no stamp, its
+/// interval is no period, a value is beyond 2,000,000 either way or not 0 where it is missing, or a field that limits
+/// made missing is none of the 37 or has a value. The gate and the number of slots are to be 0, as they are in a slot
+/// that is handed to a log.
+pub fn read_into(slot: &[u8; ROW_SIZE], row: &mut Row) -> bool
+    ensures row { row_in slot.now ≡ then_some result row.new }
+    ensures well_formed { (result ≡ true) ↔ IsWellFormed slot.now }
+    ensures printable { result ≡ true → All IsPrintable row.new.values }
+    ensures limited { result ≡ true → AreMissing row.new.limited row.new.values }
+    ensures written_back { result ≡ true → slot.now ≡ slot_of row.new }
+{
+    read_parts(slot, row)
+}
+
+// Reads each part of a slot into the row's, as far as the first that is ill-formed.
 #[tactic(auto, unfolding(crate::specs::Slot::row_in))]
-pub fn read(slot: &[u8; ROW_SIZE]) -> Option<Row>
-    ensures row { result ≡ row_in slot.now }
-    ensures well_formed { IsSome result ↔ IsWellFormed slot.now }
-    ensures printable { IfSome result (λ row. All IsPrintable row.values) }
-    ensures limited { IfSome result (λ row. AreMissing row.limited row.values) }
-    ensures written_back { IfSome result (λ row. slot.now ≡ slot_of row) }
+fn read_parts(slot: &[u8; ROW_SIZE], row: &mut Row) -> bool
+    ensures { row_in slot.now ≡ then_some result row.new }
 {
     if !is_marked(slot) {
-        return None;
+        return false;
     }
-    let stamp = Stamp::from_words(word_at(slot, DATE), word_at(slot, TIME))?;
-    let interval = Period::from_minutes(word_at(slot, INTERVAL))?;
-    let mut row = Row {
-        stamp,
-        interval,
-        values: [None; FIELD_COUNT],
-        limited: limited_in(slot),
+    let Some(stamp) = Stamp::from_words(word_at(slot, DATE), word_at(slot, TIME)) else {
+        return false;
     };
+    let Some(interval) = Period::from_minutes(word_at(slot, INTERVAL)) else {
+        return false;
+    };
+    row.stamp = stamp;
+    row.interval = interval;
+    row.limited = limited_in(slot);
     let allowed = read_values(slot, &mut row.values);
     if !allowed {
-        return None;
+        return false;
     }
-    if !are_missing(row.limited, &row.values) {
-        return None;
-    }
-    Some(row)
+    are_missing(row.limited, &row.values)
 }
 
 // Whether the slot is one of a row, and its bytes that belong to no part are 0.

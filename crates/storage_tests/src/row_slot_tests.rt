@@ -1,4 +1,4 @@
-use row_slot::{ROW_SIZE, read, write};
+use row_slot::{ROW_SIZE, read_into, write};
 use station_base::{Period, Row, Stamp};
 
 // The row of 2024-07-01 00:05 with the values 650, -4 and 2,000,000 in the fields 0, 16 and 36, as another program
@@ -26,7 +26,9 @@ fn a_row_is_written_and_read_back(rt: HostRuntime) {
     row.values[16] = Some(-4);
     row.values[36] = Some(2_000_000);
     assert!(rt; write(&row) == SLOT);
-    assert!(rt; read(&SLOT) == Some(row));
+    let mut again = Row::default();
+    assert!(rt; read_into(&SLOT, &mut again));
+    assert!(rt; again == row);
 }
 
 #[test]
@@ -50,6 +52,7 @@ fn one_wrong_byte_makes_a_slot_ill_formed(rt: HostRuntime) {
     for (fault, place, byte) in faults {
         let mut slot = SLOT;
         slot[place] = byte;
-        assert!(rt; read(&slot).is_none(), "{fault}");
+        let mut row = Row::default();
+        assert!(rt; !read_into(&slot, &mut row), "{fault}");
     }
 }
