@@ -16,13 +16,13 @@ pub record EndsRows (tail : Tail) (rows : List Row) : Type 0 where
   pub last : tail.last ≡ last_stamp rows
   pub running : tail.running ≡ summary_of (last_day_rows rows)
 
--- what a slot is behind these rows and so many summary slots
-abbrev pub Judges : Judged → List Row → ℕ → List ℕ → Type 0
-Judges (TheRow row) rows shown slot = (row_in slot ≡ Some row) × (may_follow rows shown row ≡ true)
-Judges Closing rows shown slot = (row_in slot ≡ None) × (is_closing rows shown slot ≡ true)
-Judges Wrong rows shown slot = is_right rows shown slot (row_in slot) ≡ false
+-- what a slot is behind these rows and so many summary slots, and the row that was read from it
+abbrev pub Judges : Judged → Row → List Row → ℕ → List ℕ → Type 0
+Judges TheRow row rows shown slot = (row_in slot ≡ Some row) × (may_follow rows shown row ≡ true)
+Judges Closing row rows shown slot = (row_in slot ≡ None) × (is_closing rows shown slot ≡ true)
+Judges Wrong row rows shown slot = is_right rows shown slot (row_in slot) ≡ false
 
--- the row, of a slot that has one
-abbrev pub OnRowJudged : Judged → (Row → Type 0) → Type 0
-OnRowJudged (TheRow row) P = P row
-OnRowJudged other P = Unit {0}
+-- a property that holds if the slot has a row that may stand there
+abbrev pub OnRowJudged : Judged → Type 0 → Type 0
+OnRowJudged TheRow p = p
+OnRowJudged other p = Unit {0}

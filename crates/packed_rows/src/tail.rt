@@ -36,7 +36,7 @@ pub struct Tail {
 /// What a slot is, by what stands before it.
 pub enum Judged {
     // A row that may stand there.
-    Row(Row),
+    Row,
     // The next of the slots that close the last row's day.
     Closing,
     // Neither.
@@ -138,40 +138,42 @@ impl Tail {
         slot == closing
     }
 
-    /// What a slot of an archive of this version is behind so many summary slots.
-    pub fn judge_as(&self, version: Version, shown: u8, slot: &[u8; SLOT_SIZE]) -> Judged
-        ensures judges { (rows : List Row) → EndsRows self.now rows → Judges result rows shown (as_read version slot.now) }
-        ensures printable { OnRowJudged result (λ row. All IsPrintable row.values) }
-        ensures back { OnRowJudged result IsReadBack }
+    /// What a slot of an archive of this version is behind so many summary slots. A row that may stand there is then in
+    /// the place that the caller lends; what this place holds otherwise means nothing.
+    pub fn judge_as(
+        &self,
+        version: Version,
+        shown: u8,
+        slot: &[u8; SLOT_SIZE],
+        row: &mut Row,
+    ) -> Judged
+        ensures judges { (rows : List Row) → EndsRows self.now rows → Judges result row.new rows shown (as_read version slot.now) }
+        ensures printable { OnRowJudged result (All IsPrintable row.new.values) }
+        ensures back { OnRowJudged result (IsReadBack row.new) }
     {
         let known = is_known(version, slot);
         if !known {
             return Judged::Wrong;
         }
-        self.judge(shown, slot)
+        self.judge(shown, slot, row)
     }
 
     // What a slot is behind so many summary slots.
-    fn judge(&self, shown: u8, slot: &[u8; SLOT_SIZE]) -> Judged
-        ensures judges { (rows : List Row) → EndsRows self.now rows → Judges result rows shown slot.now }
-        ensures printable { OnRowJudged result (λ row. All IsPrintable row.values) }
-        ensures back { OnRowJudged result IsReadBack }
+    fn judge(&self, shown: u8, slot: &[u8; SLOT_SIZE], row: &mut Row) -> Judged
+        ensures judges { (rows : List Row) → EndsRows self.now rows → Judges result row.new rows shown slot.now }
+        ensures printable { OnRowJudged result (All IsPrintable row.new.values) }
+        ensures back { OnRowJudged result (IsReadBack row.new) }
     {
-        match row_slot::read(slot) {
-            Some(row) => {
-                if self.may_follow(shown, &row) {
-                    Judged::Row(row)
-                } else {
-                    Judged::Wrong
-                }
+        if row_slot::read_into(slot, row) {
+            if self.may_follow(shown, row) {
+                Judged::Row
+            } else {
+                Judged::Wrong
             }
-            None => {
-                if self.is_closing(shown, slot) {
-                    Judged::Closing
-                } else {
-                    Judged::Wrong
-                }
-            }
+        } else if self.is_closing(shown, slot) {
+            Judged::Closing
+        } else {
+            Judged::Wrong
         }
     }
 }

@@ -11,4 +11,4 @@ returns-then-not-known-clause-judges c rows ends =
 pub returns-clause-judges : goal.returns-clause-judges
 returns-clause-judges c rows ends =
     let known : is_known c.args.version c.args.slot.now ≡ true = sym c.is_known-known.ensures ∙ c.if-not-known.false in
-    subst (λ (b : Bool). Judges c.judge.result rows c.args.shown (cond b c.args.slot.now [])) (sym known) (c.judge.ensures.judges rows ends)
+    subst (λ (b : Bool). Judges c.judge.result c.judge.new.row rows c.args.shown (cond b c.args.slot.now [])) (sym known) (c.judge.ensures.judges rows ends)
