@@ -1,4 +1,5 @@
-ghost use Rattle.std.specs.Prelude.{ℕ, ℤ, All, IfSome, false, ◌≡◌, ◌≤◌, ◌+◌, ◌*◌, ◌/◌, [], ◌∷◌, List, Some, length, take, drop};
+ghost use Rattle.std.specs.Prelude.{ℕ, ℤ, All, true, false, ◌≡◌, ◌≤◌, ◌+◌, ◌*◌, ◌/◌, [], ◌∷◌, List, Some, length, take, drop};
+ghost use Rattle.std.specs.Bool.{then_some};
 ghost use Rattle.causes.specs.Told.{WhereTold};
 ghost use Rattle.disk_model.specs.Disk.{Stays, Faults, Looks};
 ghost use Rattle.gated_log.specs.Calls.{Looked};
@@ -25,38 +26,53 @@ use gated_log::{GatedLog, SLOT_SIZE, Version};
 use packed_rows::{PART, is_known, without_marks};
 use station_base::Row;
 
-// The row of a slot as its version reads it, and none where it is ill-formed.
-fn read_as(version: Version, slot: &[u8; SLOT_SIZE]) -> Option<Row>
-    ensures row { result ≡ row_in (as_read version slot.now) }
-    ensures printable { IfSome result (λ row. All IsPrintable row.values) }
-    ensures limited { IfSome result (λ row. AreMissing row.limited row.values) }
+// Reads the row of a slot as its version reads it, and returns whether the slot is well-formed.
+fn read_as(version: Version, slot: &[u8; SLOT_SIZE], row: &mut Row) -> bool
+    ensures row { row_in (as_read version slot.now) ≡ then_some result row.new }
+    ensures printable { result ≡ true → All IsPrintable row.new.values }
+    ensures limited { result ≡ true → AreMissing row.new.limited row.new.values }
 {
     let known = is_known(version, slot);
-    if known { row_slot::read(slot) } else { None }
+    if !known {
+        return false;
+    }
+    row_slot::read_into(slot, row)
 }
 
-// The same with its gate and the number of its batch's slots aside, and the `Default` row where it is ill-formed.
+// The same with its gate and the number of its batch's slots aside. If the slot is ill-formed, the row is the
+// `Default` one.
+fn read_row(version: Version, slot: &[u8; SLOT_SIZE], row: &mut Row)
+    ensures row { row.new ≡ row_back version slot.now }
+    ensures printable { All IsPrintable row.new.values }
+    ensures limited { AreMissing row.new.limited row.new.values }
+{
+    let is_row = read_as(version, &without_marks(slot), row);
+    if !is_row {
+        *row = Row::default();
+    }
+}
+
+// The row of a slot, read so.
 pub(crate) fn row_of(version: Version, slot: &[u8; SLOT_SIZE]) -> Row
     ensures row { result ≡ row_back version slot.now }
     ensures printable { All IsPrintable result.values }
     ensures limited { AreMissing result.limited result.values }
 {
-    match read_as(version, &without_marks(slot)) {
-        Some(row) => row,
-        None => Row::default(),
-    }
+    let mut row = Row::default();
+    read_row(version, slot, &mut row);
+    row
 }
 
-// The row of slot `k` of these.
-fn row_at(version: Version, bytes: &[u8], k: usize) -> Row
+// Reads the row of slot `k` of these.
+fn read_at(version: Version, bytes: &[u8], k: usize, row: &mut Row)
     requires { 176 * (k + 1) ≤ length bytes.now }
-    ensures row { result ≡ row_back version (take 176 (drop (176 * k) bytes.now)) }
-    ensures printable { All IsPrintable result.values }
-    ensures limited { AreMissing result.limited result.values }
+    ensures row { row.new ≡ row_back version (take 176 (drop (176 * k) bytes.now)) }
+    ensures printable { All IsPrintable row.new.values }
+    ensures limited { AreMissing row.new.limited row.new.values }
 {
     let mut slot = [0; SLOT_SIZE];
     slot.copy_from_slice(&bytes[SLOT_SIZE * k..SLOT_SIZE * k + SLOT_SIZE]);
-    row_of(version, &slot)
+    read_row(version, &slot, row);
 }
 
 // Reads so many slots from number `place` on, and pushes the row of each.
@@ -92,8 +108,10 @@ pub(crate) fn read_slots<D: Disk>(
         Disked::Failed => return RowsAnswer::DiskFault,
     }
     let version = log.version();
+    let mut row = Row::default();
     for k in 0..count {
-        into.push(row_at(version, bytes, k));
+        read_at(version, bytes, k, &mut row);
+        into.push(row);
     }
     RowsAnswer::Done
 }
