@@ -58,26 +58,26 @@ pub(crate) fn sum_of_row(row: &Row, value: i32) -> FieldSum
 
 impl FieldSum {
     // Keeps the lesser of its least value and a later one, and of equal ones the earlier.
-    fn lower_to(&mut self, value: i32, at: Stamp)
+    fn lower_to(&mut self, value: i32, at: &Stamp)
         ensures least { self.new.least ≡ (if int_lt value self.old.least then value else self.old.least) }
-        ensures at { self.new.least_at ≡ (if int_lt value self.old.least then at else self.old.least_at) }
+        ensures at { self.new.least_at ≡ (if int_lt value self.old.least then at.now else self.old.least_at) }
         ensures others { AreEqualButLeast self.old self.new }
     {
         if value < self.least {
             self.least = value;
-            self.least_at = at;
+            self.least_at = *at;
         }
     }
 
     // Keeps the greater of its greatest value and a later one, and of equal ones the earlier.
-    fn raise_to(&mut self, value: i32, at: Stamp)
+    fn raise_to(&mut self, value: i32, at: &Stamp)
         ensures greatest { self.new.greatest ≡ (if int_lt self.old.greatest value then value else self.old.greatest) }
-        ensures at { self.new.greatest_at ≡ (if int_lt self.old.greatest value then at else self.old.greatest_at) }
+        ensures at { self.new.greatest_at ≡ (if int_lt self.old.greatest value then at.now else self.old.greatest_at) }
         ensures others { AreEqualButGreatest self.old self.new }
     {
         if self.greatest < value {
             self.greatest = value;
-            self.greatest_at = at;
+            self.greatest_at = *at;
         }
     }
 
@@ -90,8 +90,8 @@ impl FieldSum {
         ensures bounds { IsSumOf (self.old.count + 1) self.new }
     {
         let seconds = seconds_of(row);
-        self.lower_to(value, row.stamp);
-        self.raise_to(value, row.stamp);
+        self.lower_to(value, &row.stamp);
+        self.raise_to(value, &row.stamp);
         self.sum += i64::from(value);
         self.count += 1;
         self.wsum += i64::from(value) * i64::from(seconds);
@@ -106,8 +106,8 @@ impl FieldSum {
         ensures exact { self.new ≡ joined self.old later.now }
         ensures bounds { IsSum self.new }
     {
-        self.lower_to(later.least, later.least_at);
-        self.raise_to(later.greatest, later.greatest_at);
+        self.lower_to(later.least, &later.least_at);
+        self.raise_to(later.greatest, &later.greatest_at);
         self.sum += later.sum;
         self.count += later.count;
         self.wsum += later.wsum;
