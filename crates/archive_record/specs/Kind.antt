@@ -29,6 +29,7 @@ least_of Word = pos 0
 least_of Byte = pos 0
 least_of Degrees = negsuc 89
 
+-- the greatest value that a number of this kind can mean
 abbrev pub greatest_of : Kind → ℤ
 greatest_of SignedWord = pos 32767
 greatest_of Word = pos 65535

@@ -10,6 +10,7 @@ use Rattle.archive_record.specs.declared.record_read.RecordRead.TheVariants.{Row
 use Rattle.archive_record.specs.declared.record_read.RecordRead.TheVariants.{OtherRevision, BadStamp}
 use Rattle.archive_record.specs.Reading.{reading}
 
+-- the reading is a row
 abbrev pub IsRow : RecordRead → Type 0
 IsRow (ReadRow row) = Unit {0}
 IsRow Empty = ⊥

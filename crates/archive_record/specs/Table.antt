@@ -10,6 +10,7 @@ pub record FieldPlace : Type 0 where
   pub name : List ℕ
   pub place : Place
 
+-- a place at this offset, of this kind and with this mark
 abbrev pub place : ℕ → Kind → Option ℕ → Place
 place offset kind mark = record { offset = offset; kind = kind; mark = mark }
 

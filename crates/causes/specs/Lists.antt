@@ -1,4 +1,4 @@
--- Words about lists: the front of another list, and bytes.
+-- Words about lists: a prefix of another list, and bytes.
 use Rattle.std.specs.Prelude.{ℕ, ◌≡◌, ◌<◌, List, ◌++◌}
 use Rattle.std.proofs.Common.{get_or}
 

@@ -31,7 +31,7 @@ pub record IsServed (k : model.Console) (after : Console) (t : List TalkItem) : 
   pub said : said_items t ≡ replies k t
   pub stands : StandsFor after (console_after k t)
 
--- The console met a front of what came, a front of its replies to that was said, and there the serving broke off.
+-- The console met a prefix of what came, a prefix of its replies to that was said, and there the serving broke off.
 pub record BreaksOff (k : model.Console) (after : Console) (t : List TalkItem) : Type 0 where
   pub met : List TalkItem
   pub came : IsFrontOf met t
@@ -62,7 +62,7 @@ pub record IsAnswered (k : model.Console) (after : Console) (came t : List TalkI
   pub said : t ≡ replies k came
   pub stands : StandsFor after (console_after k came)
 
--- Of what came the console met a front, and this is a front of its replies to that.
+-- Of what came the console met a prefix, and this is a prefix of its replies to that.
 pub record IsAnsweredInPart (k : model.Console) (after : Console) (came t : List TalkItem) : Type 0 where
   pub met : List TalkItem
   pub front : IsFrontOf met came
@@ -75,7 +75,7 @@ Replies end.Done came before after t = (k : model.Console) → StandsFor before 
 Replies end.LinkFault came before after t = (k : model.Console) → StandsFor before k → IsAnsweredInPart k after came t
 Replies end.OutOfMemory came before after t = (k : model.Console) → StandsFor before k → IsAnsweredInPart k after came t
 
--- a reply is said as one message, and its bytes are counted, or a front of it is said
+-- a reply is said as one message, and its bytes are counted, or a prefix of it is said
 abbrev pub SaysReply : ServeEnd → List ℕ → Served → Served → List TalkItem → Type 0
 SaysReply end.Done bytes old new t = (t ≡ message bytes) × (new.said ≡ old.said + length bytes)
 SaysReply end.LinkFault bytes old new t = IsFront bytes t

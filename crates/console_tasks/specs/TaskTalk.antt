@@ -38,7 +38,7 @@ TaskTalk exchanges talk answers end =
     ⊎ ((awake ≡ false) × (rest ≡ []) × (answers ≡ []) × (end ≡ task_end.Asleep))))
     ⊎ (Floods talk × (answers ≡ []) × (end ≡ task_end.Flood))
 
--- such a talk was cut off: it is the front of one, and not the whole
+-- such a talk was cut off: it is a prefix of one, and not the whole
 abbrev pub IsCutTalk : Grammar → List TalkItem → Type 0
 IsCutTalk Talk t = IsCutOff (λ u. (answers : List (List ℕ)) × (end : TaskEnd) × Talk u answers end) t
 

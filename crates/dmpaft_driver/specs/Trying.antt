@@ -25,7 +25,7 @@ Differs [] items = Unit {0}
 Differs (b ∷ bs) [] = Unit {0}
 Differs (b ∷ bs) (i ∷ items) = is_said (Said b (is_last bs)) i ≡ false
 
--- So many of the items, and no more, are the front of the message of these bytes.
+-- So many of the items, and no more, are a prefix of the message of these bytes.
 pub record Spells (words : List ℕ) (items : List TalkItem) (count : ℕ) (left : List ℕ) (rest : List TalkItem)
     : Type 0 where
   pub said : List TalkItem

@@ -35,7 +35,7 @@ replay_status replay_end.WriteFault = ends.WriteFault
 replay_status replay_end.OutOfMemory = ends.OutOfMemory
 
 -- what is written of a run of steps, by how its replay ends: the text of all its items, of those up to the round in which
--- a delivery was unseen, or a front
+-- a delivery was unseen, or a prefix
 abbrev pub WritesRun : ReplayEnd → StationSettings → Stage → List Step → Option (List ℕ) → Option (List ℕ) → Type 0
 WritesRun replay_end.Done settings from steps old new = IsReplayed false settings from steps old new
 WritesRun replay_end.Unseen settings from steps old new = IsReplayed true settings from steps old new
@@ -43,7 +43,7 @@ WritesRun replay_end.WriteFault settings from steps old new = IsCutOff settings 
 WritesRun replay_end.OutOfMemory settings from steps old new = IsCutOff settings from steps old new
 
 -- The steps were run over a new console of the settings' period, with a blank packet, and an archive that was never
--- opened. What is kept of the run is written, or a front of it, and no last line is left.
+-- opened. What is kept of the run is written, or a prefix of it, and no last line is left.
 pub record replays {S : Type 0} (outlet : Outlet S) (settings : StationSettings) (steps : List Step)
     (old : S) (result : Result Lines Output) (new : S) : Type 0 where
   pub packet : LoopPacket

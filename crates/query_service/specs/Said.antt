@@ -13,7 +13,7 @@ use Rattle.weather_reports.specs.Wrote.{Wrote}
 use Rattle.weather_reports.specs.declared.end.ReportEnd.{ReportEnd}
 use Rattle.weather_reports.specs.declared.end.ReportEnd.TheVariants.{Done, DiskFault, WriteFault}
 
--- all of an answer, or a front of it if it broke off
+-- all of an answer, or a prefix of it if it broke off
 abbrev pub IsReply : List ℕ → ReportEnd → List ℕ → Type 0
 IsReply answer Done written = written ≡ answer
 IsReply answer DiskFault written = IsFrontOf written answer

@@ -28,7 +28,7 @@ AreAnswers rows [] bytes = bytes ≡ []
 AreAnswers rows (line ∷ lines) bytes =
     (request : Request) × (rest : List ℕ) × Asks line request × (bytes ≡ answer_to rows request ++ rest) × AreAnswers rows lines rest
 
--- nothing, or a front of the answer to the first line
+-- nothing, or a prefix of the answer to the first line
 abbrev pub IsBegun : List Row → List (List ℕ) → List ℕ → Type 0
 IsBegun rows [] bytes = bytes ≡ []
 IsBegun rows (line ∷ lines) bytes =
@@ -85,7 +85,7 @@ pub record AnswersBytes {D : Type 0} (medium : Medium D) (book : Book) (disk : D
   pub only : OnlySays t
   pub answers : ServesFrom medium book disk end came (said t) before after old new
 
--- all of the answer to a line was said, or a front of it
+-- all of the answer to a line was said, or a prefix of it
 abbrev pub IsAnswer : List ℕ → QueryEnd → List ℕ → Type 0
 IsAnswer answer Done bytes = bytes ≡ answer
 IsAnswer answer LinkFault bytes = IsFrontOf bytes answer

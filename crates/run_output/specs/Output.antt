@@ -68,7 +68,7 @@ code ends.OldArchive = 16
 code ends.NotPrefix = 17
 code ends.BadEntry = 18
 
--- The run ended with this number, and the sink took the output that it stands for or a front of it.
+-- The run ended with this number, and the sink took the output that it stands for or a prefix of it.
 pub record EndsWith {S : Type 0} (outlet : Outlet S) (output : Output) (old new : S) (result : ℕ) : Type 0 where
   pub status : Status
   pub coded : code status ≡ result

@@ -14,7 +14,7 @@ pub record IsLeft (old now : Option (List ℕ)) (all left : Output) : Type 0 whe
   pub text : Leaves old now all.text left.text
   pub status : left.status ≡ all.status
 
--- a front of the output was written, and the rest is given; or a write failed after a front of it
+-- a prefix of the output was written, and the rest is given; or a write failed after a prefix of it
 pub record streams {S : Type 0} (outlet : Outlet S) (all : Output) (old : S) (result : Result Lines Output) (new : S)
     : Type 0 where
   pub written : IsLeft (outlet.taken old) (outlet.taken new) all (output_of result)

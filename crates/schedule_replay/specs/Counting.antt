@@ -43,7 +43,7 @@ pub counted_join : (c : Counts) (xs ys : List Item) → counted (counted c xs) y
 counted_join c [] ys = refl
 counted_join c (x ∷ xs) ys = counted_join (with_item x c) xs ys
 
--- The items have a front after which the counts are these.
+-- The items have a prefix after which the counts are these.
 pub record CountsFront (old : Counts) (items : List Item) (new : Counts) : Type 0 where
   pub front : List Item
   pub left : List Item

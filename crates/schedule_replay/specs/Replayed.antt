@@ -39,7 +39,7 @@ pub record IsReplayed (unseen : Bool) (settings : StationSettings) (from : Stage
   pub kept : Kept settings (records steps) items
   pub written : Appends old new (text items)
 
--- What was written is a front of the text of items that are the run of the schedule, or the beginning of one.
+-- What was written is a prefix of the text of items that are the run of the schedule, or the beginning of one.
 pub record IsCutOff (settings : StationSettings) (from : Stage) (steps : List Step) (old new : Option (List ℕ))
     : Type 0 where
   pub items : List Item

@@ -20,7 +20,7 @@ After telling false settings x s P old new =
     (is : List Item) × (u : Stage) × Does settings x s is u × P is u × telling.tells old is new
 After telling true settings x s P old new = (is : List Item) × BreaksAt settings x s is × telling.tells old is new
 
--- what is known of a step that was cut off: a front of what is told of its items is told, or of the opening before it
+-- what is known of a step that was cut off: a prefix of what is told of its items is told, or of the opening before it
 abbrev pub IsCut : {T : Type 0} → Telling T → StationSettings → Step → Stage → T → T → Type 0
 IsCut telling settings x s old new =
     ((is : List Item) × (u : Stage) × Does settings x s is u × telling.breaks_off old is new)

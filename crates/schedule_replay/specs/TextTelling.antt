@@ -20,7 +20,7 @@ appends_join (Some x) None c s t one two = absurd one
 appends_join (Some x) (Some y) None s t one two = absurd two
 appends_join (Some x) (Some y) (Some z) s t one two = two ∙ ap (λ l. l ++ t) one ∙ append_assoc x s t
 
--- nothing is a front of everything
+-- nothing is a prefix of everything
 pub part_none : (o : Option (List ℕ)) (t : List ℕ) → WritesPart o o t
 part_none o t = record { left = t; leaves = record { written = []; appended = appends_none o; whole = refl } }
 
@@ -61,7 +61,7 @@ module _ {K : Type 0} (outlet : Outlet K) where
     wrote = outlet.wrote_joins a b c (text xs) (text ys) one.wrote two.wrote;
   })
 
-  -- nothing is a front of every text
+  -- nothing is a prefix of every text
   pub front_none : (a : K) (items : List Item) → IsFrontWritten outlet a a (text items)
   front_none a items = record {
     part = part_none (outlet.taken a) (text items);

@@ -14,7 +14,7 @@ pub record TellsRun {T : Type 0} (telling : Telling T) (unseen : Bool) (settings
   pub kept : Kept settings (records steps) items
   pub told : telling.tells old items new
 
--- What was told is a front of what there is to tell of items that are the run of the steps, or the beginning of one.
+-- What was told is a prefix of what there is to tell of items that are the run of the steps, or the beginning of one.
 pub record TellsFront {T : Type 0} (telling : Telling T) (settings : StationSettings) (from : Stage)
     (steps : List Step) (old new : T) : Type 0 where
   pub items : List Item

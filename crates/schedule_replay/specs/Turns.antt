@@ -34,7 +34,7 @@ pub record BreaksRun {T : Type 0} (telling : Telling T) (settings : StationSetti
   pub kept : Kept settings (records steps) (items ++ given)
   pub told : telling.tells old given new
 
--- The run was cut off: a front of what there is to tell of some items is told, and all is kept.
+-- The run was cut off: a prefix of what there is to tell of some items is told, and all is kept.
 pub record CutsRun {T : Type 0} (telling : Telling T) (settings : StationSettings) (from : Stage)
     (steps : List Step) (items : List Item) (old new : T) : Type 0 where
   pub given : List Item

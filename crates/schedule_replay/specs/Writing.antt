@@ -22,14 +22,14 @@ pub record IsWritten {K : Type 0} (outlet : Outlet K) (old new : K) (text : List
   pub appended : Appends (outlet.taken old) (outlet.taken new) text
   pub wrote : outlet.wrote old text new
 
--- A front of the text was written, likewise.
+-- A prefix of the text was written, likewise.
 pub record IsFrontWritten {K : Type 0} (outlet : Outlet K) (old new : K) (text : List ℕ) : Type 0 where
   pub part : WritesPart (outlet.taken old) (outlet.taken new) text
   pub written : List ℕ
   pub front : IsFrontOf written text
   pub wrote : outlet.wrote old written new
 
--- All of the text is written, or, where a write failed, a front of it. No memory is asked for.
+-- All of the text is written, or, where a write failed, a prefix of it. No memory is asked for.
 abbrev pub Writes : {K : Type 0} → Outlet K → K → K → List ℕ → Result (Unit {0}) Cut → Type 0
 Writes outlet old new text (Ok done) = IsWritten outlet old new text
 Writes outlet old new text (Err WriteFault) = IsFrontWritten outlet old new text

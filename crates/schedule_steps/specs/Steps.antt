@@ -17,6 +17,7 @@ step_of period (code.Idle ticks) = Step.Idle ticks
 step_of period (code.Open stop) = Step.Open (stop_set stop)
 step_of period (code.Round fates stop) = Step.Round (fates_of fates) (left_in fates.mids.items) (stop_set stop)
 
+-- the steps of a schedule of this period
 abbrev pub steps_for : ℕ → List code_step.Step → List Step
 steps_for period steps = map (step_of period) steps
 

@@ -4,6 +4,7 @@ use Rattle.std.specs.declared.option.Option.{Option}
 use Rattle.schedule_file.specs.declared.schedule.step.Stop as code
 use Rattle.station_replay.specs.Schedule.{Stop}
 
+-- a stop of a schedule
 abbrev pub stop_of : code.Stop → Stop
 stop_of stop = record { change = stop.change; pick = stop.pick }
 

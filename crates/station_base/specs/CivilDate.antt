@@ -11,6 +11,7 @@ pub record IsCivilDate (date : CivilDate) : Type 0 where
   pub day_from : 1 ≤ date.day
   pub day_to : date.day ≤ days_in_month (pos date.year) date.month
 
+-- the date of this year, month and day
 abbrev pub civil_date : ℕ → ℕ → ℕ → CivilDate
 civil_date year month day = record { year = year; month = month; day = day }
 

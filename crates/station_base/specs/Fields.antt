@@ -3,6 +3,7 @@ use Rattle.std.specs.Prelude.{ℕ, List, [], ◌∷◌, codes, slice_index_or, b
 use Rattle.std.specs.declared.option.Option.{Option}
 use Rattle.std.specs.List.{position}
 
+-- A field: its name, and the unit in which it is counted.
 pub record FieldText : Type 0 where
   pub name : List ℕ
   pub unit : List ℕ
@@ -57,9 +58,11 @@ fields =
 abbrev pub field_text : ℕ → FieldText
 field_text index = slice_index_or fields index (field [] [])
 
+-- the name of the field of that number
 abbrev pub name_of : ℕ → List ℕ
 name_of index = (field_text index).name
 
+-- the unit of the field of that number
 abbrev pub unit_of : ℕ → List ℕ
 unit_of index = (field_text index).unit
 

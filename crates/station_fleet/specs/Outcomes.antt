@@ -50,7 +50,7 @@ pub record Breaks (settings : StationSettings) (c : Course) (items : List Item) 
   pub is_unseen : IsUnseen settings (start_of c) (steps_of settings c) (items ++ given)
   pub kept : Kept settings (records (steps_of settings c)) (items ++ given)
 
--- The run was cut off: a front of the text is of this kind, the items are the run or the beginning of it, and all is kept.
+-- The run was cut off: a prefix of the text is of this kind, the items are the run or its beginning, and all is kept.
 pub record Cuts (settings : StationSettings) (c : Course) (items : List Item) (P : List ℕ → Type 0) : Type 0 where
   pub given : List Item
   pub written : List ℕ

@@ -17,7 +17,7 @@ pub record Outlet (S : Type 0) : Type 1 where
   pub wrote_none : (s : S) → wrote s [] s
   pub wrote_joins : (s t u : S) (xs ys : List ℕ) → wrote s xs t → wrote t ys u → wrote s (xs ++ ys) u
 
--- what a write of these bytes wrote, by its answer: all of them, or a front of them
+-- what a write of these bytes wrote, by its answer: all of them, or a prefix of them
 abbrev pub Writes : Put → List ℕ → List ℕ → Type 0
 Writes Done bytes written = written ≡ bytes
 Writes Failed bytes written = IsFrontOf written bytes

@@ -20,6 +20,7 @@ delivered (Some (Cut n)) bs = take n bs
 delivered (Some (Dropped p n)) bs = take p bs ++ drop (p + n) bs
 delivered (Some (Flipped p ms)) bs = take p bs ++ masked ms.items (drop p bs)
 
+-- the bytes with no wait among them
 abbrev pub all_bytes : List ℕ → List Part
 all_bytes [] = []
 all_bytes (b ∷ bs) = Byte b ∷ all_bytes bs

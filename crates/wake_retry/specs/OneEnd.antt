@@ -3,11 +3,11 @@ use Rattle.std.specs.Prelude.{◌≡◌, ℕ, Bool, List, ◌++◌, length}
 use Rattle.serial_link.specs.declared.talk.TalkItem.{TalkItem}
 use Rattle.wake_retry.specs.Parts.{heard, IsFull, FallsShort, Awaits, Still, Flooding, Wakes, WakeFloods, IsCutOff}
 
--- of one talk one front at most is of this kind, so what is behind it is told too
+-- of one talk one prefix at most is of this kind, so what is behind it is told too
 abbrev pub HasOneFront : (List TalkItem → Type 0) → Type 0
 HasOneFront Part = (s t a b : List TalkItem) → Part s → Part t → s ++ a ≡ t ++ b → (s ≡ t) × (a ≡ b)
 
--- no talk has a front of each kind
+-- no talk has a prefix of each kind
 abbrev pub NeverBoth : (List TalkItem → Type 0) → (List TalkItem → Type 0) → Type 0
 NeverBoth One Other = (s t a b : List TalkItem) → One s → Other t → s ++ a ≡ t ++ b → ⊥
 

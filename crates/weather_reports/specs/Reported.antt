@@ -15,7 +15,7 @@ use Rattle.weather_reports.specs.declared.end.ReportEnd.TheVariants.{Done, DiskF
 abbrev pub text_of : List (List ℕ) → List ℕ
 text_of lines = flat_map (λ line. line) lines
 
--- All lines are written; at a disk fault some in front, each whole; at a write fault a front of their bytes.
+-- All lines are written; at a disk fault some in front, each whole; at a write fault a prefix of their bytes.
 abbrev pub Reports : Option (List ℕ) → Option (List ℕ) → List (List ℕ) → ReportEnd → Type 0
 Reports old new lines Done = Appends old new (text_of lines)
 Reports old new lines DiskFault = (front : List (List ℕ)) × IsFrontOf front lines × Appends old new (text_of front)

@@ -19,7 +19,7 @@ Wrote outlet medium book disk P old new =
     (written : List ℕ) × outlet.wrote old written new
     × ((rows : List Row) → StandsToReadOn medium book disk rows → WhereTold (medium.seen disk) (λ _. P rows written))
 
--- of a text this was written and the rest waits, or a front of it was written
+-- of a text this was written and the rest waits, or a prefix of it was written
 abbrev pub IsPrinted : Put → List ℕ → List ℕ → List ℕ → Type 0
 IsPrinted Done text waits written = written ++ waits ≡ text
 IsPrinted Failed text waits written = IsFrontOf written text
@@ -29,7 +29,7 @@ abbrev pub Prints : {K : Type 0} → Outlet K → Put → List ℕ → List ℕ 
 Prints outlet answer text waits old new =
     (written : List ℕ) × outlet.wrote old written new × IsPrinted answer text waits written
 
--- All that waited was written, or a front of it where a write failed.
+-- All that waited was written, or a prefix of it where a write failed.
 abbrev pub Flushes : {K : Type 0} → Outlet K → ReportEnd → List ℕ → K → K → Type 0
 Flushes outlet end waits old new =
     (written : List ℕ) × outlet.wrote old written new × IsFrontOf written waits × (end ≢ WriteFault → written ≡ waits)
