@@ -34,8 +34,7 @@ replay_status replay_end.Unseen = ends.Unseen
 replay_status replay_end.WriteFault = ends.WriteFault
 replay_status replay_end.OutOfMemory = ends.OutOfMemory
 
--- what is written of a run of steps, by how its replay ends: the text of all its items, of those up to the round in which
--- a delivery was unseen, or a prefix
+-- what is written of a run, by how its replay ends: all its items, those up to a delivery that was unseen, or a prefix
 abbrev pub WritesRun : ReplayEnd → StationSettings → Stage → List Step → Option (List ℕ) → Option (List ℕ) → Type 0
 WritesRun replay_end.Done settings from steps old new = IsReplayed false settings from steps old new
 WritesRun replay_end.Unseen settings from steps old new = IsReplayed true settings from steps old new

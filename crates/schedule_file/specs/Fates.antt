@@ -8,8 +8,7 @@ pub record Lateness : Type 0 where
   pub waits : ℕ
   pub place : ℕ
 
--- What befalls the messages of each side, by their numbers, how late replies come, and which records fall due after a
--- message of the host.
+-- By numbers: what befalls the messages of each side, how late a reply is, and the records due after a host's message.
 pub record Fates : Type 0 where
   pub host : ℕ → Option Fate
   pub reply : ℕ → Option Fate

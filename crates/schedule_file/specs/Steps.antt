@@ -23,8 +23,7 @@ pub record MidRecord : Type 0 where
   pub number : ℕ
   pub record_read : RecordRead
 
--- What belongs to a round: what befalls its messages and its replies, how late replies come, and which records fall
--- due.
+-- What belongs to a round: the fates of its messages and replies, how late replies come, and which records fall due.
 pub record Details : Type 0 where
   pub host : List (ℕ × Fate)
   pub replies : List (ℕ × Fate)
@@ -43,9 +42,8 @@ pub data Step : Type 0 where
   OpenStep : Option Stop → Step
   RoundStep : Details → Option Stop → Step
 
--- What the lines so far have said: the steps before the last `open` or `round`, which of the two that was, what
--- belongs to it, and the steps after it; the minute of the last record, or 0; how many records, and how many `open`
--- and `round`.
+-- What the lines so far have said: the steps before the last `open` or `round`, which of the two that was, what belongs
+-- to it, and the steps after it; the minute of the last record, or 0; the number of records, and that of these turns.
 pub record Said : Type 0 where
   pub before : List Step
   pub turn : Turn

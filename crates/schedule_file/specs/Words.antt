@@ -46,8 +46,7 @@ named_in word = do
   value ← value_of (drop (equals + 1) word)
   Some (record { name = take equals word; value = value })
 
--- YYYY-MM-DD, whether the calendar has it or not: the bytes at the fifth and eighth place are `-`, and the others are
--- digits
+-- YYYY-MM-DD, whether the calendar has it or not: digits, but for `-` at the fifth and the eighth place
 unfoldable pub date_of : List ℕ → Option Date
 date_of word = do
   text ← only_if (length word == 10 && slice_index word 4 == 45 && slice_index word 7 == 45) word

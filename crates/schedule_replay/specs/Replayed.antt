@@ -30,8 +30,7 @@ pub record IsNewDisk (records : ℕ) (eeprom : List ℕ) (packet : LoopPacket) (
   pub rests : AtRest 0 (start eeprom packet).archive disk
   pub room : IsRoomFor records (limits_of disk)
 
--- What was written is the text of items that are the run of the schedule, by whether a delivery was unseen, and all is
--- kept of them.
+-- The text of a run of the schedule was written, by whether a delivery was unseen, and all is kept of its items.
 pub record IsReplayed (unseen : Bool) (settings : StationSettings) (from : Stage) (steps : List Step)
     (old new : Option (List ℕ)) : Type 0 where
   pub items : List Item

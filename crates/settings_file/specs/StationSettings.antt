@@ -12,24 +12,21 @@ use Rattle.settings_file.specs.Limits.{unlimited}
 use Rattle.settings_file.specs.Corrections.{calibration_in, limits_in, nothing_named, AreCorrections}
 use Rattle.settings_file.specs.Changes.{AreChanges, named_by, last_given}
 
--- the minutes between two records, the most rows of the archive, what the file names of each field, and what its
--- changes name from a stamp on
+-- the period in minutes, the most rows, what the file names of each field, and what its changes name from a stamp on
 pub record StationSettings : Type 0 where
   pub period : ℕ
   pub most : ℕ
   pub own : Corrections
   pub changes : List Change
 
--- the calibration in force at a stamp: that of the last change which is not later and names one of the field, or else
--- the file's own, or none
+-- the calibration in force at a stamp: by the last change not later that names one of the field, by the file, or none
 unfoldable pub calibration_of : StationSettings → ℕ → CivilMinute → Calibration
 calibration_of settings field stamp =
     unwrap_or (option_or
     (last_given (named_by (calibration_in field) stamp) settings.changes) (calibration_in field settings.own))
     uncalibrated
 
--- the limits in force at a stamp: those of the last change which is not later and names some of the field, or else
--- the file's own, or none
+-- the limits in force at a stamp: by the last change not later that names some of the field, by the file, or none
 unfoldable pub limits_of : StationSettings → ℕ → CivilMinute → Limits
 limits_of settings field stamp =
     unwrap_or (option_or
