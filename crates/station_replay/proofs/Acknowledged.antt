@@ -33,17 +33,16 @@ use Rattle.station_replay.proofs.Trying.{Keeping, Tries}
 use Rattle.station_replay.proofs.Bridge.{followed}
 use Rattle.station_replay.specs.Round.{Ending, Attempted}
 use Rattle.station_replay.specs.Replay.{Rounded, Stage, IsRound}
-use Rattle.station_replay.specs.Kept.{AreFront}
 use Rattle.station_replay.proofs.Giving.{and_rows, Parted, keeps_part}
 use Rattle.station_replay.proofs.Rounds.{IsPlain, front_same, front_join}
 
-front_is : (xs ys : List Row) → xs ≡ ys → AreFront xs ys
+front_is : (xs ys : List Row) → xs ≡ ys → IsFrontOf xs ys
 front_is xs ys e = ([], append-nil xs ∙ e)
 
 records_front : (bs cs : List (List (List ℕ))) → IsFrontOf bs cs → IsFrontOf (records_in bs) (records_in cs)
 records_front bs cs (rest, e) = (records_in rest, sym (records_append bs rest) ∙ ap records_in e)
 
-stored_front : (settings : StationSettings) (rows : List Row) (xs ys : List (List ℕ)) → IsFrontOf xs ys → AreFront (rows ++ stored_rows settings xs) (rows ++ stored_rows settings ys)
+stored_front : (settings : StationSettings) (rows : List Row) (xs ys : List (List ℕ)) → IsFrontOf xs ys → IsFrontOf (rows ++ stored_rows settings xs) (rows ++ stored_rows settings ys)
 stored_front settings rows xs ys (rest, e) = (
   stored_rows settings rest,
   append_assoc rows (stored_rows settings xs) (stored_rows settings rest) ∙ ap (λ (z : List Row). rows ++ z) (sym (stored_append settings xs rest) ∙ ap (stored_rows settings) e),
@@ -54,10 +53,10 @@ pub record Within (settings : StationSettings) (rows : List Row) (t : Attempted)
   pub tried : IsTried (last_stamp rows) t.made
   pub batches_are : t.batches ≡ batches (last_stamp rows) t.made.place t.made.taken
   pub plain : IsPlain t.made.end
-  pub keeps : AreFront (and_rows settings rows (kept_batches t.made.end t.batches)) kept
+  pub keeps : IsFrontOf (and_rows settings rows (kept_batches t.made.end t.batches)) kept
 
 -- what was acknowledged in it was kept
-pub acked_within : (settings : StationSettings) (rows : List Row) (t : Attempted) (kept : List Row) (place : ℕ) (pages : List (List ℕ)) → Within settings rows t kept → Acknowledges (stamp_frame_of (last_stamp rows)) t.made.said place pages → AreFront (rows_with settings rows place pages) kept
+pub acked_within : (settings : StationSettings) (rows : List Row) (t : Attempted) (kept : List Row) (place : ℕ) (pages : List (List ℕ)) → Within settings rows t kept → Acknowledges (stamp_frame_of (last_stamp rows)) t.made.said place pages → IsFrontOf (rows_with settings rows place pages) kept
 acked_within settings rows t kept place pages w said =
     let m = t.made in
     let last = last_stamp rows in
@@ -73,17 +72,17 @@ nothing [] later t none = cc
 nothing (y ∷ xs) later t none = cc
 
 module _ (settings : StationSettings) (f : Fates) (stop : Option Stop) where
-  grows : (n m : ℕ) (a : Archive) (w : Line) (ts : List Attempted) (end : Ending) (kept at : Archive) (v : Line) → Tries settings f stop n m a w ts end kept at v → AreFront a.rows kept.rows
-  grows n m a w [] end kept at v (three, gave, kb, lb, is) = subst (λ (x : Archive). AreFront a.rows x.rows) (sym kb) (front_same a.rows)
+  grows : (n m : ℕ) (a : Archive) (w : Line) (ts : List Attempted) (end : Ending) (kept at : Archive) (v : Line) → Tries settings f stop n m a w ts end kept at v → IsFrontOf a.rows kept.rows
+  grows n m a w [] end kept at v (three, gave, kb, lb, is) = subst (λ (x : Archive). IsFrontOf a.rows x.rows) (sym kb) (front_same a.rows)
   grows n m a w (t ∷ ts) end kept at v (less, (x, b, k, inl (g, keeps, failed, again))) =
       let p = keeps_part settings stop m a t.batches (Keeping.Goes g b) keeps in
       front_join a.rows b.rows kept.rows (stored_rows settings (records_in t.batches), sym p.0) (grows (n + 1) g b x ts end kept at v again)
   grows n m a w (t ∷ ts) end kept at v (less, (x, b, k, inr (inl (g, keeps, whole, none, ended, kb, lb, is)))) =
       let p = keeps_part settings stop m a t.batches (Keeping.Goes g b) keeps in
-      subst (λ (z : Archive). AreFront a.rows z.rows) (sym kb) (stored_rows settings (records_in t.batches), sym p.0)
+      subst (λ (z : Archive). IsFrontOf a.rows z.rows) (sym kb) (stored_rows settings (records_in t.batches), sym p.0)
   grows n m a w (t ∷ ts) end kept at v (less, (x, b, k, inr (inr (inl (keeps, refused, none, full, kb, lb, is))))) =
       let p = keeps_part settings stop m a t.batches (Keeping.Fills b) keeps in
-      subst (λ (z : Archive). AreFront a.rows z.rows) (sym kb) (stored_rows settings (records_in (but_last t.batches)), sym p.0)
+      subst (λ (z : Archive). IsFrontOf a.rows z.rows) (sym kb) (stored_rows settings (records_in (but_last t.batches)), sym p.0)
   grows n m a w (t ∷ ts) end kept at v (less, (x, b, k, inr (inr (inr (keeps, refused, none, stops, lb, is))))) =
       let p : Parted settings stop m a t.batches kept b = keeps_part settings stop m a t.batches (Keeping.Breaks kept b) keeps in
       (stored_rows settings (records_in (but_last t.batches)), sym p.kept)
@@ -91,12 +90,12 @@ module _ (settings : StationSettings) (f : Fates) (stop : Option Stop) where
   first_within : (n m : ℕ) (a : Archive) (w : Line) (t : Attempted) (ts : List Attempted) (end : Ending) (kept at : Archive) (v : Line) → Tries settings f stop n m a w (t ∷ ts) end kept at v → Within settings a.rows t kept.rows
   first_within n m a w t ts end kept at v (less, (x, b, k, inl (g, keeps, (trouble, failed), again))) =
       let p = keeps_part settings stop m a t.batches (Keeping.Goes g b) keeps in
-      let all : AreFront (and_rows settings a.rows t.batches) kept.rows = subst (λ (z : List Row). AreFront z kept.rows) p.0 (grows (n + 1) g b x ts end kept at v again) in
+      let all : IsFrontOf (and_rows settings a.rows t.batches) kept.rows = subst (λ (z : List Row). IsFrontOf z kept.rows) p.0 (grows (n + 1) g b x ts end kept at v again) in
       record {
         tried = k.attempt;
         batches_are = k.batches;
         plain = subst IsPlain (sym failed) tt;
-        keeps = subst (λ (e : DumpEnd). AreFront (and_rows settings a.rows (kept_batches e t.batches)) kept.rows) (sym failed) all;
+        keeps = subst (λ (e : DumpEnd). IsFrontOf (and_rows settings a.rows (kept_batches e t.batches)) kept.rows) (sym failed) all;
       }
   first_within n m a w t ts end kept at v (less, (x, b, k, inr (inl (g, keeps, whole, none, ended, kb, lb, is)))) =
       let p = keeps_part settings stop m a t.batches (Keeping.Goes g b) keeps in
@@ -105,7 +104,7 @@ module _ (settings : StationSettings) (f : Fates) (stop : Option Stop) where
         tried = k.attempt;
         batches_are = k.batches;
         plain = subst IsPlain (sym whole) tt;
-        keeps = subst (λ (e : DumpEnd). AreFront (and_rows settings a.rows (kept_batches e t.batches)) kept.rows) (sym whole) (front_is (and_rows settings a.rows t.batches) kept.rows all);
+        keeps = subst (λ (e : DumpEnd). IsFrontOf (and_rows settings a.rows (kept_batches e t.batches)) kept.rows) (sym whole) (front_is (and_rows settings a.rows t.batches) kept.rows all);
       }
   first_within n m a w t ts end kept at v (less, (x, b, k, inr (inr (inl (keeps, refused, none, full, kb, lb, is))))) =
       let p = keeps_part settings stop m a t.batches (Keeping.Fills b) keeps in
@@ -114,7 +113,7 @@ module _ (settings : StationSettings) (f : Fates) (stop : Option Stop) where
         tried = k.attempt;
         batches_are = k.batches;
         plain = subst IsPlain (sym refused) tt;
-        keeps = subst (λ (e : DumpEnd). AreFront (and_rows settings a.rows (kept_batches e t.batches)) kept.rows) (sym refused) (front_is (and_rows settings a.rows (but_last t.batches)) kept.rows all);
+        keeps = subst (λ (e : DumpEnd). IsFrontOf (and_rows settings a.rows (kept_batches e t.batches)) kept.rows) (sym refused) (front_is (and_rows settings a.rows (but_last t.batches)) kept.rows all);
       }
   first_within n m a w t ts end kept at v (less, (x, b, k, inr (inr (inr (keeps, refused, none, stops, lb, is))))) =
       let p : Parted settings stop m a t.batches kept b = keeps_part settings stop m a t.batches (Keeping.Breaks kept b) keeps in
@@ -122,7 +121,7 @@ module _ (settings : StationSettings) (f : Fates) (stop : Option Stop) where
         tried = k.attempt;
         batches_are = k.batches;
         plain = subst IsPlain (sym refused) tt;
-        keeps = subst (λ (e : DumpEnd). AreFront (and_rows settings a.rows (kept_batches e t.batches)) kept.rows) (sym refused) (front_is (and_rows settings a.rows (but_last t.batches)) kept.rows (sym p.kept));
+        keeps = subst (λ (e : DumpEnd). IsFrontOf (and_rows settings a.rows (kept_batches e t.batches)) kept.rows) (sym refused) (front_is (and_rows settings a.rows (but_last t.batches)) kept.rows (sym p.kept));
       }
 
   within : (n m : ℕ) (a : Archive) (w : Line) (ts : List Attempted) (end : Ending) (kept at : Archive) (v : Line) → Tries settings f stop n m a w ts end kept at v → (earlier : List Attempted) (t : Attempted) (later : List Attempted) → ts ≡ earlier ++ t ∷ later
