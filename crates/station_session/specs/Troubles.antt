@@ -8,13 +8,7 @@ use Rattle.station_session.specs.Attempts.{Tried}
 -- the trouble of an attempt that ended so, if it failed
 abbrev pub trouble_of : DumpEnd → List Trouble
 trouble_of (dump_end.Failed trouble) = trouble ∷ []
-trouble_of dump_end.Whole = []
-trouble_of dump_end.Full = []
-trouble_of dump_end.Stale = []
-trouble_of dump_end.DiskFault = []
-trouble_of dump_end.Flood = []
-trouble_of dump_end.LinkFault = []
-trouble_of dump_end.OutOfMemory = []
+trouble_of other = []
 
 -- the troubles of those attempts that failed, in order
 abbrev pub troubles_of : List Tried → List Trouble
