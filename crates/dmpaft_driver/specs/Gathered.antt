@@ -15,11 +15,7 @@ abbrev pub keeper_answer : DumpEnd → Stored
 keeper_answer dump_end.Full = stored.Full
 keeper_answer dump_end.Stale = stored.Stale
 keeper_answer dump_end.DiskFault = stored.DiskFault
-keeper_answer dump_end.Whole = stored.Done
-keeper_answer (dump_end.Failed trouble) = stored.Done
-keeper_answer dump_end.Flood = stored.Done
-keeper_answer dump_end.LinkFault = stored.Done
-keeper_answer dump_end.OutOfMemory = stored.Done
+keeper_answer other = stored.Done
 
 -- what becomes of the batches of the taken pages after the last stamp, of the first page from a place on
 abbrev pub steps_of : DumpEnd → Option CivilMinute → ℕ → List (List ℕ) → Handed
