@@ -5,8 +5,8 @@ use Rattle.crc_ccitt.specs.Check.{check}
 use Rattle.vantage_frames.specs.Header.{CanBegin, CannotBegin}
 use Rattle.vantage_frames.specs.HeaderReading.{HasNumbers}
 use Rattle.dmpaft_pump.specs.declared.outcome.Trouble.{Trouble}
-use Rattle.dmpaft_pump.specs.declared.outcome.Trouble.TheVariants.{Asleep, NoAck, ShortHeader, NoHeaderAck}
-use Rattle.dmpaft_pump.specs.declared.outcome.Trouble.TheVariants.{HeaderCheck, HeaderNumbers, PageLost, PageAhead}
+use Rattle.dmpaft_pump.specs.declared.outcome.Trouble.TheVariants.{ShortHeader, NoHeaderAck}
+use Rattle.dmpaft_pump.specs.declared.outcome.Trouble.TheVariants.{HeaderCheck, HeaderNumbers}
 
 -- Seven bytes are 0x06 and a header of these numbers.
 pub record IsHeader (bytes : List ℕ) (pages place : ℕ) : Type 0 where
@@ -22,10 +22,7 @@ IsNoHeader bytes (NoHeaderAck first) = (length bytes ≡ 7) × (slice_index byte
 IsNoHeader bytes HeaderCheck = (length bytes ≡ 7) × (slice_index bytes 0 ≡ 6) × (check (drop 1 bytes) ≢ 0)
 IsNoHeader bytes (HeaderNumbers pages place) =
     (length bytes ≡ 7) × (slice_index bytes 0 ≡ 6) × HasNumbers (drop 1 bytes) pages place × CannotBegin pages place
-IsNoHeader bytes Asleep = ⊥
-IsNoHeader bytes (NoAck first) = ⊥
-IsNoHeader bytes (PageLost page) = ⊥
-IsNoHeader bytes (PageAhead page sequence) = ⊥
+IsNoHeader bytes other = ⊥
 
 -- the first byte, if there is one
 abbrev pub first_of : List ℕ → Option ℕ
