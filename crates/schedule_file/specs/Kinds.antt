@@ -11,9 +11,9 @@ use Rattle.schedule_file.specs.declared.schedule.form.Form.TheVariants.{Due, Run
 use Rattle.schedule_file.specs.declared.schedule.form.Form.TheVariants.{Host, Reply, Late, Mid, Stop}
 use Rattle.schedule_file.specs.declared.schedule.form.Told.{Told}
 use Rattle.schedule_file.specs.declared.schedule.turn.Turn.{Turn}
-use Rattle.schedule_file.specs.declared.schedule.turn.Turn.TheVariants.{Neither, Opening, InRound}
+use Rattle.schedule_file.specs.declared.schedule.turn.Turn.TheVariants.{Neither, InRound}
 use Rattle.schedule_file.specs.Lists.{entry_of}
-use Rattle.schedule_file.specs.Steps.{MidRecord, Step, DueStep, RunStep, IdleStep, OpenStep, RoundStep, Said}
+use Rattle.schedule_file.specs.Steps.{MidRecord, Step, DueStep, RunStep, Said}
 
 -- kind 5: the stamp, or that of the last of so many records, is no stamp
 abbrev pub is_no_stamp : ℕ → Option CivilMinute → ℕ → Bool
@@ -32,23 +32,19 @@ has_no_record (Some values) = not (can_hold_all places values)
 
 -- the last of `open` and `round` was a `round`
 abbrev pub is_in_round : Turn → Bool
-is_in_round Neither = false
-is_in_round Opening = false
 is_in_round InRound = true
+is_in_round other = false
 
 -- there was neither an `open` nor a `round`
 abbrev pub is_neither : Turn → Bool
 is_neither Neither = true
-is_neither Opening = false
-is_neither InRound = false
+is_neither other = false
 
 -- the step has a record that falls due
 abbrev pub is_due : Step → Bool
 is_due (DueStep r) = true
 is_due (RunStep r count) = true
-is_due (IdleStep ticks) = false
-is_due (OpenStep stop) = false
-is_due (RoundStep details stop) = false
+is_due other = false
 
 -- the number has an entry
 abbrev pub is_listed : {A : Type 0} → List (ℕ × A) → ℕ → Bool

@@ -64,9 +64,8 @@ records_within InRound count = count
 abbrev pub records_in_step : Step → ℕ
 records_in_step (DueStep r) = 1
 records_in_step (RunStep first count) = count
-records_in_step (IdleStep ticks) = 0
-records_in_step (OpenStep stop) = 0
 records_in_step (RoundStep details stop) = length details.mids
+records_in_step other = 0
 
 -- how many records fall due in all steps
 abbrev pub records_in : List Step → ℕ
