@@ -1,6 +1,6 @@
 -- What the keys of the two sections mean: a field's name, and in the table of a field its numbers (this project's
 -- profile).
-use Rattle.std.specs.Prelude.{ℤ, pos, neg_ℤ, int_lt, List, ℕ, Bool, false, Option, Some, None}
+use Rattle.std.specs.Prelude.{ℤ, pos, neg_ℤ, int_lt, List, ℕ, Bool, false, Option, Some}
 use Rattle.std.specs.Prelude.{Result, Ok, Err, if◌then◌else◌, bytes_eq, codes, slice_set}
 use Rattle.settings_file.specs.declared.calibration.Calibration.{Calibration}
 use Rattle.settings_file.specs.declared.limits.Limits.{Limits}
@@ -43,8 +43,7 @@ limits_key at key value l =
 -- both are there, and the least exceeds the greatest
 abbrev pub are_crossed : Option ℤ → Option ℤ → Bool
 are_crossed (Some least) (Some greatest) = int_lt greatest least
-are_crossed (Some least) None = false
-are_crossed None greatest = false
+are_crossed least greatest = false
 
 -- the calibrations of a change where the section is one, and else those of the file
 abbrev pub calibrations_of : Section → Section
