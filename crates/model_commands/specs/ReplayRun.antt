@@ -38,8 +38,7 @@ replay_status replay_end.OutOfMemory = ends.OutOfMemory
 abbrev pub WritesRun : ReplayEnd → StationSettings → Stage → List Step → Option (List ℕ) → Option (List ℕ) → Type 0
 WritesRun replay_end.Done settings from steps old new = IsReplayed false settings from steps old new
 WritesRun replay_end.Unseen settings from steps old new = IsReplayed true settings from steps old new
-WritesRun replay_end.WriteFault settings from steps old new = IsCutOff settings from steps old new
-WritesRun replay_end.OutOfMemory settings from steps old new = IsCutOff settings from steps old new
+WritesRun other settings from steps old new = IsCutOff settings from steps old new
 
 -- The steps were run over a new console of the settings' period, with a blank packet, and an archive that was never
 -- opened. What is kept of the run is written, or a prefix of it, and no last line is left.
