@@ -7,6 +7,7 @@ use Rattle.std.specs.Simd.{first_chunks}
 use Rattle.std.specs.declared.option.Option.{Option}
 use Rattle.std.specs.declared.result.Result.{Result}
 use Rattle.crc_ccitt.specs.Check.{check}
+use Rattle.vantage_frames.specs.Slots.{page_size}
 use Rattle.run_output.specs.Ended.{IsOneOf, Lines, output_of}
 use Rattle.run_output.specs.Output.{Output}
 use Rattle.run_output.specs.Outside.{Meanings, over_out}
@@ -46,7 +47,7 @@ ends_otherwise style number (page ∷ pages) short status done bad =
 
 listed_causes : {F K L D : Type 0} (m : Meanings F K L D) (style : RowStyle) (file : List ℕ) → Causes m (over_out (streams m.outlet (listing style file)))
 listed_causes m style file =
-    let other = ends_otherwise style 0 (first_chunks 267 (length file / 267) file) (drop (length file / 267 * 267) file) in
+    let other = ends_otherwise style 0 (first_chunks page_size (length file / page_size) file) (drop (length file / page_size * page_size) file) in
     streams_causes m (listing style file) (other ReadFault (λ e. cc) (λ e. cc)) (other LinkFault (λ e. cc) (λ e. cc))
     (other DiskFault (λ e. cc) (λ e. cc))
 
@@ -68,7 +69,7 @@ good-done style number (page ∷ pages) short good none =
 good-streams : {K : Type 0} (outlet : Outlet K) (style : RowStyle) (file : List ℕ) (old new : K) (ended : Result Lines Output) → IsGoodFile file
     → streams outlet (listing style file) old ended new → IsDoneOrHindered (output_of ended).status
 good-streams outlet style file old new ended good did = elim did.written [
-  | inl left ↦ inl (left.status ∙ good-done style 0 (first_chunks 267 (length file / 267) file) (drop (length file / 267 * 267) file) good.good good.whole)
+  | inl left ↦ inl (left.status ∙ good-done style 0 (first_chunks page_size (length file / page_size) file) (drop (length file / page_size * page_size) file) good.good good.whole)
   | inr failed ↦ inr (inr (inl (ap (λ (r : Result Lines Output). (output_of r).status) failed.0)))
 ]
 

@@ -3,6 +3,7 @@ use Rattle.std.specs.Prelude.{ℕ, ◌+◌, ◌*◌, ◌/◌, ◌==◌, if◌the
 use Rattle.std.specs.Simd.{first_chunks}
 use Rattle.crc_ccitt.specs.Check.{check}
 use Rattle.station_base.specs.NumberText.{number_text}
+use Rattle.vantage_frames.specs.Slots.{page_size}
 use Rattle.run_output.specs.declared.status.Status.TheVariants.{Done, BadPage}
 use Rattle.run_output.specs.Output.{Output, led_by}
 use Rattle.commands.specs.PageText.{page_text}
@@ -23,8 +24,8 @@ listing_from style number (page ∷ pages) short =
     if check page == 0 then led_by (page_text style number page) (listing_from style (number + 1) pages short)
     else bad_page number
 
--- the bytes of a file, 267 for each page
+-- the bytes of a file, page by page
 abbrev pub listing : RowStyle → List ℕ → Output
 listing style file =
-    let count = length file / 267 in
-    listing_from style 0 (first_chunks 267 count file) (drop (count * 267) file)
+    let count = length file / page_size in
+    listing_from style 0 (first_chunks page_size count file) (drop (count * page_size) file)

@@ -4,7 +4,7 @@ use Rattle.std.proofs.lemmas.List.{drop-drop, drop-replicate}
 use Rattle.std.proofs.Math.Seq.{drop-append_seam, take-append-add, take-append_seam}
 use borrow.Rule.Slice.PartMut.{put_mid}
 use Rattle.crc_ccitt.specs.Check.{sealed, check_bytes}
-use Rattle.vantage_frames.specs.Slots.{slot_at}
+use Rattle.vantage_frames.specs.Slots.{slot_at, page_size}
 use Rattle.console_ring.specs.declared.plan.Plan.{Plan}
 use Rattle.console_ring.specs.Picture.{shown, slot_of, slot_on, slots_before, page_of}
 
@@ -47,7 +47,7 @@ more page bytes sequence slot place start size begins below long is from all =
       sized = below_more (λ p. length (slot p) ≡ 52) place begins.sized (ap (λ xs. length xs) (sym is) ∙ long);
     }
 
-pub whole : (page : List ℕ) (history : List (List ℕ)) (plan : Plan) (k place : ℕ) → Begins page (k % 256) (slot_on history plan k) place → place ≡ 5 → length page ≡ 267 →
+pub whole : (page : List ℕ) (history : List (List ℕ)) (plan : Plan) (k place : ℕ) → Begins page (k % 256) (slot_on history plan k) place → place ≡ 5 → length page ≡ page_size →
     sealed (take (length page - 2) page) ≡ page_of history plan k
 unfolding page_of
 whole page history plan k place begins all long =
@@ -59,7 +59,7 @@ whole page history plan k place begins all long =
     ap (λ xs. sealed xs) (ap (λ n. take n page) cut ∙ ap (λ xs. take (length front + 4) xs) bytes ∙ take-append-add front (replicate 6 255) 4)
 
 -- the place of a slot in a page has its size
-pub room : (page : List ℕ) (place start size : ℕ) → length page ≡ 267 → place < 5 → start ≡ 1 + 52 * place → size ≡ 52 → length (take size (drop start page)) ≡ 52
+pub room : (page : List ℕ) (place start size : ℕ) → length page ≡ page_size → place < 5 → start ≡ 1 + 52 * place → size ≡ 52 → length (take size (drop start page)) ≡ 52
 room page place start size long below from all =
     let taken = length-take size (drop start page) in
     let dropped = length-drop start page in

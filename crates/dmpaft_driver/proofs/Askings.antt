@@ -1,6 +1,7 @@
 -- What was said and heard tells how the askings for a page end.
 use Rattle.std.proofs.Common.{◌≡◌, ◌≢◌, ℕ, zero, suc, ◌⊎◌, Bool, true, false, List, [], ◌∷◌, ◌++◌, refl, sym, ◌∙◌, ap, subst, inl, inr, arith, append_assoc}
 use Rattle.std.specs.Prelude.{slice_index}
+use Rattle.vantage_frames.specs.Slots.{page_size}
 use Rattle.serial_link.specs.declared.talk.TalkItem.{TalkItem}
 use Rattle.serial_link.specs.declared.talk.TalkItem.TheVariants.{Said}
 use Rattle.wake_retry.specs.Parts.{heard, Still, Flooding, Awaits}
@@ -46,7 +47,7 @@ record First (left k b : ℕ) (talk : List TalkItem) (came : Came) : Type 0 wher
   pub t : List TalkItem
   pub rest : List TalkItem
   pub is : talk ≡ Said b true ∷ t ++ rest
-  pub awaits : Awaits 3 267 t
+  pub awaits : Awaits 3 page_size t
   pub how : Over left k (heard t) rest came ⊎ AskedAgain left k (heard t) rest came
 
 unroll : (left k b : ℕ) (talk : List TalkItem) (came : Came) → Askings (suc left) k b talk came → First left k b talk came
@@ -108,7 +109,7 @@ one_askings zero k b x y a c p q f g e = absurd (none_left k b x p f)
 one_askings (suc left) k b x y a c p q f g e =
     let u = unroll left k b x p f in
     let v = unroll left k b y q g in
-    let first = one_answer 3 267 (omega arith) u.t v.t (u.rest ++ a) (v.rest ++ c) u.awaits v.awaits (behind_first (Said b true) x y u.t v.t u.rest v.rest a c u.is v.is e) in
+    let first = one_answer 3 page_size (omega arith) u.t v.t (u.rest ++ a) (v.rest ++ c) u.awaits v.awaits (behind_first (Said b true) x y u.t v.t u.rest v.rest a c u.is v.is e) in
     let bytes = heard v.t in
     let how : Over left k bytes u.rest p ⊎ AskedAgain left k bytes u.rest p = subst (λ (z : List TalkItem). Over left k (heard z) u.rest p ⊎ AskedAgain left k (heard z) u.rest p) first.0 u.how in
     elim how [

@@ -6,6 +6,7 @@ use Rattle.serial_link.specs.declared.talk.TalkItem.{TalkItem}
 use Rattle.serial_link.specs.declared.talk.TalkItem.TheVariants.{Said}
 use Rattle.vantage_frames.specs.StampFrame.{stamp_frame_of}
 use Rattle.vantage_frames.specs.Words.{frame_of_words}
+use Rattle.vantage_frames.specs.Slots.{page_size}
 use Rattle.wake_retry.specs.Parts.{heard}
 use Rattle.wake_retry.specs.Bounds.{IsBounded}
 use Rattle.wake_retry.proofs.Bounding.{bounded_joins, bounded_within, bounded_front, message_bounded, said_first, bounds_settling, bounds_answer, bounds_wake}
@@ -25,44 +26,44 @@ abbrev AreAskings : ℕ → List TalkItem → Type 0
 AreAskings left talk = IsBounded (65803 * left - 65536) left talk
 
 -- the last asking
-last_asking : (left b : ℕ) (talk t rest : List TalkItem) → talk ≡ Said b true ∷ t ++ rest → IsBounded 267 0 t → rest ≡ [] → AreAskings (suc left) talk
+last_asking : (left b : ℕ) (talk t rest : List TalkItem) → talk ≡ Said b true ∷ t ++ rest → IsBounded page_size 0 t → rest ≡ [] → AreAskings (suc left) talk
 last_asking left b talk t rest is answer none =
     subst (λ (x : List TalkItem). AreAskings (suc left) x) (sym is)
-    (bounded_within 267 1 (65803 * suc left - 65536) (suc left) (Said b true ∷ t ++ rest) (omega arith) (omega arith)
-    (subst (λ (x : List TalkItem). IsBounded 267 1 (Said b true ∷ t ++ x)) (sym none)
-    (said_first 267 0 b (t ++ []) (bounded_joins 267 0 0 0 t [] answer (record { hears = omega arith; says = omega arith })))))
+    (bounded_within page_size 1 (65803 * suc left - 65536) (suc left) (Said b true ∷ t ++ rest) (omega arith) (omega arith)
+    (subst (λ (x : List TalkItem). IsBounded page_size 1 (Said b true ∷ t ++ x)) (sym none)
+    (said_first page_size 0 b (t ++ []) (bounded_joins page_size 0 0 0 t [] answer (record { hears = omega arith; says = omega arith })))))
 
 -- an asking, a settling, and other askings
-next_asking : (left b : ℕ) (talk t rest s more : List TalkItem) → talk ≡ Said b true ∷ t ++ rest → IsBounded 267 0 t → rest ≡ s ++ more → IsBounded 65536 0 s → 1 ≤ left → AreAskings left more → AreAskings (suc left) talk
+next_asking : (left b : ℕ) (talk t rest s more : List TalkItem) → talk ≡ Said b true ∷ t ++ rest → IsBounded page_size 0 t → rest ≡ s ++ more → IsBounded 65536 0 s → 1 ≤ left → AreAskings left more → AreAskings (suc left) talk
 next_asking left b talk t rest s more is answer split settled some others =
     subst (λ (x : List TalkItem). AreAskings (suc left) x) (sym is)
     (subst (λ (x : List TalkItem). AreAskings (suc left) (Said b true ∷ t ++ x)) (sym split)
-    (bounded_within (267 + (65536 + (65803 * left - 65536))) (0 + (0 + left) + 1) (65803 * suc left - 65536) (suc left) (Said b true ∷ t ++ (s ++ more)) (omega (arith, some)) (omega arith)
-    (said_first (267 + (65536 + (65803 * left - 65536))) (0 + (0 + left)) b (t ++ (s ++ more))
-    (bounded_joins 267 0 (65536 + (65803 * left - 65536)) (0 + left) t (s ++ more) answer
+    (bounded_within (page_size + (65536 + (65803 * left - 65536))) (0 + (0 + left) + 1) (65803 * suc left - 65536) (suc left) (Said b true ∷ t ++ (s ++ more)) (omega (arith, some)) (omega arith)
+    (said_first (page_size + (65536 + (65803 * left - 65536))) (0 + (0 + left)) b (t ++ (s ++ more))
+    (bounded_joins page_size 0 (65536 + (65803 * left - 65536)) (0 + left) t (s ++ more) answer
     (bounded_joins 65536 0 (65803 * left - 65536) left s more settled others)))))
 
 takes : (left k b : ℕ) (talk : List TalkItem) (bytes : List ℕ) → Takes left k b talk bytes → (1 ≤ left) × AreAskings left talk
 takes zero k b talk bytes x = absurd x
-takes (suc left) k b talk bytes (t, rest, is, w, inl (page, none, same)) = (omega arith, last_asking left b talk t rest is (bounds_answer 3 267 t w) none)
+takes (suc left) k b talk bytes (t, rest, is, w, inl (page, none, same)) = (omega arith, last_asking left b talk t rest is (bounds_answer 3 page_size t w) none)
 takes (suc left) k b talk bytes (t, rest, is, w, inr (other, near, (s, more, split, still, x))) =
     let y = takes left k (next_said k (heard t)) more bytes x in
-    (omega arith, next_asking left b talk t rest s more is (bounds_answer 3 267 t w) split ((bounds_settling 6).still s still) y.0 y.1)
+    (omega arith, next_asking left b talk t rest s more is (bounds_answer 3 page_size t w) split ((bounds_settling 6).still s still) y.0 y.1)
 
 misses : (left k b : ℕ) (talk : List TalkItem) (trouble : Trouble) → Misses left k b talk trouble → (1 ≤ left) × AreAskings left talk
 misses zero k b talk trouble x = absurd x
-misses (suc left) k b talk trouble (t, rest, is, w, other, inl (ahead, none, e)) = (omega arith, last_asking left b talk t rest is (bounds_answer 3 267 t w) none)
-misses (suc left) k b talk trouble (t, rest, is, w, other, inr (inl (near, last, none, e))) = (omega arith, last_asking left b talk t rest is (bounds_answer 3 267 t w) none)
+misses (suc left) k b talk trouble (t, rest, is, w, other, inl (ahead, none, e)) = (omega arith, last_asking left b talk t rest is (bounds_answer 3 page_size t w) none)
+misses (suc left) k b talk trouble (t, rest, is, w, other, inr (inl (near, last, none, e))) = (omega arith, last_asking left b talk t rest is (bounds_answer 3 page_size t w) none)
 misses (suc left) k b talk trouble (t, rest, is, w, other, inr (inr (near, (s, more, split, still, x)))) =
     let y = misses left k (next_said k (heard t)) more trouble x in
-    (omega arith, next_asking left b talk t rest s more is (bounds_answer 3 267 t w) split ((bounds_settling 6).still s still) y.0 y.1)
+    (omega arith, next_asking left b talk t rest s more is (bounds_answer 3 page_size t w) split ((bounds_settling 6).still s still) y.0 y.1)
 
 -- a settling that floods, after an asking that is not the last
-flooded_asking : (left b : ℕ) (talk t rest : List TalkItem) → talk ≡ Said b true ∷ t ++ rest → IsBounded 267 0 t → IsBounded 65536 0 rest → 1 ≤ left → AreAskings (suc left) talk
+flooded_asking : (left b : ℕ) (talk t rest : List TalkItem) → talk ≡ Said b true ∷ t ++ rest → IsBounded page_size 0 t → IsBounded 65536 0 rest → 1 ≤ left → AreAskings (suc left) talk
 flooded_asking left b talk t rest is answer flood some =
     subst (λ (x : List TalkItem). AreAskings (suc left) x) (sym is)
-    (bounded_within (267 + 65536) (0 + 0 + 1) (65803 * suc left - 65536) (suc left) (Said b true ∷ t ++ rest) (omega (arith, some)) (omega arith)
-    (said_first (267 + 65536) (0 + 0) b (t ++ rest) (bounded_joins 267 0 65536 0 t rest answer flood)))
+    (bounded_within (page_size + 65536) (0 + 0 + 1) (65803 * suc left - 65536) (suc left) (Said b true ∷ t ++ rest) (omega (arith, some)) (omega arith)
+    (said_first (page_size + 65536) (0 + 0) b (t ++ rest) (bounded_joins page_size 0 65536 0 t rest answer flood)))
 
 some_left : (left : ℕ) → (left ≡ 0 → ⊥) → 1 ≤ left
 some_left zero ne = absurd (ne refl)
@@ -71,10 +72,10 @@ some_left (suc left) ne = omega arith
 ask_floods : (left k b : ℕ) (talk : List TalkItem) → AskFloods left k b talk → (1 ≤ left) × AreAskings left talk
 ask_floods zero k b talk x = absurd x
 ask_floods (suc left) k b talk (t, rest, is, w, other, near, inl (some, flood)) =
-    (omega arith, flooded_asking left b talk t rest is (bounds_answer 3 267 t w) ((bounds_settling 6).floods rest flood) (some_left left some))
+    (omega arith, flooded_asking left b talk t rest is (bounds_answer 3 page_size t w) ((bounds_settling 6).floods rest flood) (some_left left some))
 ask_floods (suc left) k b talk (t, rest, is, w, other, near, inr (s, more, split, still, x)) =
     let y = ask_floods left k (next_said k (heard t)) more x in
-    (omega arith, next_asking left b talk t rest s more is (bounds_answer 3 267 t w) split ((bounds_settling 6).still s still) y.0 y.1)
+    (omega arith, next_asking left b talk t rest s more is (bounds_answer 3 page_size t w) split ((bounds_settling 6).still s still) y.0 y.1)
 
 -- two parts, with the bounds of both
 parts : (h k i j : ℕ) (talk s t : List TalkItem) → talk ≡ s ++ t → IsBounded h k s → IsBounded i j t → IsBounded (h + i) (k + j) talk

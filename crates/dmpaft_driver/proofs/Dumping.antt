@@ -25,6 +25,7 @@ use Rattle.dmpaft_driver.specs.Exact.{end_of}
 use Rattle.dmpaft_pump.specs.Keeper.{Handed, one_batch, kept_all, join, count, last_kept}
 use Rattle.archive_record.specs.Reading.{stamp_in}
 use Rattle.station_base.specs.LastStamp.{Rises, last_stamp}
+use Rattle.vantage_frames.specs.Header.{most_pages}
 use Rattle.dmpaft_pump.specs.Ledger.{Ledger}
 use Rattle.dmpaft_driver.specs.Outcome.{Ended, EndsSaying, IsCutAfter}
 use Rattle.dmpaft_driver.specs.Gathered.{keeper_answer}
@@ -229,7 +230,7 @@ kept_few k a place taken = omega (arith, answered_size k (batches a place taken)
 
 -- the keeper can take the batch
 pub suits_at : (st : Stage) (start : Tally) (a : Option CivilMinute) (s : State) (pump : Pump) → ShowsAt st start a s pump → keeps_at st ≡ true
-    → (o b : Option CivilMinute) → o ≡ last_kept (handed a s) b → IsWithin b a → (room0 room : ℕ) → 513 ≤ room0 → room0 ≤ room + count (handed a s) → Rises stamp_in o pump.batch × (1 ≤ room)
+    → (o b : Option CivilMinute) → o ≡ last_kept (handed a s) b → IsWithin b a → (room0 room : ℕ) → most_pages ≤ room0 → room0 ≤ room + count (handed a s) → Rises stamp_in o pump.batch × (1 ≤ room)
 suits_at (stage.Saying q) start a s pump h k o b e w room0 room m l = cc
 suits_at (stage.Hearing q) start a s pump h k o b e w room0 room m l = cc
 suits_at (stage.Ended end) start a s pump h k o b e w room0 room m l = cc

@@ -7,6 +7,7 @@ use Rattle.serial_link.specs.declared.talk.TalkItem.{TalkItem}
 use Rattle.serial_link.proofs.Growing.{adds_joins}
 use Rattle.causes.specs.declared.stored.Stored.{Stored}
 use Rattle.causes.specs.declared.stored.Stored.TheVariants as stored
+use Rattle.vantage_frames.specs.Header.{most_pages}
 use Rattle.dmpaft_pump.specs.declared.outcome.DumpEnd.{DumpEnd}
 use Rattle.dmpaft_pump.specs.declared.outcome.Tally.{Tally}
 use Rattle.dmpaft_pump.specs.declared.pump.Pump.{Pump}
@@ -74,24 +75,24 @@ module _ {L K : Type 0} (traffic : Traffic L) (ledger : Ledger K) (start : Tally
   dumped = dumped_by v.turns
 
   Few : Type 0
-  Few = (ledger.room k0 ≤ ledger.room new.keeper + 513) × (new.pump.tally.pages ≤ start.pages + 513) × (new.pump.tally.skipped ≤ start.skipped + 2565)
+  Few = (ledger.room k0 ≤ ledger.room new.keeper + most_pages) × (new.pump.tally.pages ≤ start.pages + most_pages) × (new.pump.tally.skipped ≤ start.skipped + 5 * most_pages)
 
   few_by : ledger.room k0 ≤ ledger.room old.keeper + count (handed a s) → (new.pump ≡ old.pump) × (EndsAt end s v.said v.answers ⊎ CutsAt end a s v.said v.answers old.pump) → Few
   unfolding Few
   few_by r (same, inl (place, taken, e, is, end_is, none, noks)) =
       let tells = over_shown start a s place taken e old.pump shown is in (
-        omega (arith, r, v.few, ap count (ap (λ (y : List Stored). gives a s y) noks ∙ none_given a s), ap count (ap (handed a) is), kept_few (answer_of e) a place taken, tells.0.most_pages),
-        omega (arith, ap (λ (x : Pump). x.tally.pages) same, tells.0.pages, tells.0.most_pages),
-        omega (arith, ap (λ (x : Pump). x.tally.skipped) same, tells.0.skipped, all_few place taken, tells.0.most_pages),
+        omega (arith, r, v.few, ap count (ap (λ (y : List Stored). gives a s y) noks ∙ none_given a s), ap count (ap (handed a) is), kept_few (answer_of e) a place taken, tells.0.bounded),
+        omega (arith, ap (λ (x : Pump). x.tally.pages) same, tells.0.pages, tells.0.bounded),
+        omega (arith, ap (λ (x : Pump). x.tally.skipped) same, tells.0.skipped, all_few place taken, tells.0.bounded),
       )
   few_by r (same, inr (cut, noks, talks, stays, says)) =
       let c = cut_shown start a s old.pump shown talks in (
-        omega (arith, r, v.few, ap count (ap (λ (y : List Stored). gives a s y) noks ∙ none_given a s), ap count c.4, count_kept (batches a c.0 c.1), batches_few a c.0 c.1, c.3.most_pages),
-        omega (arith, ap (λ (x : Pump). x.tally.pages) same, c.3.pages, c.3.most_pages),
-        omega (arith, ap (λ (x : Pump). x.tally.skipped) same, c.3.skipped, all_few c.0 c.1, c.3.most_pages),
+        omega (arith, r, v.few, ap count (ap (λ (y : List Stored). gives a s y) noks ∙ none_given a s), ap count c.4, count_kept (batches a c.0 c.1), batches_few a c.0 c.1, c.3.bounded),
+        omega (arith, ap (λ (x : Pump). x.tally.pages) same, c.3.pages, c.3.bounded),
+        omega (arith, ap (λ (x : Pump). x.tally.skipped) same, c.3.skipped, all_few c.0 c.1, c.3.bounded),
       )
 
   -- one dump takes no more than one dump can
-  pub few : ledger.room k0 ≤ ledger.room old.keeper + count (handed a s) → (ledger.room k0 ≤ ledger.room new.keeper + 513) × (new.pump.tally.pages ≤ start.pages + 513) × (new.pump.tally.skipped ≤ start.skipped + 2565)
+  pub few : ledger.room k0 ≤ ledger.room old.keeper + count (handed a s) → (ledger.room k0 ≤ ledger.room new.keeper + most_pages) × (new.pump.tally.pages ≤ start.pages + most_pages) × (new.pump.tally.skipped ≤ start.skipped + 5 * most_pages)
   unfolding Few
   few r = few_by r v.turns

@@ -8,6 +8,7 @@ use Rattle.wake_retry.specs.Parts.{heard, ends_awake}
 use Rattle.wake_retry.proofs.Running.{silence}
 use Rattle.causes.specs.declared.stored.Stored.{Stored}
 use Rattle.causes.specs.declared.stored.Stored.TheVariants as stored
+use Rattle.vantage_frames.specs.Slots.{page_size}
 use Rattle.dmpaft_pump.specs.declared.outcome.Trouble.{Trouble}
 use Rattle.dmpaft_pump.specs.declared.outcome.Trouble.TheVariants.{ShortHeader}
 use Rattle.dmpaft_pump.specs.declared.pump_end.PumpEnd.{PumpEnd}
@@ -83,14 +84,14 @@ module _ (a : Option CivilMinute) where
   acking place taken = by_words (Acking place taken) place taken (6 ∷ []) (over place taken pump_end.Whole (λ z. cc))
 
   module _ (more place : ℕ) (taken : List (List ℕ)) where
-    unjudged : (left : ℕ) (bs : List ℕ) → length bs < 267 → Finishes (at a (asked_again more place taken left (next_said (length taken) bs))) place taken
+    unjudged : (left : ℕ) (bs : List ℕ) → length bs < page_size → Finishes (at a (asked_again more place taken left (next_said (length taken) bs))) place taken
         → Finishes (at a (judged a more place taken left bs (is_page_for (length taken) bs) (is_ahead (length taken) bs))) place taken
     unjudged left bs less f =
         let j = no_page (length taken) bs (not_whole bs less) in
         subst (λ (x : Bool). Finishes (at a (judged a more place taken left bs x (is_ahead (length taken) bs))) place taken) (sym j.0)
         (subst (λ (x : Bool). Finishes (at a (judged a more place taken left bs false x)) place taken) (sym j.1) f)
 
-    mutual_asking : (left b : ℕ) (bs : List ℕ) → length bs < 267 → Finishes (at a (next a (Asking more place taken left b) false bs)) place taken
+    mutual_asking : (left b : ℕ) (bs : List ℕ) → length bs < page_size → Finishes (at a (next a (Asking more place taken left b) false bs)) place taken
     mutual_asking zero b bs less = unjudged 0 bs less (giving place taken _)
     mutual_asking (suc left) b bs less =
         let c = next_said (length taken) bs in

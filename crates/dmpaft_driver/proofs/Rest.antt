@@ -4,6 +4,7 @@ use Rattle.std.specs.Prelude.{slice_index, bytes_eq}
 use Rattle.std.proofs.lemmas.Slice.Eq.{bytes_eq-Decides}
 use Rattle.station_base.specs.CivilMinute.{CivilMinute}
 use Rattle.vantage_frames.specs.StampFrame.{stamp_frame_of}
+use Rattle.vantage_frames.specs.Slots.{page_size}
 use Rattle.serial_link.specs.Talk.{message}
 use Rattle.serial_link.specs.declared.talk.TalkItem.{TalkItem}
 use Rattle.serial_link.specs.declared.talk.TalkItem.TheVariants.{Said}
@@ -129,7 +130,7 @@ module _ (W : Likeness) (exact : (taken : List (List ℕ)) (place at : ℕ) → 
     heading_out e w (Header (suc more) at) h x = (u, rest, e, w, inl (suc more, subst (λ n. IsHeader (heard u) (suc more) n) (sym x.0) h, subst (λ (y : List (List ℕ)). Pages (suc more) 0 rest y end) (sym x.2) x.3))
     heading_out e w (NoHeader trouble) h x = (u, rest, e, w, inr (trouble, h, x.0, x.2, x.3))
 
-    module _ (more at : ℕ) (taken : List (List ℕ)) (left b : ℕ) (e : t ≡ Said b true ∷ u ++ rest) (w : Awaits 3 267 u) where
+    module _ (more at : ℕ) (taken : List (List ℕ)) (left b : ℕ) (e : t ≡ Said b true ∷ u ++ rest) (w : Awaits 3 page_size u) where
       alone : Said b true ∷ u ≡ Said b true ∷ u ++ []
       alone = ap (λ (y : List TalkItem). Said b true ∷ y) (sym (append-nil u))
 
@@ -142,7 +143,7 @@ module _ (W : Likeness) (exact : (taken : List (List ℕ)) (place at : ℕ) → 
       batched_out p [] x = taken_out p (onward_pages W a more at taken (heard u) rest place all end x)
       batched_out p (r ∷ rows) x = taken_out p x
 
-    again_out : (more at : ℕ) (taken : List (List ℕ)) (left b : ℕ) → t ≡ Said b true ∷ u ++ rest → Awaits 3 267 u → is_page_for (length taken) (heard u) ≡ false → is_ahead (length taken) (heard u) ≡ false
+    again_out : (more at : ℕ) (taken : List (List ℕ)) (left b : ℕ) → t ≡ Said b true ∷ u ++ rest → Awaits 3 page_size u → is_page_for (length taken) (heard u) ≡ false → is_ahead (length taken) (heard u) ≡ false
         → RestAt W a (asked_again more at taken left (next_said (length taken) (heard u))) rest place all end → Rest W a (Asking more at taken left b) t place all end
     again_out more at taken zero b e w p q x =
         (exact taken place at x.1, [], x.2 ∙ sym (append-nil taken), inr (inl (Said b true ∷ u, PageLost (length taken), e ∙ ap (λ (y : List TalkItem). Said b true ∷ u ++ y) x.0, (u, [], alone more at taken 0 b e w, w, p, inr (inl (q, refl, refl, refl))), refl, x.3)))
@@ -178,7 +179,7 @@ module _ (W : Likeness) (exact : (taken : List (List ℕ)) (place at : ℕ) → 
     again_out more at taken (suc left) b e w p q (pe, fresh, ea, inl (s, rest2, se, still, inr (inr (floods, fe, en)))) =
         (pe, fresh, ea, inr (inr ((u, rest, e, w, p, q, inr (s, rest2, se, still, floods)), fe, en)))
 
-    asking_out : (more at : ℕ) (taken : List (List ℕ)) (left b : ℕ) → t ≡ Said b true ∷ u ++ rest → Awaits 3 267 u → (x y : Bool) → is_page_for (length taken) (heard u) ≡ x → is_ahead (length taken) (heard u) ≡ y
+    asking_out : (more at : ℕ) (taken : List (List ℕ)) (left b : ℕ) → t ≡ Said b true ∷ u ++ rest → Awaits 3 page_size u → (x y : Bool) → is_page_for (length taken) (heard u) ≡ x → is_ahead (length taken) (heard u) ≡ y
         → RestAt W a (judged a more at taken left (heard u) x y) rest place all end → Rest W a (Asking more at taken left b) t place all end
     asking_out more at taken left b e w true y p q x = batched_out more at taken left b e w p (batch_of a at taken (heard u)) x
     asking_out more at taken left b e w false true p q x =
@@ -198,7 +199,7 @@ module _ (W : Likeness) (exact : (taken : List (List ℕ)) (place at : ℕ) → 
       let w = hears_awaits 7 u full (omega arith) h in
       heading_out u rest e w (reply_of (heard u)) (reply_is (heard u) (omega (arith, answer_size 7 u w))) x
   out (Asking more at taken left b) is (u, rest, full, e, h, x) =
-      asking_out u rest more at taken left b e (hears_awaits 267 u full (omega arith) h) (is_page_for (length taken) (heard u)) (is_ahead (length taken) (heard u)) refl refl x
+      asking_out u rest more at taken left b e (hears_awaits page_size u full (omega arith) h) (is_page_for (length taken) (heard u)) (is_ahead (length taken) (heard u)) refl refl x
   out (Resettling more at taken left b) is (u, rest, true, e, h, x) =
       (exact taken place at x.1, [], x.2 ∙ sym (append-nil taken), inr (subst (λ (y : List TalkItem). Flooding 6 y) (nothing_after t u rest e x.0) (hears_flooding 6 u h), refl, x.3))
   out (Resettling more at taken left b) is (u, rest, false, e, h, x) = (x.0, x.1, x.2, inl (u, rest, e, hears_still 6 65536 0 0 u refl (omega arith) (omega arith) h, x.3))

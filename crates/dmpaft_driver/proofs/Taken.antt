@@ -5,6 +5,7 @@ use Rattle.station_base.specs.CivilMinute.{CivilMinute}
 use Rattle.causes.specs.declared.stored.Stored.{Stored}
 use Rattle.causes.specs.declared.stored.Stored.TheVariants as stored
 use Rattle.vantage_frames.specs.StampFrame.{stamp_frame_of}
+use Rattle.vantage_frames.specs.Slots.{page_size}
 use Rattle.serial_link.specs.Talk.{message}
 use Rattle.serial_link.specs.declared.talk.TalkItem.{TalkItem}
 use Rattle.serial_link.specs.declared.talk.TalkItem.TheVariants.{Said}
@@ -127,15 +128,15 @@ module _ (a : Option CivilMinute) (s : State) (ne : s ≢ Astray) (place : ℕ) 
     nothing_yet taken p e h = (h.0 ∙ e, inl (h.0 ∙ e))
 
     module _ (t u rest : List TalkItem) where
-      judged_at : (more at : ℕ) (taken : List (List ℕ)) (left b : ℕ) → t ≡ Said b true ∷ u ++ rest → (full : Bool) → HearsFrom 3 267 0 0 u full → (x y : Bool) → is_page_for (length taken) (heard u) ≡ x
+      judged_at : (more at : ℕ) (taken : List (List ℕ)) (left b : ℕ) → t ≡ Said b true ∷ u ++ rest → (full : Bool) → HearsFrom 3 page_size 0 0 u full → (x y : Bool) → is_page_for (length taken) (heard u) ≡ x
           → Has all place (taken_at (judged a more at taken left (heard u) x y)) (place_at (judged a more at taken left (heard u) x y)) → Had (Asking more at taken left b) t
       judged_at more at taken left b e full h true y p x =
           let o = batched_at more at taken (heard u) (batch_of a at taken (heard u)) in
           let is : all ≡ taken ++ heard u ∷ [] = x.0 ∙ o.0 in
-          let w = hears_awaits 267 u full (omega arith) h in
+          let w = hears_awaits page_size u full (omega arith) h in
           inr (Said b true ∷ u, rest, sym e, taken_page (x.1) o.1 is w)
         where
-          taken_page : (all ≡ []) ⊎ (place ≡ place_at (batched more at taken (heard u) (batch_of a at taken (heard u)))) → place_at (batched more at taken (heard u) (batch_of a at taken (heard u))) ≡ at → all ≡ taken ++ heard u ∷ [] → Awaits 3 267 u
+          taken_page : (all ≡ []) ⊎ (place ≡ place_at (batched more at taken (heard u) (batch_of a at taken (heard u)))) → place_at (batched more at taken (heard u) (batch_of a at taken (heard u))) ≡ at → all ≡ taken ++ heard u ∷ [] → Awaits 3 page_size u
               → Rest Exact a (Asking more at taken left b) (Said b true ∷ u) place all End.Refused
           taken_page (inl none) f is w = absurd (not_none taken (heard u) (sym is ∙ none))
           taken_page (inr same) f is w =

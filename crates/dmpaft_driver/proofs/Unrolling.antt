@@ -4,6 +4,7 @@ use Rattle.std.specs.Prelude.{bytes_eq}
 use Rattle.std.proofs.lemmas.Slice.Eq.{bytes_eq-Decides}
 use Rattle.station_base.specs.CivilMinute.{CivilMinute}
 use Rattle.vantage_frames.specs.StampFrame.{stamp_frame_of}
+use Rattle.vantage_frames.specs.Slots.{page_size}
 use Rattle.serial_link.specs.Talk.{message}
 use Rattle.serial_link.specs.declared.talk.TalkItem.{TalkItem}
 use Rattle.serial_link.specs.declared.talk.TalkItem.TheVariants.{Said}
@@ -85,9 +86,9 @@ module _ (W : Likeness) (same : (taken : List (List ℕ)) (place at : ℕ) → p
         absurd (gives_last a at taken page (subst (λ n. EndsGiving a n (taken ++ page ∷ [])) pe ends) z)
     batched_in page rest later ea l (r ∷ rows) z = (pe, later, ea ∙ sym (append_assoc taken (page ∷ []) later), l)
 
-    module _ (left : ℕ) (v rest : List TalkItem) (w : Awaits 3 267 v) (e : t ≡ Said b true ∷ v ++ rest) where
+    module _ (left : ℕ) (v rest : List TalkItem) (w : Awaits 3 page_size v) (e : t ≡ Said b true ∷ v ++ rest) where
       as_heard : RestAt W a (next a (Asking more at taken left b) true (heard v)) rest place all end → Unrolled W a (Asking more at taken left b) t place all end
-      as_heard x = let k = awaits_hears 267 v w in (v, rest, k.0, e, k.1, full_or_not k.0)
+      as_heard x = let k = awaits_hears page_size v w in (v, rest, k.0, e, k.1, full_or_not k.0)
         where
           full_or_not : (f : Bool) → RestAt W a (next a (Asking more at taken left b) f (heard v)) rest place all end
           full_or_not true = x

@@ -1,18 +1,21 @@
 -- How much an attempt hears and says at most. (The numbers of settlings and askings are this project's profile.)
 use Rattle.std.specs.Prelude.{ℕ, ◌+◌, ◌*◌, List, Option}
 use Rattle.station_base.specs.CivilMinute.{CivilMinute}
+use Rattle.vantage_frames.specs.Header.{most_pages}
+use Rattle.vantage_frames.specs.Slots.{page_size}
 use Rattle.serial_link.specs.declared.talk.TalkItem.{TalkItem}
 use Rattle.wake_retry.specs.Bounds.{IsBounded}
 use Rattle.dmpaft_pump.specs.declared.outcome.DumpEnd.{DumpEnd}
 use Rattle.dmpaft_driver.specs.OneAttempt.{IsAttempt}
 
--- 1,543 settlings of 65,536 bytes, an answer to DMPAFT, one to the stamp frame, and 2,052 askings for pages
+-- the first settling, those of a wake and those between askings, each of a flood, an answer to DMPAFT, one to the stamp
+-- frame, and four askings for each page
 abbrev pub most_heard : ℕ
-most_heard = 1543 * 65536 + 1 + 7 + 2052 * 267
+most_heard = (4 + 3 * most_pages) * 65536 + 1 + 7 + 4 * most_pages * page_size
 
--- three line feeds, DMPAFT and its line feed, the stamp frame, 2,052 askings for pages, and the byte that ends it
+-- three line feeds, DMPAFT and its line feed, the stamp frame, four askings for each page, and the byte that ends it
 abbrev pub most_said : ℕ
-most_said = 3 + 7 + 6 + 2052 + 1
+most_said = 3 + 7 + 6 + 4 * most_pages + 1
 
 -- no attempt hears or says more, however it ended
 abbrev pub AttemptsAreBounded : Type 0

@@ -1,6 +1,7 @@
 ghost use Rattle.std.specs.Prelude.{◌≡◌, ◌<◌, ◌≤◌, List, Option, None, Some};
 ghost use Rattle.causes.specs.Cause.{Cause};
 ghost use Rattle.station_base.specs.CivilMinute.{CivilMinute};
+ghost use Rattle.vantage_frames.specs.Slots.{page_size};
 ghost use Rattle.serial_link.specs.declared.talk.TalkItem.{TalkItem};
 ghost use Rattle.serial_link.specs.Talk.{Adds};
 ghost use Rattle.dmpaft_pump.specs.declared.outcome.Tally.{Tally};
@@ -49,7 +50,7 @@ pub fn turn<L: Link, K: Keeper>(pump: &mut Pump, link: &mut L, keeper: &mut K) -
 fn listen<L: Link>(pump: &mut Pump, link: &mut L, most: u16) -> Option<DumpEnd>
     requires some { 1 ≤ most }
     requires room { most ≤ room_of pump.old }
-    requires piece { most ≤ 267 }
+    requires piece { most ≤ page_size }
     ensures hears { (start : Tally) (after : Option CivilMinute) (s : State) → Shows start after s pump.old
         → (t : List TalkItem) × Adds L.traffic link.old t link.new
         × ListensTo result start after s t pump.old pump.new }

@@ -83,7 +83,7 @@ module _ (a : Option CivilMinute) (p : Part) where
 -- where a pump stands is not counted
 pub counts_as : (start : Tally) (a : Option CivilMinute) (place : ℕ) (taken : List (List ℕ)) (steps : Handed) (to : Stage) (pump : Pump) → Counts start a place taken steps pump → Counts start a place taken steps (record pump { stage = to })
 counts_as start a place taken steps to pump h = record {
-  tallied = record { asked = h.tallied.asked; most_pages = h.tallied.most_pages; pages = h.tallied.pages; skipped = h.tallied.skipped; last = h.tallied.last };
+  tallied = record { asked = h.tallied.asked; bounded = h.tallied.bounded; pages = h.tallied.pages; skipped = h.tallied.skipped; last = h.tallied.last };
   number = h.number;
   from = h.from;
   low = h.low;
@@ -188,14 +188,14 @@ said_shows start a phase.Acking s pump h = record {
   place = h.place;
   taken = h.taken;
   is = ap (λ (x : State). pump_from a x (message (words_of a phase.Acking)) []) h.is ∙ said_all a h.place h.taken phase.Acking;
-  tallied = record { asked = h.counts.tallied.asked; most_pages = h.counts.tallied.most_pages; pages = h.counts.tallied.pages; skipped = h.counts.tallied.skipped; last = h.counts.tallied.last ∙ ap (λ (x : Handed). last_kept x start.last) (sym (kept_answered (batches a h.place h.taken))) };
+  tallied = record { asked = h.counts.tallied.asked; bounded = h.counts.tallied.bounded; pages = h.counts.tallied.pages; skipped = h.counts.tallied.skipped; last = h.counts.tallied.last ∙ ap (λ (x : Handed). last_kept x start.last) (sym (kept_answered (batches a h.place h.taken))) };
   gives = λ ne. absurd (ne refl);
 }
 said_shows start a (phase.GivingUp trouble) s pump h = record {
   place = h.place;
   taken = h.taken;
   is = ap (λ (x : State). pump_from a x (message (words_of a (phase.GivingUp trouble))) []) h.is ∙ said_all a h.place h.taken (phase.GivingUp trouble);
-  tallied = record { asked = h.counts.tallied.asked; most_pages = h.counts.tallied.most_pages; pages = h.counts.tallied.pages; skipped = h.counts.tallied.skipped; last = h.counts.tallied.last ∙ ap (λ (x : Handed). last_kept x start.last) (sym (kept_answered (batches a h.place h.taken))) };
+  tallied = record { asked = h.counts.tallied.asked; bounded = h.counts.tallied.bounded; pages = h.counts.tallied.pages; skipped = h.counts.tallied.skipped; last = h.counts.tallied.last ∙ ap (λ (x : Handed). last_kept x start.last) (sym (kept_answered (batches a h.place h.taken))) };
   gives = λ ne. absurd (ne refl);
 }
 

@@ -2,6 +2,8 @@
 use Rattle.std.specs.Prelude.{◌≡◌, ℕ, ◌+◌, ◌*◌, ◌<◌, Bool, true, false, List, [], ◌∷◌, length, Option}
 use Rattle.station_base.specs.CivilMinute.{CivilMinute}
 use Rattle.vantage_frames.specs.StampFrame.{stamp_frame_of}
+use Rattle.vantage_frames.specs.Header.{most_pages}
+use Rattle.vantage_frames.specs.Slots.{page_size}
 use Rattle.dmpaft_pump.specs.declared.phase.Phase.{Phase}
 use Rattle.dmpaft_pump.specs.declared.phase.Phase.TheVariants as phase
 use Rattle.dmpaft_pump.specs.Command.{dmpaft}
@@ -35,7 +37,7 @@ most_of phase.Settling = 65536
 most_of (phase.Waking left) = 65536
 most_of phase.Calling = 1
 most_of phase.Heading = 7
-most_of (phase.Asking more left said) = 267
+most_of (phase.Asking more left said) = page_size
 most_of (phase.Resettling more left said) = 65536
 most_of phase.Acking = 1
 most_of (phase.GivingUp trouble) = 1
@@ -68,8 +70,8 @@ Fits phase.Settling place taken = (place ≡ 0) × (taken ≡ [])
 Fits (phase.Waking left) place taken = (place ≡ 0) × (taken ≡ [])
 Fits phase.Calling place taken = (place ≡ 0) × (taken ≡ [])
 Fits phase.Heading place taken = (place ≡ 0) × (taken ≡ [])
-Fits (phase.Asking more left said) place taken = length taken + more < 513
-Fits (phase.Resettling more left said) place taken = length taken + more < 513
+Fits (phase.Asking more left said) place taken = length taken + more < most_pages
+Fits (phase.Resettling more left said) place taken = length taken + more < most_pages
 Fits phase.Acking place taken = Unit {0}
 Fits (phase.GivingUp trouble) place taken = Unit {0}
 

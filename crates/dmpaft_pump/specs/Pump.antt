@@ -11,6 +11,7 @@ use Rattle.serial_link.specs.declared.talk.TalkItem.TheVariants.{Said, Heard, Qu
 use Rattle.wake_retry.specs.Parts.{ends_awake}
 use Rattle.causes.specs.declared.stored.Stored.{Stored}
 use Rattle.causes.specs.declared.stored.Stored.TheVariants as stored
+use Rattle.vantage_frames.specs.Slots.{page_size}
 use Rattle.dmpaft_pump.specs.declared.pump_end.PumpEnd.{PumpEnd}
 use Rattle.dmpaft_pump.specs.declared.pump_end.PumpEnd.TheVariants as pump_end
 use Rattle.dmpaft_pump.specs.declared.outcome.Trouble.{Trouble}
@@ -79,7 +80,7 @@ most Settling = 65536
 most (Waking left) = 65536
 most Calling = 1
 most Heading = 7
-most (Asking more place taken left b) = 267
+most (Asking more place taken left b) = page_size
 most (Resettling more place taken left b) = 65536
 most (Acking place taken) = 1
 most (GivingUp place taken trouble) = 1

@@ -5,6 +5,8 @@ use Rattle.station_base.specs.CivilMinute.{CivilMinute}
 use Rattle.wake_retry.specs.Settling.{tail_of}
 use Rattle.causes.specs.declared.stored.Stored.{Stored}
 use Rattle.causes.specs.declared.stored.Stored.TheVariants as stored
+use Rattle.vantage_frames.specs.Header.{most_pages}
+use Rattle.vantage_frames.specs.Slots.{page_size}
 use Rattle.dmpaft_pump.specs.declared.outcome.Tally.{Tally}
 use Rattle.dmpaft_pump.specs.declared.phase.Phase.{Phase}
 use Rattle.dmpaft_pump.specs.declared.pump_end.PumpEnd.{PumpEnd}
@@ -33,7 +35,7 @@ all_kept after place taken = kept_all (batches after place taken)
 pub record Tallied (start : Tally) (after : Option CivilMinute) (place : ℕ) (taken : List (List ℕ))
     (steps : Handed) (pump : Pump) : Type 0 where
   pub asked : pump.after ≡ after
-  pub most_pages : length taken ≤ 513
+  pub bounded : length taken ≤ most_pages
   pub pages : pump.tally.pages ≡ start.pages + length taken
   pub skipped : pump.tally.skipped ≡ start.skipped + all_skipped place taken
   pub last : pump.tally.last ≡ last_kept steps start.last
@@ -121,7 +123,7 @@ pub record IsKeeping (start : Tally) (after : Option CivilMinute) (more : ℕ) (
   pub counts : Counts start after place (taken ++ page ∷ []) (all_kept after place taken) pump
   pub batch : pump.batch ≡ batch_of after place taken page
   pub some : batch_of after place taken page ≢ []
-  pub fits : length taken + more < 513
+  pub fits : length taken + more < most_pages
 
 -- The attempt is over.
 pub record IsOver (start : Tally) (after : Option CivilMinute) (end : PumpEnd) (s : State) (pump : Pump) : Type 0 where
@@ -185,7 +187,7 @@ talks_at (stage.Ended end) = false
 -- An action fits the pump.
 abbrev pub Allows : Option CivilMinute → Pump → Action → Type 0
 Allows after pump (action.Say words) = (words.items ≡ said_at after pump.stage) × (0 < length words.items)
-Allows after pump (action.Listen n) = (1 ≤ n) × (n ≤ room_of pump) × (n ≤ 267)
+Allows after pump (action.Listen n) = (1 ≤ n) × (n ≤ room_of pump) × (n ≤ page_size)
 Allows after pump (action.Keep rows) = (keeps_at pump.stage ≡ true) × (rows.now ≡ pump.batch)
     × (length rows.now ≤ 5)
 Allows after pump (action.Ended end) = pump.stage ≡ stage.Ended end

@@ -1,4 +1,5 @@
 ghost use Rattle.std.specs.Prelude.{◌≡◌, ◌≤◌, ◌<◌, ◌+◌, ◌++◌, ℕ, List, length, take};
+ghost use Rattle.vantage_frames.specs.Slots.{page_size};
 ghost use Rattle.wake_retry.specs.Settling.{tail_of};
 ghost use Rattle.dmpaft_pump.specs.declared.message.TheConstants.{LONGEST_MESSAGE};
 
@@ -33,7 +34,7 @@ pub fn tail_after(tail: [u8; 2], bytes: &[u8]) -> [u8; 2]
 
 /// Puts bytes into an answer from a place on.
 pub fn fill(answer: &mut [u8; PAGE_SIZE], at: usize, bytes: &[u8])
-    requires { at + length bytes.now ≤ 267 }
+    requires { at + length bytes.now ≤ page_size }
     ensures { (before : List ℕ) → length before ≡ at → take (length before) answer.old ≡ before
         → take (length (before ++ bytes.now)) answer.new ≡ before ++ bytes.now }
 {

@@ -1,6 +1,8 @@
 ghost use Rattle.std.specs.Prelude.{◌≡◌, ◌≢◌, ◌≤◌, ◌<◌, ◌+◌, ◌-◌, ◌*◌, ◌++◌, ◌^◌, ℕ, List, [], ◌∷◌, Option, Bool};
 ghost use Rattle.std.specs.Prelude.{map, length, true, false};
 ghost use Rattle.station_base.specs.CivilMinute.{CivilMinute};
+ghost use Rattle.vantage_frames.specs.Header.{most_pages};
+ghost use Rattle.vantage_frames.specs.Slots.{page_size};
 ghost use Rattle.serial_link.specs.declared.talk.TalkItem.{TalkItem};
 ghost use Rattle.serial_link.specs.declared.talk.TalkItem.TheVariants.{Heard, Quiet};
 ghost use Rattle.serial_link.specs.Talk.{message};
@@ -157,7 +159,7 @@ impl Pump {
     fn room(&self, phase: Phase) -> u16
         ensures few { result ≤ most_of phase - self.now.count }
         ensures some { self.now.count < most_of phase → 1 ≤ result }
-        ensures piece { result ≤ 267 }
+        ensures piece { result ≤ page_size }
     {
         phase.most().saturating_sub(self.count).min(PIECE) as u16
     }
@@ -405,7 +407,7 @@ impl Pump {
     fn count_page(&mut self, skipped: u32)
         ensures counts { (start : Tally) (after : Option CivilMinute) (place : ℕ) (taken : List (List ℕ))
             (page : List ℕ)
-            → Gathered start after place taken page skipped self.old → length taken < 513
+            → Gathered start after place taken page skipped self.old → length taken < most_pages
             → Counts start after place (taken ++ page ∷ []) (all_kept after place taken) self.new }
         ensures batch { self.new.batch ≡ self.old.batch }
     {
@@ -419,7 +421,7 @@ impl Pump {
     fn hand(&mut self, more: u16)
         ensures shows { (start : Tally) (after : Option CivilMinute) (place : ℕ) (taken : List (List ℕ)) (page : List ℕ)
             → Counts start after place (taken ++ page ∷ []) (all_kept after place taken) self.old
-            → self.old.batch ≡ batch_of after place taken page → length taken + more < 513
+            → self.old.batch ≡ batch_of after place taken page → length taken + more < most_pages
             → Shows start after (at after (batched more place taken page (batch_of after place taken page))) self.new }
         ensures left { left_of self.new ≤ 1600000 * more + 2001 }
     {
@@ -433,7 +435,7 @@ impl Pump {
     // After a page whose batch is kept.
     fn go_on(&mut self, more: u16)
         ensures shows { (start : Tally) (after : Option CivilMinute) (place : ℕ) (taken : List (List ℕ))
-            → Counts start after place taken (all_kept after place taken) self.old → length taken + more ≤ 513
+            → Counts start after place taken (all_kept after place taken) self.old → length taken + more ≤ most_pages
             → Shows start after (begun after (onward more place taken)) self.new }
         ensures left { left_of self.new < 1600000 * more + 2001 }
     {
@@ -451,7 +453,7 @@ impl Pump {
     // The page is asked for again by this byte, if it was not asked for too often.
     fn ask_again(&mut self, more: u16, left: u8, said: u8)
         ensures shows { (start : Tally) (after : Option CivilMinute) (place : ℕ) (taken : List (List ℕ))
-            → Counts start after place taken (all_kept after place taken) self.old → length taken + more < 513
+            → Counts start after place taken (all_kept after place taken) self.old → length taken + more < most_pages
             → Shows start after (at after (asked_again more place taken left said)) self.new }
         ensures left { left_of self.new ≤ 1600000 * more + 502000 * left + 2001 }
     {

@@ -15,6 +15,7 @@ use Rattle.console_model.specs.Due.{due, due_in, due_by, put, hold, in_the_way}
 use Rattle.console_model.specs.declared.order.Order.TheVariants.{Empty}
 use Rattle.console_model.proofs.Orders.{read_empty}
 use Rattle.station_base.specs.CivilMinute.{CivilMinute}
+use Rattle.vantage_frames.specs.Slots.{page_size}
 use Rattle.station_sim.specs.Line.{due_all}
 use Rattle.station_sim.specs.Calm.{Rests}
 use Rattle.line_laws.specs.Host.{Near, NearAt}
@@ -23,7 +24,7 @@ use Rattle.line_laws.proofs.Delivery.{page_length}
 
 -- what a console that rests near a dump answers to a byte
 pub data Answer (h : List (List ℕ)) (p : Plan) (low high : ℕ) (o : Outcome) : Type 0 where
-  a_page : (m : ℕ) → o.kind ≡ Page → o.bytes ≡ page_of h p m → length o.bytes ≡ 267 → low ≤ m + 1 → m + 1 ≤ high + 1 → Near h p (m + 1) (m + 1) o.next → Rests o.next.state → Answer h p low high o
+  a_page : (m : ℕ) → o.kind ≡ Page → o.bytes ≡ page_of h p m → length o.bytes ≡ page_size → low ≤ m + 1 → m + 1 ≤ high + 1 → Near h p (m + 1) (m + 1) o.next → Rests o.next.state → Answer h p low high o
   a_wake : o.kind ≡ Wake → length o.bytes ≤ 2 → Answer h p low high o
   nothing : o.kind ≡ Nothing → Answer h p low high o
 

@@ -1,6 +1,7 @@
 -- One attempt from a calm line.
 use Rattle.std.proofs.Common.{◌≡◌, ℕ, ◌+◌, ◌<◌, true, inl, inr, List, [], ◌∷◌, ◌++◌, length, Some, None, refl, sym, ◌∙◌, ap, subst, arith, append_assoc}
 use Rattle.std.proofs.lemmas.Option.{same_Some}
+use Rattle.vantage_frames.specs.Slots.{page_size}
 use Rattle.dmpaft_driver.specs.Attempt.{Heads, Requests, Attempt, End, esc}
 use Rattle.dmpaft_pump.specs.Command.{dmpaft}
 use Rattle.console_model.specs.Spelling.{plan_after}
@@ -58,7 +59,7 @@ stray_ends : (f : Fates) → AreMild f → (w u v : Line) → Strayed w u → co
 stray_ends f mild w u v k e un =
     let is : says f 27 true u ≡ v = same_Some _ v e in
     let q = gives_up k.history k.plan k.low k.high 5000 f mild u k.begun k.tame (ap (λ x. x.unseen) is ∙ un) in
-    (subst IsCalm is (tame_calm k.history k.plan k.low (k.high + 1) (5000 + 267) (says f 27 true u) (omega arith) q.2 q.0), ap (λ x. x.dumps) (sym is) ∙ q.1 ∙ k.dumps)
+    (subst IsCalm is (tame_calm k.history k.plan k.low (k.high + 1) (5000 + page_size) (says f 27 true u) (omega arith) q.2 q.0), ap (λ x. x.dumps) (sym is) ∙ q.1 ∙ k.dumps)
 
 rested_strayed : (w u : Line) → Rested u → u.dumps ≡ w.dumps → Strayed w u
 rested_strayed w u r d = record {
@@ -99,7 +100,7 @@ begins_ends : (g : List (List ℕ)) (frame : List ℕ) (f : Fates) → AreMild f
 begins_ends g frame f mild t w u v k e un =
     let is : says f 27 true u ≡ v = same_Some _ v e in
     let q = gives_up g (plan_after g frame) 0 0 5000 f mild u k.begun k.tame (ap (λ x. x.unseen) is ∙ un) in
-    (subst IsCalm is (tame_calm g (plan_after g frame) 0 (0 + 1) (5000 + 267) (says f 27 true u) (omega arith) q.2 q.0), ap (λ x. x.dumps) (sym is) ∙ q.1 ∙ k.dumps)
+    (subst IsCalm is (tame_calm g (plan_after g frame) 0 (0 + 1) (5000 + page_size) (says f 27 true u) (omega arith) q.2 q.0), ap (λ x. x.dumps) (sym is) ∙ q.1 ∙ k.dumps)
 
 module _ (f : Fates) (ok : AreSound f) (frame : List ℕ) (six : length frame ≡ 6) where
   heads_end : (talk : List TalkItem) (place : ℕ) (taken : List (List ℕ)) (end : End) (w u v : Line) → Awaiting [] w u → Heads frame talk place taken end → console_talk f talk u ≡ Some v → v.unseen ≡ None → IsCalm v × GathersPages frame w place taken end v

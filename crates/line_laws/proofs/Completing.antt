@@ -24,6 +24,7 @@ use Rattle.line_laws.specs.Host.{Listens, Near}
 use Rattle.console_model.specs.Valid.{IsTidy}
 use Rattle.serial_link.specs.Talk.{message}
 use Rattle.vantage_frames.specs.Header.{CanBegin, CannotBegin}
+use Rattle.vantage_frames.specs.Slots.{page_size}
 use Rattle.dmpaft_pump.specs.Header.{IsHeader, IsNoHeader}
 use Rattle.dmpaft_pump.specs.declared.outcome.Trouble.{Trouble}
 use Rattle.dmpaft_pump.specs.declared.outcome.Trouble.TheVariants.{Asleep as Slept, NoAck, ShortHeader, NoHeaderAck, HeaderCheck, HeaderNumbers, PageLost, PageAhead}
@@ -48,8 +49,8 @@ use Rattle.line_laws.proofs.Attempts.{listens_begun}
 use Rattle.line_laws.specs.Unharmed.{Awake, Waiting, InDump}
 use Rattle.line_laws.proofs.Unharmed.{wake_law, call_law, Held, due_dump, listens_messages, replies_whole, whole_of, page_law}
 
-pub page_for : (k : ℕ) (bytes : List ℕ) → length bytes ≡ 267 → is_good bytes ≡ true → has_sequence (k % 256) bytes ≡ true → is_page_for k bytes ≡ true
-page_for k bytes l g s = go (length bytes == 267) (is_good bytes) (has_sequence (k % 256) bytes) (grind (arith, l)) g s
+pub page_for : (k : ℕ) (bytes : List ℕ) → length bytes ≡ page_size → is_good bytes ≡ true → has_sequence (k % 256) bytes ≡ true → is_page_for k bytes ≡ true
+page_for k bytes l g s = go (length bytes == page_size) (is_good bytes) (has_sequence (k % 256) bytes) (grind (arith, l)) g s
   where
     go : (a b c : Bool) → a ≡ true → b ≡ true → c ≡ true → (a && b && c) ≡ true
     go true true true x y z = refl

@@ -9,6 +9,7 @@ use Rattle.console_ring.specs.Picture.{page_of, shown, slot_of, slot_on, slots_b
 use Rattle.crc_ccitt.specs.Check.{check_bytes}
 use Rattle.station_sim.specs.Sound.{AreRecords}
 use Rattle.crc_ccitt.specs.Check.{is_good}
+use Rattle.vantage_frames.specs.Slots.{page_size}
 use Rattle.console_model.specs.declared.reply.ReplyKind.TheVariants.{Page}
 use Rattle.station_sim.specs.declared.part.Part.{Part}
 use Rattle.schedule_file.specs.declared.fate.Fate.{Fate}
@@ -47,7 +48,7 @@ bytes_of_late k zero (b ∷ bs) = bytes_of_waits k (Byte b ∷ all_bytes bs) ∙
 bytes_of_late k (suc p) (b ∷ bs) = ap (λ x. b ∷ x) (bytes_of_late k p bs)
 
 -- a delivery of full length that passes, and is not unseen, is what was sent
-pub unharmed_page : (u : Option Unseen) (x : Unseen) (k : ReplyKind) (sent got : List ℕ) → k ≡ Page → length sent ≡ 267 → length got ≡ 267 → is_good got ≡ true →
+pub unharmed_page : (u : Option Unseen) (x : Unseen) (k : ReplyKind) (sent got : List ℕ) → k ≡ Page → length sent ≡ page_size → length got ≡ page_size → is_good got ≡ true →
     earlier u (if is_harmed sent got && passes k sent got then Some x else None) ≡ None → got ≡ sent
 unharmed_page (Some v) x k sent got e ls lg g h = absurd cc
 unharmed_page None x k sent got e ls lg g h = sym ((bytes_eq-Decides sent got).0 (go (bytes_eq sent got) (passes k sent got) refl passing h))
@@ -77,7 +78,7 @@ unfolding slots_before
 slots_long slot long zero = refl
 slots_long slot long (suc n) = omega (arith, length-append (slots_before slot n) (slot n), long n, slots_long slot long n)
 
-pub page_length : (h : List (List ℕ)) (p : Plan) (k : ℕ) → AreRecords h → length (page_of h p k) ≡ 267
+pub page_length : (h : List (List ℕ)) (p : Plan) (k : ℕ) → AreRecords h → length (page_of h p k) ≡ page_size
 unfolding page_of
 page_length h p k ok =
     let body = slots_before (slot_on h p k) 5 in

@@ -2,6 +2,7 @@
 use Rattle.std.proofs.Common.{◌≡◌, ℕ, ◌+◌, if◌then◌else◌, Bool, true, false, ◌&&◌, ◌||◌, not, ◌⊎◌, inl, inr, List, [], ◌∷◌, ◌++◌, length, Option, Some, None, refl, sym, ◌∙◌, ap, arith, append_assoc}
 use Rattle.std.specs.Prelude.{nat_lt, bytes_eq}
 use Rattle.std.proofs.lemmas.Slice.Eq.{bytes_eq-Decides}
+use Rattle.vantage_frames.specs.Slots.{page_size}
 use Rattle.console_model.specs.Console.{Store, State}
 use Rattle.console_ring.specs.declared.plan.Plan.{Plan}
 use Rattle.console_model.proofs.Orders.{read_dump_after, read_without_first}
@@ -69,7 +70,7 @@ tame_waited h p low high n rs w t = record { near = near_due_all h p low high rs
 
 -- the host gives up, near a dump
 pub gives_up : (h : List (List ℕ)) (p : Plan) (low high n : ℕ) (f : Fates) → AreMild f → (w : Line) → w.begun ≡ [] → Tame h p low high n w → (says f 27 true w).unseen ≡ None →
-    Tame h p low (high + 1) (n + 267) (says f 27 true w) × ((says f 27 true w).dumps ≡ w.dumps) × ((says f 27 true w).begun ≡ [])
+    Tame h p low (high + 1) (n + page_size) (says f 27 true w) × ((says f 27 true w).dumps ≡ w.dumps) × ((says f 27 true w).begun ≡ [])
 gives_up h p low high n f mild w b t u =
     let m = w.begun ++ 27 ∷ [] in
     let got = delivered (f.host (w.messages + 1)) (w.begun ++ 27 ∷ []) in
@@ -79,7 +80,7 @@ gives_up h p low high n f mild w b t u =
       | inr a ↦ ap (λ x. completes x w.console) (a ∙ e) ∙ esc_by h p low high w.console.state w.console.history w.console.store w.console.held w.console.idle t.near
     ] in
     let q = hears_any h p low high f mild got n (counted f m w) (omega (arith, delivered_length (f.host (w.messages + 1)) m, ap length e)) (record { near = t.near; few = t.few; closed = t.closed; size = t.size }) z in
-    (tame_waited h p low (high + 1) (n + 267) (f.mids (w.messages + 1)) (hears f got (counted f m w)) q.0, q.1, q.2)
+    (tame_waited h p low (high + 1) (n + page_size) (f.mids (w.messages + 1)) (hears f got (counted f m w)) q.0, q.1, q.2)
 
 -- DMPAFT, to a console that rests: asleep it completes nothing, and else it awaits a frame
 pub calls_dump : (f : Fates) (w : Line) → Rests w.console.state →

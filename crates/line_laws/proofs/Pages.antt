@@ -5,6 +5,7 @@ use Rattle.console_ring.specs.declared.plan.Plan.{Plan}
 use Rattle.console_model.specs.Console.{Console}
 use Rattle.console_ring.specs.Picture.{page_of}
 use Rattle.crc_ccitt.specs.Check.{is_good}
+use Rattle.vantage_frames.specs.Slots.{page_size}
 use Rattle.console_model.specs.Tick.{tick}
 use Rattle.schedule_file.specs.Fates.{Fates}
 use Rattle.station_sim.specs.Delivery.{delivered}
@@ -61,14 +62,14 @@ awaits_listens n t (inl a) = full_listens 0 t a.0
 awaits_listens n t (inr a) = short_listens 0 t a.0
 
 -- the one test of a check is the other
-page_parts : (k : ℕ) (bytes : List ℕ) → is_page_for k bytes ≡ true → (length bytes ≡ 267) × (is_good bytes ≡ true) × HasSequence (k % 256) bytes
-page_parts k bytes e = go (length bytes == 267) (is_good bytes) (has_sequence (k % 256) bytes) refl refl refl e
+page_parts : (k : ℕ) (bytes : List ℕ) → is_page_for k bytes ≡ true → (length bytes ≡ page_size) × (is_good bytes ≡ true) × HasSequence (k % 256) bytes
+page_parts k bytes e = go (length bytes == page_size) (is_good bytes) (has_sequence (k % 256) bytes) refl refl refl e
   where
     sequence : (n : ℕ) (bs : List ℕ) → has_sequence n bs ≡ true → HasSequence n bs
     sequence n [] e = absurd cc
     sequence n (b ∷ bs) e = grind arith
 
-    go : (a b c : Bool) → (length bytes == 267) ≡ a → is_good bytes ≡ b → has_sequence (k % 256) bytes ≡ c → (a && b && c) ≡ true → (length bytes ≡ 267) × (is_good bytes ≡ true) × HasSequence (k % 256) bytes
+    go : (a b c : Bool) → (length bytes == page_size) ≡ a → is_good bytes ≡ b → has_sequence (k % 256) bytes ≡ c → (a && b && c) ≡ true → (length bytes ≡ page_size) × (is_good bytes ≡ true) × HasSequence (k % 256) bytes
     go true true true x y z e = (grind arith, y, sequence (k % 256) bytes z)
     go true true false x y z e = absurd cc
     go true false c x y z e = absurd cc
@@ -111,14 +112,14 @@ module _ (h : List (List ℕ)) (p : Plan) (f : Fates) (mild : AreMild f) where
   takes_law zero k j b talk bytes w v n x r e u = absurd x
   takes_law (suc left) k j b talk bytes w v n (t, rest, split, awaits, inl (page, none, is)) r e u =
       let e' : console_talk f (Said b true ∷ t) w ≡ Some v = ap (λ x. console_talk f x w) (let z : Said b true ∷ t ≡ talk = rw (split, none) (sym (append-nil (Said b true ∷ t))) in z) ∙ e in
-      let a = asking h p k j f mild t (awaits_listens 267 t awaits) w v b r (omega arith) e' in
+      let a = asking h p k j f mild t (awaits_listens page_size t awaits) w v b r (omega arith) e' in
       let g = page_parts k (heard t) page in
       let y = a.page u g.0 g.1 g.2 in
       (is ∙ y.0, y.1, a.dumps)
   takes_law (suc left) k j b talk bytes w v n (t, rest, split, awaits, inr (page, ahead, (s, more, split2, still, again))) r e u =
       let m = talks_part f (Said b true ∷ t) rest w v (ap (λ x. console_talk f x w) (sym split) ∙ e) in
       let m2 = talks_part f s more m.0 v (ap (λ x. console_talk f x m.0) (sym split2) ∙ m.2) in
-      let a = asking h p k j f mild t (awaits_listens 267 t awaits) w m.0 b r (omega arith) m.1 in
+      let a = asking h p k j f mild t (awaits_listens page_size t awaits) w m.0 b r (omega arith) m.1 in
       let c = asked_again k j s w m.0 m2.0 t a still m2.1 in
       let q = takes_law left k (j + 1) (next_said k (heard t)) more bytes m2.0 v (omega arith) again c.0 m2.2 u in
       (q.0, q.1, q.2 ∙ c.1)
@@ -132,18 +133,18 @@ module _ (h : List (List ℕ)) (p : Plan) (f : Fates) (mild : AreMild f) where
     waits = a.few;
   }
     where
-      in_flight : InFlight h p low high v → length (bytes_of v.flight) ≤ 267
+      in_flight : InFlight h p low high v → length (bytes_of v.flight) ≤ page_size
       in_flight (inl n) = omega arith
       in_flight (inr (m, lo, hi, z, r, n, g)) = n
 
   -- the last asking for a page, and the host gives up
-  missed_law : (k j b : ℕ) (talk t rest : List TalkItem) (w v : Line) → j ≤ 3 → talk ≡ Said b true ∷ t ++ rest → Awaits 3 267 t → rest ≡ [] → Ready h p k j w → console_talk f (talk ++ esc) w ≡ Some v → v.unseen ≡ None → IsCalm v × (v.dumps ≡ w.dumps)
+  missed_law : (k j b : ℕ) (talk t rest : List TalkItem) (w v : Line) → j ≤ 3 → talk ≡ Said b true ∷ t ++ rest → Awaits 3 page_size t → rest ≡ [] → Ready h p k j w → console_talk f (talk ++ esc) w ≡ Some v → v.unseen ≡ None → IsCalm v × (v.dumps ≡ w.dumps)
   missed_law k j b talk t rest w v n split awaits none r e u =
       let m = talks_part f (Said b true ∷ t) esc w v (ap (λ x. console_talk f (x ++ esc) w) (let z : Said b true ∷ t ≡ talk = rw (split, none) (sym (append-nil (Said b true ∷ t))) in z) ∙ e) in
-      let a = asking h p k j f mild t (awaits_listens 267 t awaits) w m.0 b r n m.1 in
+      let a = asking h p k j f mild t (awaits_listens page_size t awaits) w m.0 b r n m.1 in
       let is : says f 27 true m.0 ≡ v = same_Some _ v m.2 in
-      let q = gives_up h p k (k + j + 1) 267 f mild m.0 a.begun (record { near = a.near; few = a.calm.waits; closed = a.closed; size = a.size }) (ap (λ x. x.unseen) is ∙ u) in
-      (subst IsCalm is (tame_calm h p k (k + j + 1 + 1) (267 + 267) (says f 27 true m.0) (omega arith) q.2 q.0), ap (λ x. x.dumps) (sym is) ∙ q.1 ∙ a.dumps)
+      let q = gives_up h p k (k + j + 1) page_size f mild m.0 a.begun (record { near = a.near; few = a.calm.waits; closed = a.closed; size = a.size }) (ap (λ x. x.unseen) is ∙ u) in
+      (subst IsCalm is (tame_calm h p k (k + j + 1 + 1) (page_size + page_size) (says f 27 true m.0) (omega arith) q.2 q.0), ap (λ x. x.dumps) (sym is) ∙ q.1 ∙ a.dumps)
 
   -- the pages are missed, and the host gives up
   pub misses_law : (left k j b : ℕ) (talk : List TalkItem) (trouble : Trouble) (w v : Line) → left + j ≡ 4 → Misses left k b talk trouble → Ready h p k j w → console_talk f (talk ++ esc) w ≡ Some v → v.unseen ≡ None → IsCalm v × (v.dumps ≡ w.dumps)
@@ -153,7 +154,7 @@ module _ (h : List (List ℕ)) (p : Plan) (f : Fates) (mild : AreMild f) where
   misses_law (suc left) k j b talk trouble w v n (t, rest, split, awaits, page, inr (inr (ahead, (s, more, split2, still, again)))) r e u =
       let m = talks_part f (Said b true ∷ t) (rest ++ esc) w v (ap (λ x. console_talk f x w) (let z : (Said b true ∷ t) ++ (rest ++ esc) ≡ talk ++ esc = rw split (sym (append_assoc (Said b true ∷ t) rest esc)) in z) ∙ e) in
       let m2 = talks_part f s (more ++ esc) m.0 v (ap (λ x. console_talk f x m.0) (let z : s ++ (more ++ esc) ≡ rest ++ esc = rw split2 (sym (append_assoc s more esc)) in z) ∙ m.2) in
-      let a = asking h p k j f mild t (awaits_listens 267 t awaits) w m.0 b r (omega arith) m.1 in
+      let a = asking h p k j f mild t (awaits_listens page_size t awaits) w m.0 b r (omega arith) m.1 in
       let c = asked_again k j s w m.0 m2.0 t a still m2.1 in
       let q = misses_law left k (j + 1) (next_said k (heard t)) more trouble m2.0 v (omega arith) again c.0 m2.2 u in
       (q.0, q.1 ∙ c.1)
@@ -162,12 +163,12 @@ module _ (h : List (List ℕ)) (p : Plan) (f : Fates) (mild : AreMild f) where
   ask_no_flood zero k j b talk w v n x r e = x
   ask_no_flood (suc left) k j b talk w v n (t, rest, split, awaits, page, ahead, inl flood) r e =
       let m = talks_part f (Said b true ∷ t) rest w v (ap (λ x. console_talk f x w) (sym split) ∙ e) in
-      let a = asking h p k j f mild t (awaits_listens 267 t awaits) w m.0 b r (omega arith) m.1 in
+      let a = asking h p k j f mild t (awaits_listens page_size t awaits) w m.0 b r (omega arith) m.1 in
       no_flood f 6 rest m.0 v a.calm flood.1 m.2
   ask_no_flood (suc left) k j b talk w v n (t, rest, split, awaits, page, ahead, inr (s, more, split2, still, again)) r e =
       let m = talks_part f (Said b true ∷ t) rest w v (ap (λ x. console_talk f x w) (sym split) ∙ e) in
       let m2 = talks_part f s more m.0 v (ap (λ x. console_talk f x m.0) (sym split2) ∙ m.2) in
-      let a = asking h p k j f mild t (awaits_listens 267 t awaits) w m.0 b r (omega arith) m.1 in
+      let a = asking h p k j f mild t (awaits_listens page_size t awaits) w m.0 b r (omega arith) m.1 in
       let c = asked_again k j s w m.0 m2.0 t a still m2.1 in
       ask_no_flood left k (j + 1) (next_said k (heard t)) more m2.0 v (omega arith) again c.0 m2.2
 

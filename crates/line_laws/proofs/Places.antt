@@ -4,6 +4,7 @@ use Rattle.console_ring.specs.declared.plan.Plan.{Plan}
 use Rattle.console_model.specs.Console.{State, Console, Outcome}
 use Rattle.console_ring.specs.Picture.{page_of}
 use Rattle.crc_ccitt.specs.Check.{is_good}
+use Rattle.vantage_frames.specs.Slots.{page_size}
 use Rattle.console_model.specs.Console.State.{Asleep, Command, Overlong, Frame, Dump, Looping}
 use Rattle.console_model.specs.declared.reply.ReplyKind.TheVariants.{Wake, Page}
 use Rattle.console_model.specs.Hear.{hear}
@@ -27,8 +28,8 @@ use Rattle.line_laws.proofs.Delivery.{delivered_length, bytes_of_late, unharmed_
 -- what is in flight after a byte was said: few bytes, or page m, unless unseen
 abbrev pub InFlight : List (List ℕ) → Plan → ℕ → ℕ → Line → Type 0
 InFlight h p low high v = (length (bytes_of v.flight) ≤ 2) ⊎
-    ((m : ℕ) × (low ≤ m + 1) × (m + 1 ≤ high + 1) × Near h p (m + 1) (m + 1) v.console × Rests v.console.state × (length (bytes_of v.flight) ≤ 267)
-    × (v.unseen ≡ None → length (bytes_of v.flight) ≡ 267 → is_good (bytes_of v.flight) ≡ true → bytes_of v.flight ≡ page_of h p m))
+    ((m : ℕ) × (low ≤ m + 1) × (m + 1 ≤ high + 1) × Near h p (m + 1) (m + 1) v.console × Rests v.console.state × (length (bytes_of v.flight) ≤ page_size)
+    × (v.unseen ≡ None → length (bytes_of v.flight) ≡ page_size → is_good (bytes_of v.flight) ≡ true → bytes_of v.flight ≡ page_of h p m))
 
 pub record After (h : List (List ℕ)) (p : Plan) (low high : ℕ) (w v : Line) : Type 0 where
   pub near : Near h p low (high + 1) v.console
@@ -143,20 +144,20 @@ pub record AskedFor (h : List (List ℕ)) (p : Plan) (k j : ℕ) (w : Line) (t :
   pub begun : v.begun ≡ []
   pub dumps : v.dumps ≡ w.dumps
   pub closed : Closed v.flight
-  pub size : length (bytes_of v.flight) ≤ 267
+  pub size : length (bytes_of v.flight) ≤ page_size
   -- a good page of the sequence of k is page k
-  pub page : v.unseen ≡ None → length (heard t) ≡ 267 → is_good (heard t) ≡ true → HasSequence (k % 256) (heard t) → (heard t ≡ page_of h p k) × Ready h p (k + 1) 0 v
+  pub page : v.unseen ≡ None → length (heard t) ≡ page_size → is_good (heard t) ≡ true → HasSequence (k % 256) (heard t) → (heard t ≡ page_of h p k) × Ready h p (k + 1) 0 v
 
 near_same_place : (h : List (List ℕ)) (p : Plan) (m k : ℕ) → m + 1 ≡ k → (c : Console) → Near h p (m + 1) (m + 1) c → Near h p k (k + 0) c
 near_same_place h p m k e c n = let z : k + 0 ≡ m + 1 = omega arith in let y : k ≡ m + 1 = sym e in rw (z, y) n
 
 module _ (h : List (List ℕ)) (p : Plan) (k j : ℕ) (f : Fates) (mild : AreMild f) (t : List TalkItem) (quiet : Listens t) where
-  bytes_at_most : (u : Line) → InFlight h p k (k + j) u → length (bytes_of u.flight) ≤ 267
+  bytes_at_most : (u : Line) → InFlight h p k (k + j) u → length (bytes_of u.flight) ≤ page_size
   bytes_at_most u (inl n) = omega arith
   bytes_at_most u (inr (m, lo, hi, z, r, n, g)) = n
 
   took : (u v : Line) → j ≤ 3 → InFlight h p k (k + j) u → Closed u.flight → u.begun ≡ [] → console_talk f t u ≡ Some v → v.unseen ≡ None → bytes_of u.flight ≡ heard t ++ bytes_of v.flight →
-      length (heard t) ≡ 267 → is_good (heard t) ≡ true → HasSequence (k % 256) (heard t) → (heard t ≡ page_of h p k) × Ready h p (k + 1) 0 v
+      length (heard t) ≡ page_size → is_good (heard t) ≡ true → HasSequence (k % 256) (heard t) → (heard t ≡ page_of h p k) × Ready h p (k + 1) 0 v
   took u v few (inl n) c b e un by l good s = absurd (omega (arith, ap length by, length-append (heard t) (bytes_of v.flight)))
   took u v few (inr (m, lo, hi, z, r, n, g)) c b e un by l good s =
       let none : bytes_of v.flight ≡ [] = no_length (bytes_of v.flight) (omega (arith, ap length by, length-append (heard t) (bytes_of v.flight))) in

@@ -14,6 +14,7 @@ use Rattle.console_model.specs.declared.signal.Signal.TheVariants.{Lf, Next, Aga
 use Rattle.console_model.specs.declared.order.Order.TheVariants.{Empty, Unknown, Known}
 use Rattle.vantage_frames.specs.declared.command.Command.{Command as Ordered}
 use Rattle.vantage_frames.specs.declared.command.Command.TheVariants as command
+use Rattle.vantage_frames.specs.Slots.{page_size}
 use Rattle.station_sim.specs.Sound.{AreRecords}
 use Rattle.console_model.specs.Hear.{hear, heard_in, sends, ended, lengthened}
 use Rattle.console_model.specs.Line.{obeyed, silent, to, at_line}
@@ -46,7 +47,7 @@ pub record Plain (h : List (List ℕ)) (p : Plan) (low high : ℕ) (o : Outcome)
   pub near : Near h p low (high + 1) o.next
   pub same : is_page o.kind ≡ false → Near h p low high o.next
   pub begins : o.begins ≡ []
-  pub size : length o.bytes ≤ 267
+  pub size : length o.bytes ≤ page_size
   pub meek : Meek o.kind o.bytes
 
 plain_silent : (h : List (List ℕ)) (p : Plan) (low high : ℕ) (c : Console) → Near h p low (high + 1) c → Near h p low high c → Plain h p low high (silent c)
@@ -176,7 +177,7 @@ module _ (h : List (List ℕ)) (p : Plan) (low high n : ℕ) (f : Fates) (mild :
   flown : (o : Outcome) (w : Line) → bytes_of (replied f o w).flight ≡ bytes_of w.flight ++ delivered (f.reply (w.replies + 1)) o.bytes
   flown o w = bytes_join w.flight _ ∙ ap (λ x. bytes_of w.flight ++ x) (bytes_of_late (f.late (w.replies + 1)).waits (f.late (w.replies + 1)).place (delivered (f.reply (w.replies + 1)) o.bytes))
 
-  tame_replied : (o : Outcome) (w : Line) (top : ℕ) → Tame h p low high n w → Near h p low top o.next → length o.bytes ≤ 267 → Tame h p low top (n + 267) (replied f o w)
+  tame_replied : (o : Outcome) (w : Line) (top : ℕ) → Tame h p low high n w → Near h p low top o.next → length o.bytes ≤ page_size → Tame h p low top (n + page_size) (replied f o w)
   tame_replied o w top t q z = record {
     near = q;
     few = few_joined w.flight (late (f.late (w.replies + 1)).waits (f.late (w.replies + 1)).place (delivered (f.reply (w.replies + 1)) o.bytes)) t.closed t.few
@@ -186,10 +187,10 @@ module _ (h : List (List ℕ)) (p : Plan) (low high n : ℕ) (f : Fates) (mild :
     size = omega (arith, ap length (flown o w), length-append (bytes_of w.flight) (delivered (f.reply (w.replies + 1)) o.bytes), delivered_length (f.reply (w.replies + 1)) o.bytes, t.size);
   }
 
-  tame_same : (o : Outcome) (w : Line) (top : ℕ) → Tame h p low high n w → Near h p low top o.next → Tame h p low top (n + 267) (unanswered o w)
+  tame_same : (o : Outcome) (w : Line) (top : ℕ) → Tame h p low high n w → Near h p low top o.next → Tame h p low top (n + page_size) (unanswered o w)
   tame_same o w top t q = record { near = q; few = t.few; closed = t.closed; size = omega (arith, t.size) }
 
-  tame_joins : (k : ReplyKind) (o : Outcome) (w : Line) (top : ℕ) → Tame h p low high n w → Near h p low top o.next → length o.bytes ≤ 267 → Tame h p low top (n + 267) (joins k f o w)
+  tame_joins : (k : ReplyKind) (o : Outcome) (w : Line) (top : ℕ) → Tame h p low high n w → Near h p low top o.next → length o.bytes ≤ page_size → Tame h p low top (n + page_size) (joins k f o w)
   tame_joins Nothing o w top t q z = tame_same o w top t q
   tame_joins Code o w top t q z = tame_replied o w top t q z
   tame_joins Wake o w top t q z = tame_replied o w top t q z
@@ -243,7 +244,7 @@ or_false : (a b : Bool) → (a || b) ≡ false → (a ≡ false) × (b ≡ false
 or_false true b e = absurd cc
 or_false false b e = (refl, e)
 
-meek_one : (h : List (List ℕ)) (p : Plan) (low high n : ℕ) (f : Fates) → AreMild f → (o : Outcome) (w : Line) → Tame h p low high n w → Plain h p low high o → is_page o.kind ≡ false → (happens f o w).unseen ≡ None → Meekly h p low high (n + 267) w (happens f o w)
+meek_one : (h : List (List ℕ)) (p : Plan) (low high n : ℕ) (f : Fates) → AreMild f → (o : Outcome) (w : Line) → Tame h p low high n w → Plain h p low high o → is_page o.kind ≡ false → (happens f o w).unseen ≡ None → Meekly h p low high (n + page_size) w (happens f o w)
 meek_one h p low high n f mild o w t q z u = record {
   tame = tame_joins h p low high n f mild o.kind o w high t (q.same z) q.size;
   dumps = dumps_joins o.kind f o w q.begins;
@@ -252,7 +253,7 @@ meek_one h p low high n f mild o w t q z u = record {
 }
 
 pub hears_meekly : (h : List (List ℕ)) (p : Plan) (low high : ℕ) (f : Fates) → AreMild f → (got : List ℕ) (n : ℕ) (w : Line) → Tame h p low high n w → completes got w.console ≡ false → pages got w.console ≡ false → (hears f got w).unseen ≡ None →
-    Meekly h p low high (n + 267 * length got) w (hears f got w)
+    Meekly h p low high (n + page_size * length got) w (hears f got w)
 hears_meekly h p low high f mild [] n w t c g u = record { tame = record { near = t.near; few = t.few; closed = t.closed; size = omega (arith, t.size) }; dumps = refl; begun = refl; no_ack = λ e. e }
 hears_meekly h p low high f mild (x ∷ got) n w t c g u =
     let o = hear w.console x in
@@ -260,7 +261,7 @@ hears_meekly h p low high f mild (x ∷ got) n w t c g u =
     let g2 = or_false (is_page o.kind) (pages got o.next) g in
     let one = meek_one h p low high n f mild o w t (hears_plainly h p low high w.console x t.near c2.0) g2.0 (hears_unseen f got (happens f o w) u) in
     let e : (happens f o w).console ≡ o.next = console_joins o.kind f o w in
-    let more = hears_meekly h p low high f mild got (n + 267) (happens f o w) one.tame (ap (completes got) e ∙ c2.1) (ap (pages got) e ∙ g2.1) u in
+    let more = hears_meekly h p low high f mild got (n + page_size) (happens f o w) one.tame (ap (completes got) e ∙ c2.1) (ap (pages got) e ∙ g2.1) u in
     record {
       tame = record { near = more.tame.near; few = more.tame.few; closed = more.tame.closed; size = omega (arith, more.tame.size) };
       dumps = more.dumps ∙ one.dumps;
@@ -270,7 +271,7 @@ hears_meekly h p low high f mild (x ∷ got) n w t c g u =
 
 -- a message of one byte at most, wherever the console stands near a dump
 pub hears_any : (h : List (List ℕ)) (p : Plan) (low high : ℕ) (f : Fates) → AreMild f → (got : List ℕ) (n : ℕ) (w : Line) → length got ≤ 1 → Tame h p low high n w → completes got w.console ≡ false →
-    Tame h p low (high + 1) (n + 267) (hears f got w) × ((hears f got w).dumps ≡ w.dumps) × ((hears f got w).begun ≡ w.begun)
+    Tame h p low (high + 1) (n + page_size) (hears f got w) × ((hears f got w).dumps ≡ w.dumps) × ((hears f got w).begun ≡ w.begun)
 hears_any h p low high f mild [] n w z t c = (record { near = wider h p low high w.console t.near; few = t.few; closed = t.closed; size = omega (arith, t.size) }, refl, refl)
 hears_any h p low high f mild (x ∷ []) n w z t c =
     let o = hear w.console x in

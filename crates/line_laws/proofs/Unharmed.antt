@@ -9,6 +9,7 @@ use Rattle.dmpaft_pump.specs.Command.{dmpaft}
 use Rattle.console_model.proofs.Orders.{read_empty, read_dump_after}
 use Rattle.console_ring.specs.Picture.{no_plan}
 use Rattle.station_base.specs.CivilMinute.{CivilMinute}
+use Rattle.vantage_frames.specs.Slots.{page_size}
 use Rattle.console_ring.specs.Picture.{page_of}
 use Rattle.console_model.specs.declared.frame.FrameKind.TheVariants.{ForDump}
 use Rattle.console_model.specs.Console.State.{Asleep, Command, Overlong, Frame, Dump, Looping}
@@ -309,7 +310,7 @@ next_page f w g d i hs p k e =
     let c = at_state g d hs (Dump p k) i in
     ap (λ t. happens f (if t then says Page (page_of g p k) (at_state g d hs (Dump p (k + 1)) 0) else silent (to (ended c) (Command []))) (record w { console = c })) e
 
-pub page_law : (f : Fates) → AreMild f → (g : List (List ℕ)) (p : Plan) (k : ℕ) (t : List TalkItem) (w v : Line) → k < p.pages → InDump f g p k w → Awaits 3 267 t → console_talk f (Said 6 true ∷ t) w ≡ Some v → v.harmed ≡ w.harmed →
+pub page_law : (f : Fates) → AreMild f → (g : List (List ℕ)) (p : Plan) (k : ℕ) (t : List TalkItem) (w v : Line) → k < p.pages → InDump f g p k w → Awaits 3 page_size t → console_talk f (Said 6 true ∷ t) w ≡ Some v → v.harmed ≡ w.harmed →
     (heard t ≡ page_of g p k) × InDump f g p (k + 1) v
 page_law f mild g p k t w v below a awaits e h =
     let m = w.begun ++ 6 ∷ [] in
@@ -326,13 +327,13 @@ page_law f mild g p k t w v below a awaits e h =
     let c = due_dump rs p (k + 1) g a.store 0 a.held (omega (arith, a.room 1)) in
     let few : FewWaits 2 2 u.flight = subst (FewWaits 2 2) fl q.few in
     let bytes : bytes_of u.flight ≡ page_of g p k = ap bytes_of (sym fl) ∙ q.bytes in
-    let size : length (bytes_of u.flight) ≡ 267 = ap length bytes ∙ page_length g p k a.records in
-    let full = awaits_full f t 267 u v awaits few (omega (arith, size)) e in
+    let size : length (bytes_of u.flight) ≡ page_size = ap length bytes ∙ page_length g p k a.records in
+    let full = awaits_full f t page_size u v awaits few (omega (arith, size)) e in
     let console : u.console ≡ at_state g a.store c.0 (Dump p (k + 1)) 0 = ap (λ x. due_all rs x.console) y ∙ c.2 in
     let s = steady_full g a.store c.0 (Dump p (k + 1)) tt f t 0 0 u v full.0 console (omega (arith, subst (λ l. waits_of l ≤ 2) fl q.waits)) (omega (arith, size, full.1)) e in
     let x = whole_of (page_of g p k) (heard t) (bytes_of v.flight) (sym bytes ∙ s.bytes) (omega (arith, full.1, page_length g p k a.records)) in
-    let n : v.messages ≡ w.messages + 1 = listens_messages f t u v (awaits_listens 267 t awaits) e ∙ ap (λ x. x.messages) y in
-    let l = listens g p (k + 1) (k + 1) f t u v (awaits_listens 267 t awaits) (subst (Near g p (k + 1) (k + 1)) (sym console) (refl, refl, omega arith, omega arith, a.records)) e in (
+    let n : v.messages ≡ w.messages + 1 = listens_messages f t u v (awaits_listens page_size t awaits) e ∙ ap (λ x. x.messages) y in
+    let l = listens g p (k + 1) (k + 1) f t u v (awaits_listens page_size t awaits) (subst (Near g p (k + 1) (k + 1)) (sym console) (refl, refl, omega arith, omega arith, a.records)) e in (
       x.0,
       record {
         store = a.store;

@@ -22,6 +22,7 @@ use Rattle.console_model.specs.Laws.{records_of}
 use Rattle.console_model.specs.Valid.{EachFollows}
 use Rattle.console_ring.specs.Picture.{no_plan}
 use Rattle.station_base.specs.CivilMinute.{CivilMinute}
+use Rattle.vantage_frames.specs.Slots.{page_size}
 use Rattle.wake_retry.specs.Parts.{Still, heard, WakeFloods, Wakes, Awaits}
 use Rattle.serial_link.specs.declared.talk.TalkItem.TheVariants.{Said}
 use Rattle.station_sim.proofs.Calming.{closed_late, few_late}
@@ -193,7 +194,7 @@ calls_plainly f ok m w e r u c g =
         plan = p;
         low = k;
         high = k;
-        tame = tame_more h p k k (0 + 267 * length got) 5000 (sends f m w) (omega (arith, delivered_length (f.host (w.messages + 1)) m, ap length e, call_length)) (tame_waited h p k k (0 + 267 * length got) (f.mids (w.messages + 1)) (hears f got (counted f m w)) y.tame);
+        tame = tame_more h p k k (0 + page_size * length got) 5000 (sends f m w) (omega (arith, delivered_length (f.host (w.messages + 1)) m, ap length e, call_length)) (tame_waited h p k k (0 + page_size * length got) (f.mids (w.messages + 1)) (hears f got (counted f m w)) y.tame);
         begun = y.begun;
         dumps = y.dumps;
       },

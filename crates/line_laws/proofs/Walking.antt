@@ -2,6 +2,7 @@
 use Rattle.std.proofs.Common.{◌≡◌, ℕ, zero, suc, ◌+◌, ◌≤◌, if◌then◌else◌, Bool, true, false, ◌⊎◌, inl, inr, List, [], ◌∷◌, ◌++◌, length, Some, None, refl, sym, ◌∙◌, ap, subst, arith, append_assoc, append-nil, length-append}
 use Rattle.std.specs.Prelude.{nat_lt}
 use Rattle.std.proofs.lemmas.Option.{same_Some}
+use Rattle.vantage_frames.specs.Slots.{page_size}
 use Rattle.console_model.specs.Console.{Store, State}
 use Rattle.console_model.specs.declared.signal.Signal.{Signal}
 use Rattle.console_model.specs.Reading.{signal}
@@ -96,16 +97,16 @@ said_next k bytes = next_plain (is_page_before k bytes)
 
 takes_plain : (left k b : ℕ) (talk : List TalkItem) (bytes : List ℕ) → not_lf (signal b) ≡ true → Takes left k b talk bytes → IsPlain talk
 takes_plain zero k b talk bytes n x = absurd x
-takes_plain (suc left) k b talk bytes n (t, rest, split, awaits, inl (page, none, is)) = plain_said b t rest talk split n (awaits_listens 267 t awaits) (rw none tt)
+takes_plain (suc left) k b talk bytes n (t, rest, split, awaits, inl (page, none, is)) = plain_said b t rest talk split n (awaits_listens page_size t awaits) (rw none tt)
 takes_plain (suc left) k b talk bytes n (t, rest, split, awaits, inr (page, ahead, (s, more, split2, still, again))) =
-    plain_said b t rest talk split n (awaits_listens 267 t awaits) (subst IsPlain (sym split2) (plain_join s more (plain_listens s (Still-listens 6 s still)) (takes_plain left k (next_said k (heard t)) more bytes (said_next k (heard t)) again)))
+    plain_said b t rest talk split n (awaits_listens page_size t awaits) (subst IsPlain (sym split2) (plain_join s more (plain_listens s (Still-listens 6 s still)) (takes_plain left k (next_said k (heard t)) more bytes (said_next k (heard t)) again)))
 
 misses_plain : (left k b : ℕ) (talk : List TalkItem) (trouble : Trouble) → not_lf (signal b) ≡ true → Misses left k b talk trouble → IsPlain talk
 misses_plain zero k b talk trouble n x = absurd x
-misses_plain (suc left) k b talk trouble n (t, rest, split, awaits, page, inl (ahead, none, is)) = plain_said b t rest talk split n (awaits_listens 267 t awaits) (rw none tt)
-misses_plain (suc left) k b talk trouble n (t, rest, split, awaits, page, inr (inl (ahead, last, none, is))) = plain_said b t rest talk split n (awaits_listens 267 t awaits) (rw none tt)
+misses_plain (suc left) k b talk trouble n (t, rest, split, awaits, page, inl (ahead, none, is)) = plain_said b t rest talk split n (awaits_listens page_size t awaits) (rw none tt)
+misses_plain (suc left) k b talk trouble n (t, rest, split, awaits, page, inr (inl (ahead, last, none, is))) = plain_said b t rest talk split n (awaits_listens page_size t awaits) (rw none tt)
 misses_plain (suc left) k b talk trouble n (t, rest, split, awaits, page, inr (inr (ahead, (s, more, split2, still, again)))) =
-    plain_said b t rest talk split n (awaits_listens 267 t awaits) (subst IsPlain (sym split2) (plain_join s more (plain_listens s (Still-listens 6 s still)) (misses_plain left k (next_said k (heard t)) more trouble (said_next k (heard t)) again)))
+    plain_said b t rest talk split n (awaits_listens page_size t awaits) (subst IsPlain (sym split2) (plain_join s more (plain_listens s (Still-listens 6 s still)) (misses_plain left k (next_said k (heard t)) more trouble (said_next k (heard t)) again)))
 
 flood_plain : (q r : ℕ) (t : List TalkItem) → IsFull q r t → IsPlain t
 flood_plain q r [] s = absurd s
@@ -116,9 +117,9 @@ flood_plain q r (Quiet ∷ t) s = flood_plain q (r + 1) t s.1
 
 floods_plain : (left k b : ℕ) (talk : List TalkItem) → not_lf (signal b) ≡ true → AskFloods left k b talk → IsPlain talk
 floods_plain zero k b talk n x = absurd x
-floods_plain (suc left) k b talk n (t, rest, split, awaits, page, ahead, inl flood) = plain_said b t rest talk split n (awaits_listens 267 t awaits) (flood_plain 6 0 rest flood.1.0)
+floods_plain (suc left) k b talk n (t, rest, split, awaits, page, ahead, inl flood) = plain_said b t rest talk split n (awaits_listens page_size t awaits) (flood_plain 6 0 rest flood.1.0)
 floods_plain (suc left) k b talk n (t, rest, split, awaits, page, ahead, inr (s, more, split2, still, again)) =
-    plain_said b t rest talk split n (awaits_listens 267 t awaits) (subst IsPlain (sym split2) (plain_join s more (plain_listens s (Still-listens 6 s still)) (floods_plain left k (next_said k (heard t)) more (said_next k (heard t)) again)))
+    plain_said b t rest talk split n (awaits_listens page_size t awaits) (subst IsPlain (sym split2) (plain_join s more (plain_listens s (Still-listens 6 s still)) (floods_plain left k (next_said k (heard t)) more (said_next k (heard t)) again)))
 
 last_plain : (k : ℕ) → IsPlain (last_said k)
 last_plain zero = tt

@@ -7,6 +7,7 @@ ghost use Rattle.console_ring.specs.Picture.{page_of};
 ghost use Rattle.console_model.specs.Spelling.{plan_after};
 ghost use Rattle.station_base.specs.CivilMinute.{CivilMinute};
 ghost use Rattle.vantage_frames.specs.StampFrame.{stamp_frame_of};
+ghost use Rattle.vantage_frames.specs.Slots.{page_size};
 ghost use Rattle.dmpaft_driver.specs.Attempt.{Attempt, End};
 ghost use Rattle.dmpaft_pump.specs.Batch.{batches};
 ghost use Rattle.schedule_file.specs.Fates.{Fates};
@@ -88,7 +89,7 @@ pub fn a_header_without_harm()
 /// Each page comes at its first asking where no delivery is harmed, and the console stays in the dump.
 pub fn a_page_without_harm()
     ensures { (f : Fates) → AreMild f → (g : List (List ℕ)) (p : Plan) (k : ℕ) (t : List TalkItem) (w v : Line) → k < p.pages → InDump f g p k w
-        → Awaits 3 267 t → ConsoleTalk f (TalkItem.Said 6 true ∷ t) w v → v.harmed ≡ w.harmed → (heard t ≡ page_of g p k) × InDump f g p (k + 1) v }
+        → Awaits 3 page_size t → ConsoleTalk f (TalkItem.Said 6 true ∷ t) w v → v.harmed ≡ w.harmed → (heard t ≡ page_of g p k) × InDump f g p (k + 1) v }
 {}
 
 /// The records of a round fall due in the order in which they are listed.

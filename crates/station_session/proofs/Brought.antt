@@ -4,6 +4,7 @@ use Rattle.station_base.specs.CivilMinute.{CivilMinute}
 use Rattle.serial_link.specs.declared.talk.TalkItem.{TalkItem}
 use Rattle.vantage_frames.specs.StampFrame.{stamp_frame_of}
 use Rattle.causes.specs.declared.stored.Stored.{Stored}
+use Rattle.vantage_frames.specs.Header.{most_pages}
 use Rattle.dmpaft_driver.specs.Attempt.{End, Attempt}
 use Rattle.dmpaft_pump.specs.Batch.{batches, answered, all_skipped}
 use Rattle.dmpaft_driver.specs.Gathered.{steps_of}
@@ -27,7 +28,7 @@ pub record Brought (start : Tally) (a : Option CivilMinute) (talk : List TalkIte
   pub taken : List (List ℕ)
   pub attempt : IsAttempt a talk place taken end
   pub given_are : steps_of end a place taken ≡ given
-  pub few : length taken ≤ 513
+  pub few : length taken ≤ most_pages
   pub pages : tally.pages ≡ start.pages + length taken
   pub skipped : tally.skipped ≡ start.skipped + all_skipped place taken
   pub newest : tally.last ≡ last_kept given start.last
@@ -50,7 +51,7 @@ module _ (start : Tally) (a : Option CivilMinute) (t : List TalkItem) (ks : List
           refused = λ ne. tells.1 (λ z. ne (sym answer ∙ z));
         };
         given_are = ap (λ (y : Stored). answered y (batches a place taken)) (sym answer) ∙ sym given;
-        few = tells.0.most_pages;
+        few = tells.0.bounded;
         pages = tells.0.pages;
         skipped = tells.0.skipped;
         newest = tells.0.last ∙ ap (λ (y : Handed). last_kept y start.last) (sym given);
@@ -69,7 +70,7 @@ module _ (start : Tally) (a : Option CivilMinute) (t : List TalkItem) (ks : List
           refused = λ ne. absurd (ne (cut_answer end cut));
         };
         given_are = ap (λ (y : Stored). answered y (batches a c.0 c.1)) (cut_answer end cut) ∙ kept_answered (batches a c.0 c.1) ∙ sym c.4;
-        few = c.3.most_pages;
+        few = c.3.bounded;
         pages = c.3.pages;
         skipped = c.3.skipped;
         newest = c.3.last ∙ ap (λ (y : Handed). last_kept y start.last) (sym c.4);

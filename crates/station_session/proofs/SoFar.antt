@@ -7,6 +7,7 @@ use Rattle.serial_link.specs.Traffic.{Traffic}
 use Rattle.settings_file.specs.StationSettings.{StationSettings}
 use Rattle.serial_link.specs.declared.talk.TalkItem.{TalkItem}
 use Rattle.causes.specs.declared.stored.Stored.TheVariants.{Done}
+use Rattle.vantage_frames.specs.Header.{most_pages}
 use Rattle.dmpaft_driver.specs.Attempt.{End}
 use Rattle.dmpaft_pump.specs.Batch.{batches}
 use Rattle.dmpaft_driver.specs.Exact.{end_of}
@@ -42,19 +43,19 @@ use Rattle.station_session.specs.declared.limits.TheConstants.{MOST_BATCHES, MOS
 -- a pump knows the stamp asked for, and what it counted
 record Known (start : Tally) (a : Option CivilMinute) (s : State) (pump : Pump) : Type 0 where
   pub asked : pump.after ≡ a
-  pub pages : pump.tally.pages ≤ start.pages + 513
-  pub skipped : pump.tally.skipped ≤ start.skipped + 2565
+  pub pages : pump.tally.pages ≤ start.pages + most_pages
+  pub skipped : pump.tally.skipped ≤ start.skipped + 5 * most_pages
   pub newest : pump.tally.last ≡ last_kept (handed a s) start.last
-  pub few : count (handed a s) ≤ 513
+  pub few : count (handed a s) ≤ most_pages
 
 known_as : (start : Tally) (a : Option CivilMinute) (s : State) (pump : Pump) (place : ℕ) (all : List (List ℕ)) (steps : Handed) → Tallied start a place all steps pump
     → handed a s ≡ steps → count steps ≤ length all → Known start a s pump
 known_as start a s pump place all steps t e few = record {
   asked = t.asked;
-  pages = omega (arith, t.pages, t.most_pages);
-  skipped = omega (arith, t.skipped, all_few place all, t.most_pages);
+  pages = omega (arith, t.pages, t.bounded);
+  skipped = omega (arith, t.skipped, all_few place all, t.bounded);
   newest = t.last ∙ ap (λ (y : Handed). last_kept y start.last) (sym e);
-  few = omega (arith, few, t.most_pages, ap count e);
+  few = omega (arith, few, t.bounded, ap count e);
 }
 
 -- of pages there are no more batches than pages

@@ -4,6 +4,7 @@ use Rattle.std.specs.Prelude.{◌-◌, ◌≡◌, ℕ, ◌+◌, ◌*◌, ◌^◌
 use Rattle.station_base.specs.CivilMinute.{CivilMinute}
 use Rattle.serial_link.specs.declared.talk.TalkItem.{TalkItem}
 use Rattle.causes.specs.declared.stored.Stored.{Stored}
+use Rattle.vantage_frames.specs.Header.{most_pages}
 use Rattle.dmpaft_pump.specs.declared.outcome.Tally.{Tally}
 use Rattle.dmpaft_pump.specs.declared.outcome.Trouble.{Trouble}
 use Rattle.dmpaft_pump.specs.declared.pump_end.PumpEnd.TheVariants as pump_end
@@ -42,7 +43,7 @@ pub record RoundAt (last : Option CivilMinute) (talk : List TalkItem) (kept : Li
   pub tries : List Tried
   pub failed : AllFailed last tries
   pub few : round.more + length tries ≡ most_attempts - 1
-  pub pages : page_count tries ≤ 513 * length tries
+  pub pages : page_count tries ≤ most_pages * length tries
   pub said : List TalkItem
   pub answers : List Stored
   pub state : State

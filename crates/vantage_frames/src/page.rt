@@ -34,12 +34,13 @@ pub struct Page<'a> {
 impl<'a> Model for Page<'a> {
     ghost use Rattle.std.specs.Prelude.{◌≡◌, List, ℕ, length};
     ghost use Rattle.crc_ccitt.specs.Check.{check};
+    ghost use Rattle.vantage_frames.specs.Slots.{page_size};
 
     ghost Value = { List ℕ };
 
     ghost view = { λ page. page.bytes.now };
 
-    ghost invariant = { λ page. (length page.bytes.now ≡ 267) × (check page.bytes.now ≡ 0) };
+    ghost invariant = { λ page. (length page.bytes.now ≡ page_size) × (check page.bytes.now ≡ 0) };
 }
 
 /// What 267 bytes are, read as a page.

@@ -6,7 +6,7 @@ pub returns-clause-counts : goal.returns-clause-counts
 returns-clause-counts c = λ start after place taken page h l. record {
   tallied = record {
     asked = h.tallied.asked;
-    most_pages = omega (arith, l, length-append taken (page ∷ []));
+    bounded = omega (arith, l, length-append taken (page ∷ []));
     pages = omega (arith, c.saturating_add-self-2.ensures, h.tallied.pages, h.few, l, length-append taken (page ∷ []));
     skipped = omega (arith, c.saturating_add-self.ensures, h.tallied.skipped, h.missed, h.rare, l, skips_more place taken page, all_few place (taken ++ page ∷ []), length-append taken (page ∷ []));
     last = h.tallied.last;

@@ -19,7 +19,7 @@ returns-else-is_empty-clause-shows c = λ start after place taken page h b l.
       taken = taken;
       page = page;
       is = ap (λ (y : Next). at after y) (batched_some c.args.more place taken page (batch_of after place taken page) ne);
-      counts = record { tallied = record { asked = h.tallied.asked; most_pages = h.tallied.most_pages; pages = h.tallied.pages; skipped = h.tallied.skipped; last = h.tallied.last }; number = h.number; from = h.from; low = h.low; newest = h.newest; few = h.few; rare = h.rare };
+      counts = record { tallied = record { asked = h.tallied.asked; bounded = h.tallied.bounded; pages = h.tallied.pages; skipped = h.tallied.skipped; last = h.tallied.last }; number = h.number; from = h.from; low = h.low; newest = h.newest; few = h.few; rare = h.rare };
       batch = b;
       some = ne;
       fits = l;

@@ -13,7 +13,7 @@ returns-in-Done-clause-shows c = λ start after s h.
     let e = ap (λ (x : State). pump_from after x [] (c.args.answer ∷ [])) k.is ∙ ap (λ (x : Stored). pump_from after (Keeping c.in-Keeping.more k.place k.taken k.page) [] (x ∷ [])) c.in-Done.is in
     subst (λ (x : State). Shows start after x c.go_on.new.self) (sym e)
     (c.go_on.ensures.shows start after k.place (k.taken ++ k.page ∷ []) (record {
-      tallied = record { asked = k.counts.tallied.asked; most_pages = k.counts.tallied.most_pages; pages = k.counts.tallied.pages; skipped = k.counts.tallied.skipped; last = k.counts.newest ∙ last_done after k.place k.taken k.page k.some start.last };
+      tallied = record { asked = k.counts.tallied.asked; bounded = k.counts.tallied.bounded; pages = k.counts.tallied.pages; skipped = k.counts.tallied.skipped; last = k.counts.newest ∙ last_done after k.place k.taken k.page k.some start.last };
       number = k.counts.number;
       from = k.counts.from;
       low = k.counts.low;
@@ -29,7 +29,7 @@ returns-in-Full-clause-shows c = λ start after s h.
       place = k.place;
       taken = k.taken ++ k.page ∷ [];
       is = ap (λ (x : State). pump_from after x [] (c.args.answer ∷ [])) k.is ∙ ap (λ (x : Stored). pump_from after (Keeping c.in-Keeping.more k.place k.taken k.page) [] (x ∷ [])) c.in-Full.is;
-      tallied = record { asked = k.counts.tallied.asked; most_pages = k.counts.tallied.most_pages; pages = k.counts.tallied.pages; skipped = k.counts.tallied.skipped; last = k.counts.tallied.last ∙ last_full after k.place k.taken k.page k.some start.last };
+      tallied = record { asked = k.counts.tallied.asked; bounded = k.counts.tallied.bounded; pages = k.counts.tallied.pages; skipped = k.counts.tallied.skipped; last = k.counts.tallied.last ∙ last_full after k.place k.taken k.page k.some start.last };
       gives = λ ne. gives_so after k.place k.taken k.page k.some;
     }
 
@@ -40,7 +40,7 @@ returns-in-Stale-clause-shows c = λ start after s h.
       place = k.place;
       taken = k.taken ++ k.page ∷ [];
       is = ap (λ (x : State). pump_from after x [] (c.args.answer ∷ [])) k.is ∙ ap (λ (x : Stored). pump_from after (Keeping c.in-Keeping.more k.place k.taken k.page) [] (x ∷ [])) c.in-Stale.is;
-      tallied = record { asked = k.counts.tallied.asked; most_pages = k.counts.tallied.most_pages; pages = k.counts.tallied.pages; skipped = k.counts.tallied.skipped; last = k.counts.tallied.last ∙ last_stale after k.place k.taken k.page k.some start.last };
+      tallied = record { asked = k.counts.tallied.asked; bounded = k.counts.tallied.bounded; pages = k.counts.tallied.pages; skipped = k.counts.tallied.skipped; last = k.counts.tallied.last ∙ last_stale after k.place k.taken k.page k.some start.last };
       gives = λ ne. gives_so after k.place k.taken k.page k.some;
     }
 
@@ -51,6 +51,6 @@ returns-in-DiskFault-clause-shows c = λ start after s h.
       place = k.place;
       taken = k.taken ++ k.page ∷ [];
       is = ap (λ (x : State). pump_from after x [] (c.args.answer ∷ [])) k.is ∙ ap (λ (x : Stored). pump_from after (Keeping c.in-Keeping.more k.place k.taken k.page) [] (x ∷ [])) c.in-DiskFault.is;
-      tallied = record { asked = k.counts.tallied.asked; most_pages = k.counts.tallied.most_pages; pages = k.counts.tallied.pages; skipped = k.counts.tallied.skipped; last = k.counts.tallied.last ∙ last_disk_fault after k.place k.taken k.page k.some start.last };
+      tallied = record { asked = k.counts.tallied.asked; bounded = k.counts.tallied.bounded; pages = k.counts.tallied.pages; skipped = k.counts.tallied.skipped; last = k.counts.tallied.last ∙ last_disk_fault after k.place k.taken k.page k.some start.last };
       gives = λ ne. gives_so after k.place k.taken k.page k.some;
     }

@@ -2,6 +2,7 @@ use Rattle.std.proofs.Common.{◌≡◌, ℕ, suc, ◌-◌, ◌≤◌, ◌⊎◌
 use Rattle.dmpaft_pump.specs.Pump.{at, headed}
 use Rattle.dmpaft_pump.specs.Reply.{Header}
 use Rattle.vantage_frames.specs.declared.header.TheConstants.{LAST_PLACE}
+use Rattle.vantage_frames.specs.Header.{most_pages}
 use Rattle.dmpaft_pump.specs.Shown.{Shows}
 use Rattle.dmpaft_pump.proofs.pump.Pump.start.Goals as goal
 
@@ -14,10 +15,10 @@ returns-else-pages-eq0-clause-shows c = λ start after h can.
     let low : c.args.place ≤ 4 = within c.args.pages c.args.place c.if-pages-eq0.false can.1 in
     let from : c.min.result ≡ c.args.place = omega (arith, c.min.ensures, low) in
     let n : suc (c.args.pages - 1) ≡ c.args.pages = grind (arith, c.if-pages-eq0.false) in
-    let few : c.args.pages ≤ 513 = can.0 in
+    let few : c.args.pages ≤ most_pages = can.0 in
     subst (λ n. Shows start after (at after (headed (Header n c.args.place))) c.begin.new.self) n
     (c.begin.ensures.shows start after c.args.place [] (record {
-      tallied = record { asked = h.tallied.asked; most_pages = h.tallied.most_pages; pages = h.tallied.pages; skipped = h.tallied.skipped; last = h.tallied.last };
+      tallied = record { asked = h.tallied.asked; bounded = h.tallied.bounded; pages = h.tallied.pages; skipped = h.tallied.skipped; last = h.tallied.last };
       number = h.number;
       from = from;
       low = omega (arith, from, low);
