@@ -8,10 +8,11 @@ use Rattle.disk_model.specs.declared.disk.Disked.TheVariants.{Done}
 use Rattle.gated_log.specs.Calls.{any_failed, changes, last_length, Looked, RecoveryCalls, recovery_changes, up_to}
 use Rattle.gated_log.proofs.CallsMade.{any_join, no_changes}
 use Rattle.station_base.specs.declared.row.Row.{Row}
+use Rattle.gated_log.specs.Layout.{slot_size}
 use Rattle.archive_copy.specs.Calls.{AddsBatches, changes_for, failed_answer, OnlyReads, rows_in, slots_end, ToCalls}
 use Rattle.archive_copy.proofs.Changes.{are_for, are_take, changes_join, fit_more, fits_join, up_fits, up_kept}
 
-reach : (slots len : ℕ) → (0 < slots → 176 * (slots + 1) ≤ len) → slots_end slots ≤ len
+reach : (slots len : ℕ) → (0 < slots → slot_size * (slots + 1) ≤ len) → slots_end slots ≤ len
 reach zero len is = omega arith
 reach (suc n) len is = is (omega arith)
 

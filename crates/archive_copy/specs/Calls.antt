@@ -8,6 +8,7 @@ use Rattle.disk_model.specs.declared.disk.Disked.{Disked}
 use Rattle.disk_model.specs.declared.disk.Disked.TheVariants.{Done, Failed}
 use Rattle.gated_log.specs.Calls.{any_failed, changes, four_changes, reads_fit, recovery_changes, up_to}
 use Rattle.station_base.specs.declared.row.Row.{Row}
+use Rattle.gated_log.specs.Layout.{slot_size}
 use Rattle.packed_rows.specs.Rows.{slot_total}
 use Rattle.weather_book.specs.declared.book.Book.{Book}
 use Rattle.weather_book.specs.Book.{slots_of_book}
@@ -23,7 +24,7 @@ use Rattle.archive_copy.specs.declared.end.CopyEnd.TheVariants.{FromFault, ToFau
 -- where so many slots end in their file, and 0 where there is none
 abbrev pub slots_end : ℕ → ℕ
 slots_end zero = 0
-slots_end (suc n) = 176 * (suc n + 1)
+slots_end (suc n) = slot_size * (suc n + 1)
 
 -- a call of the disk to copy from failed
 abbrev pub is_from_fault : CopyEnd → Bool
@@ -84,7 +85,8 @@ add_failed other = false
 
 -- the changes for the rows of a batch behind others: those of one append
 abbrev pub batch_changes : List Row → List Row → List (Disked → DiskCall)
-batch_changes old new = four_changes (176 * (slot_total old + 1)) (176 * (slot_total (old ++ new) - slot_total old))
+batch_changes old new =
+    four_changes (slot_size * (slot_total old + 1)) (slot_size * (slot_total (old ++ new) - slot_total old))
 
 -- the changes for batches behind some rows, one after another
 abbrev pub changes_for : List Row → List (List Row) → List (Disked → DiskCall)

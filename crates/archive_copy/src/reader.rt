@@ -5,6 +5,7 @@ ghost use Rattle.gated_log.specs.Calls.{Looked};
 ghost use Rattle.station_base.specs.FieldSet.{AreMissing};
 ghost use Rattle.station_base.specs.RowLine.{IsPrintable};
 ghost use Rattle.station_base.specs.declared.row.Row.{Row};
+ghost use Rattle.gated_log.specs.Layout.{slot_size};
 ghost use Rattle.weather_book.specs.Book.{StandsFor, len_of};
 ghost use Rattle.packed_rows.specs.Rows.{slot_total};
 ghost use Rattle.weather_book.specs.Stands.{StandsToReadOn};
@@ -62,7 +63,7 @@ impl RowReader {
         ensures looks { Looks D.medium 1 from.old from.new }
         ensures saved { self.old.used < length self.old.piece.items → from.new ≡ from.old }
         ensures went { (rows : List Row) → StandsFor theirs.now rows
-            → Looked D.medium (176 * (slot_total rows + 1)) (rows_failed result) from.old from.new }
+            → Looked D.medium (slot_size * (slot_total rows + 1)) (rows_failed result) from.old from.new }
     {
         if self.used < self.piece.len() {
             return RowsAnswer::Done;
@@ -91,7 +92,7 @@ impl RowReader {
         ensures looks { Looks D.medium 1 from.old from.new }
         ensures saved { self.old.used < length self.old.piece.items → from.new ≡ from.old }
         ensures went { (rows : List Row) → StandsFor theirs.now rows
-            → Looked D.medium (176 * (slot_total rows + 1)) (is_no_row result) from.old from.new }
+            → Looked D.medium (slot_size * (slot_total rows + 1)) (is_no_row result) from.old from.new }
     {
         if let RowsAnswer::DiskFault = self.fill(theirs, from) {
             return RowAnswer::DiskFault;

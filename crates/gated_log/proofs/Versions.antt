@@ -1,5 +1,5 @@
 -- The versions of images.
-use Rattle.std.proofs.Common.{◌≡◌, ℕ, ◌≤◌, true, false, Bool, List, ◌++◌, length, refl, ◌∙◌, ap, arith}
+use Rattle.std.proofs.Common.{◌≡◌, ℕ, ◌≤◌, true, false, Bool, List, ◌++◌, length, refl, ◌∙◌, ap, arith, ◌+◌}
 use Rattle.std.specs.Prelude.{nat_lt, if◌then◌else◌}
 use Rattle.std.proofs.lemmas.Bool.{false≢true}
 use Rattle.gated_log.specs.declared.start.Purpose.{Purpose}
@@ -13,13 +13,14 @@ use Rattle.gated_log.specs.Stands.{Closed, Opened, Has}
 use Rattle.gated_log.specs.Appending.{IsHanded, handed, behind_gate}
 use Rattle.std.proofs.Common.{◌∷◌, [], take, sym}
 use Rattle.gated_log.proofs.Chains.{small_test, large_test, log_closed, log_opened, log_small, first_front, first_read, gate_place}
+use Rattle.gated_log.specs.Layout.{empty_size}
 
--- an image of at most 177 bytes, and a longer one
-pub short_version : (c : List ℕ) → length c ≤ 177 → version_of c ≡ Second
+-- an image that is no longer than an archive without slots, and a longer one
+pub short_version : (c : List ℕ) → length c ≤ empty_size → version_of c ≡ Second
 unfolding version_of
 short_version c short = rw (small_test (length c) (omega arith)) refl
 
-pub long_version : (c : List ℕ) → 178 ≤ length c → version_of c ≡ version_in c
+pub long_version : (c : List ℕ) → empty_size + 1 ≤ length c → version_of c ≡ version_in c
 unfolding version_of
 long_version c long = rw (large_test (length c) long) refl
 
@@ -29,7 +30,7 @@ second_by false first is = rw is refl
 
 pub not_first : (c : List ℕ) → begins_first c ≡ false → version_of c ≡ Second
 unfolding version_of
-not_first c other = second_by (nat_lt (length c) 178) (begins_first c) other
+not_first c other = second_by (nat_lt (length c) (empty_size + 1)) (begins_first c) other
 
 -- what begins as a chain of the second version does
 pub version_front : (before c rest : List ℕ) (slots : List (List ℕ)) → IsChain before slots → begins_first before ≡ false → c ≡ before ++ rest → version_of c ≡ Second
@@ -44,12 +45,12 @@ pub has_opened : (before bytes c : List ℕ) (slots : List (List ℕ)) (is : IsC
 has_opened before bytes c slots is current h open_is =
     (log_opened before bytes c slots is h open_is, version_front before c (open_is.gate ∷ (behind_gate bytes ++ open_is.rest)) slots is current open_is.image_is)
 
--- and one of at most 177 bytes
-pub has_none : (c : List ℕ) → length c ≤ 177 → Has [] c
+-- and one that is no longer than an archive without slots
+pub has_none : (c : List ℕ) → length c ≤ empty_size → Has [] c
 has_none c short = (log_small c (small_test (length c) (omega arith)), short_version c short)
 
 -- what the first bytes of a longer image tell
-pub version_read : (c buf : List ℕ) (k : ℕ) → 8 ≤ k → buf ≡ take k c → 178 ≤ length c → version_in buf ≡ version_of c
+pub version_read : (c buf : List ℕ) (k : ℕ) → 8 ≤ k → buf ≡ take k c → empty_size + 1 ≤ length c → version_in buf ≡ version_of c
 version_read c buf k long is large = ap (λ (b : Bool). if b then First else Second) (first_read c buf k long is) ∙ sym (long_version c large)
 
 -- an archive that may be written is of the second version

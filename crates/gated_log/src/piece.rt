@@ -3,6 +3,7 @@ ghost use Rattle.causes.specs.Told.{WhereTold};
 ghost use Rattle.disk_model.specs.Disk.{Stays, Faults};
 ghost use Rattle.gated_log.specs.Calls.{LookedOn};
 ghost use Rattle.gated_log.specs.Walk.{Walks};
+ghost use Rattle.gated_log.specs.Layout.{slot_size};
 
 use crate::head::{HEAD_SIZE, open_batch};
 use crate::layout::{LONGEST_BATCH, SLOT_BYTES, SLOT_SIZE};
@@ -16,8 +17,8 @@ pub(crate) const PIECE_SIZE: usize = LONGEST_BATCH;
 fn slots_in(piece: &[u8], left: u64) -> u64
     requires { length piece.now ≤ left }
     ensures walks { (c : List ℕ) (p count : ℕ) → length c ≡ p + left → piece.now ≡ take (length piece.now) (drop p c)
-        → Walks c p count → Walks c (p + 176 * result) (count + result) }
-    ensures within { 0 < left → 176 * result < left }
+        → Walks c p count → Walks c (p + slot_size * result) (count + result) }
+    ensures within { 0 < left → slot_size * result < left }
 {
     let mut slots: u64 = 0;
     let mut at: usize = 0;
@@ -43,8 +44,8 @@ pub(crate) fn read_slots<D: Disk>(
 ) -> Result<u64, DiskFault>
     requires { place < len }
     ensures walks { IfOk result (λ slots. WhereTold (D.medium.seen disk.old) (λ c. length c ≡ len
-        → (count : ℕ) → Walks c place count → Walks c (place + 176 * slots) (count + slots))) }
-    ensures within { IfOk result (λ slots. place + 176 * slots < len) }
+        → (count : ℕ) → Walks c place count → Walks c (place + slot_size * slots) (count + slots))) }
+    ensures within { IfOk result (λ slots. place + slot_size * slots < len) }
     ensures stays { Stays D.medium disk.old disk.new }
     ensures cause { Faults D.medium disk.old disk.new (IsErr result) }
     ensures went { LookedOn D.medium len len (is_err result) disk.old disk.new }

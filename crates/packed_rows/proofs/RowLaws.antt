@@ -12,6 +12,7 @@ use Rattle.station_base.specs.CivilMinute.{CivilMinute, archive_day_of}
 use Rattle.daily_summary.specs.declared.summary.DaySummary.{DaySummary}
 use Rattle.row_slot.specs.Slot.{slot_of, row_in}
 use Rattle.gated_log.specs.Log.{unmarked}
+use Rattle.gated_log.specs.Layout.{slot_size}
 use Rattle.packed_rows.specs.Closing.{closing, closing_slot, closings, begins_day, summary_slot}
 use Rattle.packed_rows.specs.Days.{day_of_row, is_day, with_day, days_from, days_of}
 use Rattle.packed_rows.specs.Rising.{exceeds, RowsRise, rise, last_after, last_stamp}
@@ -35,7 +36,7 @@ shown_to shown (slot ∷ slots) = shown_to (shown_with shown (row_in slot)) slot
 pub right_step : (n : ℕ) (b : Bool) (more : RowsOf) → b ≡ true → judged b n more ≡ more
 right_step n b more is = ap (λ (x : Bool). judged x n more) is
 
-pub wrong_step : (n : ℕ) (b : Bool) (more : RowsOf) → b ≡ false → judged b n more ≡ damaged (176 * (n + 1))
+pub wrong_step : (n : ℕ) (b : Bool) (more : RowsOf) → b ≡ false → judged b n more ≡ damaged (slot_size * (n + 1))
 wrong_step n b more is = ap (λ (x : Bool). judged x n more) is
 
 -- what stands behind right slots is judged by them

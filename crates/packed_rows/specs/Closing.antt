@@ -1,5 +1,6 @@
 -- The summary slots that close a day. The layout is this project's own.
-use Rattle.std.specs.Prelude.{ℕ, ℤ, pos, Bool, true, false, not, nat_eq, List, ◌∷◌, ◌++◌, replicate, map, Some, None}
+use Rattle.std.specs.Prelude.{ℕ, ℤ, pos, ◌-◌, Bool, true, false, not, nat_eq, List, ◌∷◌, ◌++◌, replicate, map, Some}
+use Rattle.std.specs.Prelude.{None}
 use Rattle.std.specs.declared.option.Option.{Option}
 use Rattle.std.specs.Int.{w32, cast_unsigned}
 use Rattle.std.specs.List.{range_with_len}
@@ -9,6 +10,7 @@ use Rattle.station_base.specs.CivilMinute.{CivilMinute, archive_day_of}
 use Rattle.daily_summary.specs.declared.summary.DaySummary.{DaySummary}
 use Rattle.daily_summary.specs.Parts.{part_of}
 use Rattle.daily_summary.specs.Summary.{summary_of, rows_of_day}
+use Rattle.gated_log.specs.Layout.{slot_size}
 use Rattle.packed_rows.specs.Rising.{last_stamp}
 
 -- the archive day of a stamp, in days since 1970-01-01
@@ -25,11 +27,11 @@ abbrev pub last_day_rows : List Row → List Row
 last_day_rows rows = rows_of_day (last_day rows) rows
 
 -- Part k of a stored summary: the slot of a closed gate, kind 2, no number of slots, the day, the number of the part,
--- three bytes 0, the rows of the day, eight bytes 0, the part itself and twenty bytes 0.
+-- three bytes 0, the rows of the day, eight bytes 0, the part itself, and bytes 0 up to the end of the slot.
 unfoldable pub summary_slot : ℤ → ℕ → DaySummary → List ℕ
 summary_slot day k s =
     0 ∷ 2 ∷ 0 ∷ 0 ∷ (little_bytes 4 (cast_unsigned w32 day) ++ (k ∷ 0 ∷ 0 ∷ 0 ∷ (little_bytes 4 s.rows ++ (replicate 8 0
-    ++ (part_of k s ++ replicate 20 0)))))
+    ++ (part_of k s ++ replicate (slot_size - 156) 0)))))
 
 -- the slot k that closes the day of the last of these rows
 abbrev pub closing_slot : List Row → ℕ → List ℕ

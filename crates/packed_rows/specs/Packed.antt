@@ -3,6 +3,7 @@ use Rattle.std.specs.Prelude.{◌≡◌, ℕ, ◌+◌, ◌<◌, List, [], ◌∷
 use Rattle.station_base.specs.declared.row.Row.{Row}
 use Rattle.row_slot.specs.Slot.{slot_of, row_in}
 use Rattle.gated_log.specs.declared.version.Version.{Version}
+use Rattle.gated_log.specs.Layout.{slot_size}
 use Rattle.packed_rows.specs.Rows.{as_read}
 
 -- slots, as one text of bytes
@@ -13,7 +14,7 @@ joined_slots (slot ∷ slots) = slot ++ joined_slots slots
 -- the row is what is read back of its slot
 pub record IsReadBack (row : Row) : Type 0 where
   pub back : row_in (slot_of row) ≡ Some row
-  pub size : length (slot_of row) ≡ 176
+  pub size : length (slot_of row) ≡ slot_size
 
 -- each of them is
 abbrev pub AreReadBack : List Row → Type 0

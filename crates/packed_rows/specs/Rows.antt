@@ -10,6 +10,7 @@ use Rattle.gated_log.specs.Log as log
 use Rattle.gated_log.specs.Version.{version_of}
 use Rattle.gated_log.specs.declared.version.Version.{Version}
 use Rattle.gated_log.specs.declared.version.Version.TheVariants.{First, Second}
+use Rattle.gated_log.specs.Layout.{slot_size}
 use Rattle.packed_rows.specs.Closing.{closing, closing_slot, closings, begins_day}
 use Rattle.packed_rows.specs.Days.{days_of}
 use Rattle.packed_rows.specs.Rising.{exceeds, last_stamp}
@@ -49,7 +50,7 @@ shown_with shown None = shown + 1
 -- what is behind a slot that is right; else slot n is damaged
 abbrev pub judged : Bool → ℕ → RowsOf → RowsOf
 judged true n more = more
-judged false n more = damaged (176 * (n + 1))
+judged false n more = damaged (slot_size * (n + 1))
 
 -- at the end, at slot n, no summary slots may stand open
 abbrev pub ended : List Row → ℕ → ℕ → RowsOf

@@ -4,6 +4,7 @@ ghost use Rattle.row_slot.specs.Slot.{slot_of};
 ghost use Rattle.station_base.specs.FieldSet.{AreMissing};
 ghost use Rattle.station_base.specs.RowLine.{IsPrintable};
 ghost use Rattle.station_base.specs.declared.row.Row.{Row};
+ghost use Rattle.gated_log.specs.Layout.{slot_size};
 ghost use Rattle.packed_rows.specs.Adding.{ArePrintable, AreLimited};
 ghost use Rattle.packed_rows.specs.Closing.{closing};
 ghost use Rattle.packed_rows.specs.Packed.{joined_slots, IsReadBack, AreReadBack};
@@ -42,12 +43,12 @@ pub fn pack(tail: &Tail, rows: &[Row]) -> ArrayVec<u8, LONGEST_BATCH>
 
 // Appends the slot of a row, behind those that close the day before where it begins a later one.
 fn push_row(slots: &mut ArrayVec<u8, LONGEST_BATCH>, tail: &Tail, row: &Row)
-    requires room { array_vec_len slots.old + 2464 ≤ LONGEST_BATCH }
+    requires room { array_vec_len slots.old + 14 * slot_size ≤ LONGEST_BATCH }
     requires printable { All IsPrintable row.now.values }
     requires limited { AreMissing row.now.limited row.now.values }
     ensures slots { (before : List Row) → EndsRows tail.now before
         → slots.new.items ≡ slots.old.items ++ joined_slots (closing before row.now ++ slot_of row.now ∷ []) }
-    ensures length { array_vec_len slots.new ≤ array_vec_len slots.old + 2464 }
+    ensures length { array_vec_len slots.new ≤ array_vec_len slots.old + 14 * slot_size }
     ensures read_back { IsReadBack row.now }
 {
     for k in 0..tail.closings(row.stamp) {

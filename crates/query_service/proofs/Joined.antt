@@ -9,6 +9,7 @@ use Rattle.serial_link.specs.declared.talk.TalkItem.{TalkItem}
 use Rattle.serial_link.proofs.Growing.{adds_none}
 use Rattle.serial_link.proofs.Joining.{talks_as, talks_then}
 use Rattle.std.specs.Prelude.{◌+◌, ◌*◌}
+use Rattle.gated_log.specs.Layout.{slot_size}
 use Rattle.packed_rows.specs.Rows.{slot_total}
 use Rattle.weather_book.specs.declared.book.Book.{Book}
 use Rattle.weather_book.proofs.Looks.{no_look}
@@ -28,7 +29,7 @@ module _ {L D : Type 0} (traffic : Traffic L) (medium : Medium D) (book : Book) 
     };
     still = record { faults = λ _. refl; quiets = λ _. refl; shortages = λ _. refl };
     stays = stays_none medium disk;
-    went = λ rows stands. record { failed = _; by_end = refl; looked = no_look medium (176 * (slot_total rows + 1)) disk };
+    went = λ rows stands. record { failed = _; by_end = refl; looked = no_look medium (slot_size * (slot_total rows + 1)) disk };
     disk_fault = record { never_falls = omega arith; rose = λ e. absurd (let bad : Done ≡ DiskFault = e in cc) };
   }
 
@@ -48,7 +49,7 @@ module _ {L D : Type 0} (traffic : Traffic L) (medium : Medium D) (book : Book) 
         record {
           failed = second.failed;
           by_end = second.by_end;
-          looked = more_reads medium (subst (λ (failed : Bool). Looked medium (176 * (slot_total rows + 1)) failed d e) first.by_end first.looked) second.looked;
+          looked = more_reads medium (subst (λ (failed : Bool). Looked medium (slot_size * (slot_total rows + 1)) failed d e) first.by_end first.looked) second.looked;
         };
     disk_fault = record {
       never_falls = omega (arith, one.disk_fault.never_falls, two.disk_fault.never_falls);

@@ -15,6 +15,7 @@ use Rattle.station_base.specs.declared.row.Row.{Row}
 use Rattle.wake_retry.specs.Bounds.{said}
 use Rattle.wake_retry.specs.Parts.{heard}
 use Rattle.wake_retry.proofs.Endings.{heard-append}
+use Rattle.gated_log.specs.Layout.{slot_size}
 use Rattle.packed_rows.specs.Rows.{slot_total}
 use Rattle.weather_book.specs.declared.book.Book.{Book}
 use Rattle.weather_book.proofs.Looks.{no_look}
@@ -208,7 +209,7 @@ hears_serves traffic medium book link link' disk n buf hears = record {
     shortages = λ _. hears.still.shortages (λ e. absurd (let bad : recv.Got n ≡ recv.OutOfMemory = e in cc));
   };
   stays = stays_none medium disk;
-  went = λ rows stands. record { failed = false; by_end = refl; looked = no_look medium (176 * (slot_total rows + 1)) disk };
+  went = λ rows stands. record { failed = false; by_end = refl; looked = no_look medium (slot_size * (slot_total rows + 1)) disk };
   disk_fault = record { never_falls = omega arith; rose = λ e. absurd (let bad : Done ≡ DiskFault = e in cc) };
 }
 
@@ -227,7 +228,7 @@ quiet_serves traffic medium book link link' disk buf hears = record {
     shortages = λ _. hears.still.shortages (λ e. absurd (let bad : recv.Quiet ≡ recv.OutOfMemory = e in cc));
   };
   stays = stays_none medium disk;
-  went = λ rows stands. record { failed = false; by_end = refl; looked = no_look medium (176 * (slot_total rows + 1)) disk };
+  went = λ rows stands. record { failed = false; by_end = refl; looked = no_look medium (slot_size * (slot_total rows + 1)) disk };
   disk_fault = record { never_falls = omega arith; rose = λ e. absurd (let bad : Done ≡ DiskFault = e in cc) };
 }
 
@@ -246,7 +247,7 @@ failed_serves traffic medium book link link' disk buf hears = record {
     shortages = λ _. hears.still.shortages (λ e. absurd (let bad : recv.Failed ≡ recv.OutOfMemory = e in cc));
   };
   stays = stays_none medium disk;
-  went = λ rows stands. record { failed = false; by_end = tt; looked = no_look medium (176 * (slot_total rows + 1)) disk };
+  went = λ rows stands. record { failed = false; by_end = tt; looked = no_look medium (slot_size * (slot_total rows + 1)) disk };
   disk_fault = record { never_falls = omega arith; rose = λ e. absurd (let bad : LinkFault ≡ DiskFault = e in cc) };
 }
 
@@ -265,7 +266,7 @@ short_serves traffic medium book link link' disk buf hears = record {
     shortages = λ no. absurd (no refl);
   };
   stays = stays_none medium disk;
-  went = λ rows stands. record { failed = false; by_end = tt; looked = no_look medium (176 * (slot_total rows + 1)) disk };
+  went = λ rows stands. record { failed = false; by_end = tt; looked = no_look medium (slot_size * (slot_total rows + 1)) disk };
   disk_fault = record { never_falls = omega arith; rose = λ e. absurd (let bad : OutOfMemory ≡ DiskFault = e in cc) };
 }
 

@@ -9,6 +9,7 @@ use Rattle.disk_model.specs.Medium.{Medium}
 use Rattle.station_base.specs.RowLine.{row_line}
 use Rattle.station_base.specs.declared.row.Row.{Row}
 use Rattle.station_io.specs.Sink.{Outlet}
+use Rattle.gated_log.specs.Layout.{slot_size}
 use Rattle.weather_book.specs.Book.{StandsFor}
 use Rattle.packed_rows.specs.Rows.{slot_total}
 use Rattle.weather_book.specs.declared.book.Book.{Book}
@@ -65,9 +66,9 @@ last_of count (row ∷ rows) some is =
 module _ {K D : Type 0} (outlet : Outlet K) (medium : Medium D) (book : Book) where
   -- no read was made
   no_reads : (disk : D) (end : ReportEnd) (rows : List Row) → end ≢ DiskFault → ReadsOver medium rows end disk disk
-  no_reads disk Done rows no_read = record { failed = false; by_end = refl; looked = no_look medium (176 * (slot_total rows + 1)) disk }
+  no_reads disk Done rows no_read = record { failed = false; by_end = refl; looked = no_look medium (slot_size * (slot_total rows + 1)) disk }
   no_reads disk DiskFault rows no_read = absurd (no_read refl)
-  no_reads disk WriteFault rows no_read = record { failed = false; by_end = tt; looked = no_look medium (176 * (slot_total rows + 1)) disk }
+  no_reads disk WriteFault rows no_read = record { failed = false; by_end = tt; looked = no_look medium (slot_size * (slot_total rows + 1)) disk }
 
   -- an answer that no read is made for
   pub replies_said : (answer : List Row → List ℕ) (bytes : List ℕ) (end : ReportEnd) (disk : D) (old new : K) → Says outlet bytes end old new

@@ -8,6 +8,7 @@ use Rattle.serial_link.specs.Link.{AreStill, Talks}
 use Rattle.serial_link.specs.Traffic.{Traffic}
 use Rattle.serial_link.specs.declared.talk.TalkItem.{TalkItem}
 use Rattle.station_base.specs.declared.row.Row.{Row}
+use Rattle.gated_log.specs.Layout.{slot_size}
 use Rattle.weather_book.specs.Book.{StandsFor}
 use Rattle.packed_rows.specs.Rows.{slot_total}
 use Rattle.weather_book.specs.declared.book.Book.{Book}
@@ -25,7 +26,7 @@ FailsBy OutOfMemory failed = Unit {0}
 pub record ReadsFor {D : Type 0} (medium : Medium D) (rows : List Row) (end : QueryEnd) (old new : D) : Type 0 where
   pub failed : Bool
   pub by_end : FailsBy end failed
-  pub looked : Looked medium (176 * (slot_total rows + 1)) failed old new
+  pub looked : Looked medium (slot_size * (slot_total rows + 1)) failed old new
 
 -- Each end has its cause: the count of the link's faults, of its shortages or of the disk's faults rose only with it. The
 -- talk is as this has it, and nothing on the disk changed.

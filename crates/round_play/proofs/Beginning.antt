@@ -23,6 +23,7 @@ use Rattle.weather_book.specs.declared.start.BookStart.TheVariants as start
 use Rattle.station_replay.specs.Keeping.{Archive}
 use Rattle.station_replay.specs.Stopped.{Rests}
 use Rattle.gated_log.proofs.StoppedCalls.{IsArmed}
+use Rattle.gated_log.specs.Layout.{empty_size}
 use Rattle.round_play.specs.Opening.{CanOpen, limits_of}
 use Rattle.round_play.specs.Resting.{AtRest, HasLeft}
 use Rattle.round_play.proofs.Changing.{Does, by_changes, fails_by_changes}
@@ -103,7 +104,7 @@ module _ (k pick openings : ℕ) (a : Archive) (d e : Stopping MemDisk)
 
 -- what the state tells
 pub is_armed : (k pick openings : ℕ) (a : Archive) (d : Stopping MemDisk) → Starts k pick openings a d
-    → IsArmed (stopping_state_of d) a.size k pick (limits_of d).capacity 3 177
+    → IsArmed (stopping_state_of d) a.size k pick (limits_of d).capacity 3 empty_size
 is_armed k pick openings a d r = record {
   goes = r.rests.goes;
   armed_is = r.armed_is;

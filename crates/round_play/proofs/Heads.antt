@@ -26,6 +26,7 @@ use Rattle.gated_log.specs.Version.{version_of}
 use Rattle.gated_log.specs.declared.version.Version.TheVariants.{Second}
 use Rattle.settings_file.specs.StationSettings.{StationSettings}
 use Rattle.station_base.specs.declared.row.Row.{Row}
+use Rattle.gated_log.specs.Layout.{slot_size}
 use Rattle.station_session.specs.Batches.{changes_for, batch_changes, begun_for, slots_more}
 use Rattle.station_session.specs.Records.{stored_rows}
 use Rattle.packed_rows.specs.Rows.{slot_total}
@@ -159,7 +160,7 @@ four_behind gate len (suc (suc (suc (suc (suc j))))) answer far = (omega (arith,
 
 -- and all of them, as it was answered
 batch_behind : (answer : Stored) (failed slots count : ℕ) → AreBehind (batch_changes answer failed slots count)
-batch_behind answer failed slots count = four_behind (176 * (slots + 1)) (176 * count) (begun_for answer failed) (disk_answer answer) (omega arith)
+batch_behind answer failed slots count = four_behind (slot_size * (slots + 1)) (slot_size * count) (begun_for answer failed) (disk_answer answer) (omega arith)
 
 -- and those of the batches of a round
 pub changes_behind : (settings : StationSettings) (failed : ℕ) (rows : List Row) (steps : Handed) → AreBehind (changes_for settings failed rows steps)

@@ -25,6 +25,7 @@ use Rattle.weather_book.specs.Stands.{HasRows, NowHasRows, ReadsRows, StandsOn}
 use Rattle.weather_book.specs.Book as book_words
 use Rattle.weather_book.specs.declared.book.Book.{Book}
 use Rattle.settings_file.specs.StationSettings.{StationSettings}
+use Rattle.gated_log.specs.Layout.{empty_size}
 use Rattle.station_session.specs.Session.{book_of, settings_of}
 use Rattle.station_session.specs.declared.session.Session.{Session}
 use Rattle.station_replay.specs.Keeping.{Archive}
@@ -79,12 +80,12 @@ left_by d rows image durable seen has c now =
     let e : Some image ≡ Some c = sym seen ∙ durable c now in let same : image ≡ c = cc in subst (HasRows rows) same has
 
 -- the length of a file that was made anew, or was longer
-remade_length : (image : List ℕ) → length (remade image) ≡ max (length image) 177
-remade_length image = by (nat_lt (length image) 178) refl
+remade_length : (image : List ℕ) → length (remade image) ≡ max (length image) empty_size
+remade_length image = by (nat_lt (length image) (empty_size + 1)) refl
   where
-    by : (b : Bool) → nat_lt (length image) 178 ≡ b → length (if b then written 0 empty_archive image else image) ≡ max (length image) 177
+    by : (b : Bool) → nat_lt (length image) (empty_size + 1) ≡ b → length (if b then written 0 empty_archive image else image) ≡ max (length image) empty_size
     by true short = length-written 0 empty_archive image
-    by false long = let e : 178 ≤ length image = grind (arith, nat_tests, long) in omega (arith, e)
+    by false long = let e : empty_size + 1 ≤ length image = grind (arith, nat_tests, long) in omega (arith, e)
 
 -- a stop that was not reached
 module _ (k size : ℕ) where
@@ -95,10 +96,10 @@ module _ (k size : ℕ) where
       let three : (k == 3) ≡ false = grind (arith, nat_tests, passed) in
       rw (one, two, three) refl
 
-  pub not_in_one : 177 < size → (1 ≤ k → 1 < k) → stops_opening k size ≡ false
+  pub not_in_one : empty_size < size → (1 ≤ k → 1 < k) → stops_opening k size ≡ false
   not_in_one long passed =
       let one : (k == 1) ≡ false = grind (arith, nat_tests, passed) in
-      let large : nat_lt 177 size ≡ true = grind (arith, nat_tests) in
+      let large : nat_lt empty_size size ≡ true = grind (arith, nat_tests) in
       rw (one, large) (nothing (k == 2 || k == 3))
     where
       nothing : (b : Bool) → (b && false) ≡ false
@@ -108,10 +109,10 @@ module _ (k size : ℕ) where
 -- what a recovery that went well made of the state
 pub record Opens (k : ℕ) (a : Archive) (d e : Stopping MemDisk) : Type 0 where
   pub changes : ℕ
-  pub passed : Passed (stopping_state_of d) (stopping_state_of e) k changes (max a.size 177)
+  pub passed : Passed (stopping_state_of d) (stopping_state_of e) k changes (max a.size empty_size)
   pub some : 1 ≤ changes
   pub moments : stopping_medium.moment e ≡ stopping_medium.moment d + changes
-  pub changes_are : changes ≡ (if nat_lt 177 a.size then 1 else 3)
+  pub changes_are : changes ≡ (if nat_lt empty_size a.size then 1 else 3)
   pub unreached : stops_opening k a.size ≡ false
   pub limits : limits_of e ≡ limits_of d
 
@@ -127,11 +128,11 @@ module _ (k pick openings : ℕ) (a : Archive) (d e : Stopping MemDisk) (r : Sta
       (went_well k pick openings a d e r count false begun went refl (omega (arith, same, some)))
 
   pub opens : Opens k a d e
-  opens = elim (le_or_gt (length r.image) 177) [
+  opens = elim (le_or_gt (length r.image) empty_size) [
     | inl short ↦
         let is = (moved r.image r.seen).made short in
         let passed = made_anew (stopping_state_of d) (stopping_state_of e) a.size k pick (limits_of d).capacity (is_armed k pick openings a d r) (went_changes 3 (omega arith) is) in
-        let small : nat_lt 177 a.size ≡ false = (let le : a.size ≤ 177 = omega (arith, r.length_is, short) in grind (arith, nat_tests, le)) in
+        let small : nat_lt empty_size a.size ≡ false = (let le : a.size ≤ empty_size = omega (arith, r.length_is, short) in grind (arith, nat_tests, le)) in
         record {
           changes = 3;
           passed = passed;
@@ -143,10 +144,10 @@ module _ (k pick openings : ℕ) (a : Archive) (d e : Stopping MemDisk) (r : Sta
         }
     | inr long ↦
         let is = (moved r.image r.seen).kept long in
-        let gt : 177 < a.size = omega (arith, r.length_is, long) in
+        let gt : empty_size < a.size = omega (arith, r.length_is, long) in
         let passed = synced_once (stopping_state_of d) (stopping_state_of e) a.size k pick (limits_of d).capacity (is_armed k pick openings a d r) (went_changes 1 (omega arith) is) in
-        let large : nat_lt 177 a.size ≡ true = grind (arith, nat_tests, gt) in
-        let size : a.size ≡ max a.size 177 = omega (arith, gt) in
+        let large : nat_lt empty_size a.size ≡ true = grind (arith, nat_tests, gt) in
+        let size : a.size ≡ max a.size empty_size = omega (arith, gt) in
         record {
           changes = 1;
           passed = subst (λ (n : ℕ). Passed (stopping_state_of d) (stopping_state_of e) k 1 n) size passed;
@@ -216,7 +217,7 @@ module _ (k pick openings : ℕ) (a : Archive) (d e : Stopping MemDisk) (r : Sta
           image = remade r.image;
           seen = reads_now;
           synced = synced_seen f (remade r.image) there.log.rests.durable reads_now;
-          length_is = remade_length r.image ∙ ap (λ (n : ℕ). max n 177) r.length_is;
+          length_is = remade_length r.image ∙ ap (λ (n : ℕ). max n empty_size) r.length_is;
           rows = rows_now;
           second = reads_second book f a.rows (remade r.image) there reads_now;
           durable = there.log.rests.durable;

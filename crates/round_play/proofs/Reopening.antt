@@ -9,10 +9,11 @@ use Rattle.disk_model.specs.declared.disk.Disked.{Disked}
 use Rattle.disk_model.specs.declared.disk.Disked.TheVariants.{Done, Failed}
 use Rattle.gated_log.specs.Calls.{up_to, recovery_changes, any_failed}
 use Rattle.gated_log.proofs.StoppedCalls.{IsArmed, one_of, wrote_done, synced_done, wrote_stopped, synced_stopped, written, after_sync, fits_write, no_misfit, no_misfit_sync, wrote_fails, synced_fails, not_one, is_one}
+use Rattle.gated_log.specs.Layout.{empty_size}
 
 -- the length that the file has within a change of these
 abbrev pub length_within : ℕ → ℕ → ℕ
-length_within j size = if j == 1 then size else max size 177
+length_within j size = if j == 1 then size else max size empty_size
 
 -- The disk went on through these changes.
 pub record Passed (s u : StoppingState) (k j larger : ℕ) : Type 0 where
@@ -23,7 +24,7 @@ pub record Passed (s u : StoppingState) (k j larger : ℕ) : Type 0 where
   pub size_is : u.inner.size ≡ larger
   pub synced_is : u.inner.synced_size ≡ larger
   pub changes_are : s.inner.changes ≤ u.inner.changes + j
-  pub bytes_are : s.inner.bytes ≤ u.inner.bytes + 177
+  pub bytes_are : s.inner.bytes ≤ u.inner.bytes + empty_size
 
 -- The disk stopped within this change of them.
 pub record Halted (u : StoppingState) (size larger k pick j : ℕ) : Type 0 where
@@ -37,7 +38,7 @@ pub record Halted (u : StoppingState) (size larger k pick j : ℕ) : Type 0 wher
 abbrev nothing : List Effect
 nothing = []
 
-module _ (s u : StoppingState) (size k pick capacity : ℕ) (r : IsArmed s size k pick capacity 3 177) where
+module _ (s u : StoppingState) (size k pick capacity : ℕ) (r : IsArmed s size k pick capacity 3 empty_size) where
   -- the first sync alone
   pub synced_once : after_stops (Some s) (up_to (take 1 recovery_changes) Done) ≡ Some u → Passed s u k 1 size
   synced_once h =
@@ -56,15 +57,15 @@ module _ (s u : StoppingState) (size k pick capacity : ℕ) (r : IsArmed s size 
       }
 
   -- all three
-  pub made_anew : after_stops (Some s) (up_to (take 3 recovery_changes) Done) ≡ Some u → Passed s u k 3 (max size 177)
+  pub made_anew : after_stops (Some s) (up_to (take 3 recovery_changes) Done) ≡ Some u → Passed s u k 3 (max size empty_size)
   made_anew h =
-      let p3 = one_of (and_stop (and_stop (Some s) (synced Done)) (wrote 0 177 None Done)) (synced Done) u h in
-      let p2 = one_of (and_stop (Some s) (synced Done)) (wrote 0 177 None Done) p3.0 p3.1 in
+      let p3 = one_of (and_stop (and_stop (Some s) (synced Done)) (wrote 0 empty_size None Done)) (synced Done) u h in
+      let p2 = one_of (and_stop (Some s) (synced Done)) (wrote 0 empty_size None Done) p3.0 p3.1 in
       let q1 = synced_done s p2.0 p2.1 in
-      let q2 = wrote_done p2.0 p3.0 0 177 None p2.2 in
+      let q2 = wrote_done p2.0 p3.0 0 empty_size None p2.2 in
       let q3 = synced_done p3.0 u p3.2 in
       let w1 = after_sync s p2.0 q1.2 in
-      let w2 = written p2.0 p3.0 0 177 None 0 q2.2 in
+      let w2 = written p2.0 p3.0 0 empty_size None 0 q2.2 in
       let w3 = after_sync p3.0 u q3.2 in
       let n1 = not_one s.armed q1.1 in
       let n2 = not_one p2.0.armed q2.1 in
@@ -83,7 +84,7 @@ module _ (s u : StoppingState) (size k pick capacity : ℕ) (r : IsArmed s size 
       }
 
   -- it stops within one of them
-  pub stops_within : (j : ℕ) → 177 ≤ capacity → 1 ≤ j → j ≤ 3 → after_stops (Some s) (up_to (take j recovery_changes) Failed) ≡ Some u
+  pub stops_within : (j : ℕ) → empty_size ≤ capacity → 1 ≤ j → j ≤ 3 → after_stops (Some s) (up_to (take j recovery_changes) Failed) ≡ Some u
       → Halted u size (length_within j size) k pick j
   stops_within zero room low high h = absurd (omega (arith, low))
   stops_within (suc zero) room low high h =
@@ -98,16 +99,16 @@ module _ (s u : StoppingState) (size k pick capacity : ℕ) (r : IsArmed s size 
         synced_is = ap (λ (x : StoppingState). x.inner.synced_size) q.1 ∙ r.synced_is;
       }
   stops_within (suc (suc zero)) room low high h =
-      let p2 = one_of (and_stop (Some s) (synced Done)) (wrote 0 177 None Failed) u h in
+      let p2 = one_of (and_stop (Some s) (synced Done)) (wrote 0 empty_size None Failed) u h in
       let q1 = synced_done s p2.0 p2.1 in
       let w1 = after_sync s p2.0 q1.2 in
       let sure : p2.0.inner.fails_at ≡ 0 = omega (arith, w1.sure, r.sure) in
-      let fits : 0 + 177 ≤ p2.0.inner.limits.capacity = omega (arith, w1.capacity, r.capacity_is, room) in
+      let fits : 0 + empty_size ≤ p2.0.inner.limits.capacity = omega (arith, w1.capacity, r.capacity_is, room) in
       let changes : 1 ≤ p2.0.inner.changes = omega (arith, w1.changes, r.changes_are) in
-      let bytes : 177 ≤ p2.0.inner.bytes = omega (arith, w1.bytes, r.bytes_are) in
-      let stop = wrote_fails p2.0 u 0 177 None p2.2 w1.goes (no_misfit p2.0.inner 0 177 None sure fits changes bytes) in
-      let q = wrote_stopped p2.0 u 0 177 None p2.2 w1.goes stop in
-      let f = fits_write p2.0.inner 0 177 None Failed sure fits changes bytes in
+      let bytes : empty_size ≤ p2.0.inner.bytes = omega (arith, w1.bytes, r.bytes_are) in
+      let stop = wrote_fails p2.0 u 0 empty_size None p2.2 w1.goes (no_misfit p2.0.inner 0 empty_size None sure fits changes bytes) in
+      let q = wrote_stopped p2.0 u 0 empty_size None p2.2 w1.goes stop in
+      let f = fits_write p2.0.inner 0 empty_size None Failed sure fits changes bytes in
       let one = is_one p2.0.armed q.0 in
       record {
         halted = stop;
@@ -118,12 +119,12 @@ module _ (s u : StoppingState) (size k pick capacity : ℕ) (r : IsArmed s size 
         synced_is = ap (λ (x : StoppingState). x.inner.synced_size) q.1 ∙ ap (λ x. x.synced_size) f ∙ w1.synced ∙ r.size_is;
       }
   stops_within (suc (suc (suc zero))) room low high h =
-      let p3 = one_of (and_stop (and_stop (Some s) (synced Done)) (wrote 0 177 None Done)) (synced Failed) u h in
-      let p2 = one_of (and_stop (Some s) (synced Done)) (wrote 0 177 None Done) p3.0 p3.1 in
+      let p3 = one_of (and_stop (and_stop (Some s) (synced Done)) (wrote 0 empty_size None Done)) (synced Failed) u h in
+      let p2 = one_of (and_stop (Some s) (synced Done)) (wrote 0 empty_size None Done) p3.0 p3.1 in
       let q1 = synced_done s p2.0 p2.1 in
-      let q2 = wrote_done p2.0 p3.0 0 177 None p2.2 in
+      let q2 = wrote_done p2.0 p3.0 0 empty_size None p2.2 in
       let w1 = after_sync s p2.0 q1.2 in
-      let w2 = written p2.0 p3.0 0 177 None 0 q2.2 in
+      let w2 = written p2.0 p3.0 0 empty_size None 0 q2.2 in
       let goes : p3.0.stopped ≡ false = ap (λ (x : StoppingState). x.stopped) q2.2 in
       let sure : p3.0.inner.fails_at ≡ 0 = omega (arith, w2.sure, w1.sure, r.sure) in
       let stop = synced_fails p3.0 u p3.2 goes (no_misfit_sync p3.0.inner sure (omega (arith, w2.changes, w1.changes, r.changes_are))) in

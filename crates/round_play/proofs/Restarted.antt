@@ -18,6 +18,7 @@ use Rattle.gated_log.specs.Calls.{RecoveryCalls}
 use Rattle.gated_log.specs.Version.{version_of}
 use Rattle.gated_log.specs.declared.version.Version.TheVariants.{Second}
 use Rattle.station_base.specs.declared.row.Row.{Row}
+use Rattle.gated_log.specs.Layout.{empty_size}
 use Rattle.weather_book.specs.Stands.{HasRows, NowHasRows}
 use Rattle.station_replay.specs.Schedule.{Stop}
 use Rattle.station_replay.specs.Keeping.{Archive}
@@ -52,13 +53,13 @@ module _ (k size : ℕ) where
   pub within_sync : k ≡ 1 → stops_opening k size ≡ true
   within_sync one = let e : (k == 1) ≡ true = grind (arith, nat_tests, one) in rw e refl
 
-  pub within_making : size ≤ 177 → 1 ≤ k → k ≤ 3 → stops_opening k size ≡ true
+  pub within_making : size ≤ empty_size → 1 ≤ k → k ≤ 3 → stops_opening k size ≡ true
   within_making short low high = by (k == 1) (k == 2) (k == 3) some (grind (arith, nat_tests))
     where
       some : ((k == 1) || ((k == 2) || (k == 3))) ≡ true
       some = grind (arith, nat_tests)
 
-      by : (a b c : Bool) → (a || (b || c)) ≡ true → nat_lt 177 size ≡ false → (a || ((b || c) && (if nat_lt 177 size then false else true))) ≡ true
+      by : (a b c : Bool) → (a || (b || c)) ≡ true → nat_lt empty_size size ≡ false → (a || ((b || c) && (if nat_lt empty_size size then false else true))) ≡ true
       by true b c is large = refl
       by false true c is large = rw large refl
       by false false true is large = rw large refl
@@ -68,7 +69,7 @@ module _ (k size : ℕ) where
 module _ (stop : Stop) (openings : ℕ) (a : Archive) (d e f : Stopping MemDisk) (r : Starts stop.change stop.pick openings a d) (count : ℕ) (failed : Bool)
     (begun : Begins stopping_medium 3 d e)
     (went : RecoveryCalls stopping_medium d e (stopping_medium.moment e - stopping_medium.moment d) count failed) (bad : failed ≡ true)
-    (one_change : WhereTold (stopping_medium.seen d) (λ c. 177 < length c → stopping_medium.moment e ≡ stopping_medium.moment d + 1)) where
+    (one_change : WhereTold (stopping_medium.seen d) (λ c. empty_size < length c → stopping_medium.moment e ≡ stopping_medium.moment d + 1)) where
   wrong : (1 ≤ stopping_medium.moment e - stopping_medium.moment d)
       × Halted (stopping_state_of e) a.size (length_within (stopping_medium.moment e - stopping_medium.moment d) a.size) stop.change stop.pick (stopping_medium.moment e - stopping_medium.moment d)
   wrong = went_wrong stop.change stop.pick openings a d e r count failed begun went bad
@@ -76,11 +77,11 @@ module _ (stop : Stop) (openings : ℕ) (a : Archive) (d e f : Stopping MemDisk)
   at_most : stop.change ≤ 3
   at_most = let n = few stop.change stop.pick openings a d e r count failed begun went in omega (arith, n, wrong.1.at)
 
-  long_once : 177 < a.size → stop.change ≡ 1
+  long_once : empty_size < a.size → stop.change ≡ 1
   long_once long = let is = one_change r.image r.seen (omega (arith, r.length_is, long)) in omega (arith, wrong.1.at, is)
 
   pub reached : stops_opening stop.change a.size ≡ true
-  reached = elim (le_or_gt a.size 177) [
+  reached = elim (le_or_gt a.size empty_size) [
     | inl short ↦ within_making stop.change a.size short (omega (arith, wrong.0, wrong.1.at)) at_most
     | inr long ↦ within_sync stop.change a.size (long_once long)
   ]
@@ -105,23 +106,23 @@ module _ (stop : Stop) (openings : ℕ) (a : Archive) (d e f : Stopping MemDisk)
         ∙ ap (λ (n : ℕ). picked_length stop.pick n (stopping_state_of e).inner.size) wrong.1.synced_is
         ∙ ap (λ (n : ℕ). picked_length stop.pick a.size n) (wrong.1.size_is ∙ ap (λ (n : ℕ). length_within n a.size) (sym wrong.1.at)) ∙ by (stop.change == 1) refl
       where
-        by : (b : Bool) → (stop.change == 1) ≡ b → picked_length stop.pick a.size (if b then a.size else max a.size 177) ≡ (if b then a.size else picked_length stop.pick a.size 177)
+        by : (b : Bool) → (stop.change == 1) ≡ b → picked_length stop.pick a.size (if b then a.size else max a.size empty_size) ≡ (if b then a.size else picked_length stop.pick a.size empty_size)
         by true is = same_picked stop.pick a.size
-        by false is = elim (le_or_gt a.size 177) [
-          | inl short ↦ ap (λ (n : ℕ). picked_length stop.pick a.size n) (let e : max a.size 177 ≡ 177 = omega (arith, short) in e)
+        by false is = elim (le_or_gt a.size empty_size) [
+          | inl short ↦ ap (λ (n : ℕ). picked_length stop.pick a.size n) (let e : max a.size empty_size ≡ empty_size = omega (arith, short) in e)
           | inr long ↦ absurd (let one = long_once long in let e : (stop.change == 1) ≡ true = grind (arith, nat_tests, one) in cc)
         ]
 
     -- its version
-    short_left : a.size ≤ 177 → length (restart_image e) ≤ 177
+    short_left : a.size ≤ empty_size → length (restart_image e) ≤ empty_size
     short_left short = by (stop.change == 1) length_left
       where
-        by : (b : Bool) → length (restart_image e) ≡ (if b then a.size else picked_length stop.pick a.size 177) → length (restart_image e) ≤ 177
+        by : (b : Bool) → length (restart_image e) ≡ (if b then a.size else picked_length stop.pick a.size empty_size) → length (restart_image e) ≤ empty_size
         by true is = omega (arith, is, short)
-        by false is = omega (arith, is, picked_between stop.pick a.size 177 short)
+        by false is = omega (arith, is, picked_between stop.pick a.size empty_size short)
 
     version_left : version_of (restart_image e) ≡ Second
-    version_left = elim (le_or_gt a.size 177) [
+    version_left = elim (le_or_gt a.size empty_size) [
       | inl short ↦ short_version (restart_image e) (short_left short)
       | inr long ↦
           let one : stopping_medium.moment e - stopping_medium.moment d ≡ 1 = sym wrong.1.at ∙ long_once long in

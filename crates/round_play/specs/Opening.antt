@@ -7,6 +7,7 @@ use Rattle.disk_model.specs.DiskState.{Limits}
 use Rattle.disk_model.specs.Stopping.{stopping_medium, stopping_state_of}
 use Rattle.disk_model.specs.declared.mem_disk.MemDisk.{MemDisk}
 use Rattle.disk_model.specs.declared.stopping.Stopping.{Stopping}
+use Rattle.gated_log.specs.Layout.{empty_size}
 use Rattle.station_session.specs.declared.session.Session.{Session}
 use Rattle.station_replay.specs.Schedule.{Stop}
 use Rattle.station_replay.specs.Keeping.{Archive}
@@ -17,11 +18,11 @@ use Rattle.round_play.specs.Resting.{AtRest, GoesOn}
 abbrev pub limits_of : Stopping MemDisk → Limits
 limits_of disk = (stopping_state_of disk).inner.limits
 
--- The disk has room for an opening: three changes at most, which write 177 bytes.
+-- The disk has room for an opening: three changes at most, which write an archive without slots.
 pub record CanOpen (disk : Stopping MemDisk) : Type 0 where
-  pub capacity : 177 ≤ (limits_of disk).capacity
+  pub capacity : empty_size ≤ (limits_of disk).capacity
   pub changes : 3 ≤ (stopping_state_of disk).inner.changes
-  pub bytes : 177 ≤ (stopping_state_of disk).inner.bytes
+  pub bytes : empty_size ≤ (stopping_state_of disk).inner.bytes
   pub moments : MayBegin stopping_medium 3 disk
 
 -- it is at rest with some archive, which can be opened

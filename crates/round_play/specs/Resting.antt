@@ -10,6 +10,7 @@ use Rattle.disk_model.specs.declared.mem_disk.MemDisk.{MemDisk}
 use Rattle.disk_model.specs.declared.stopping.Stopping.{Stopping}
 use Rattle.gated_log.specs.Version.{version_of}
 use Rattle.gated_log.specs.declared.version.Version.TheVariants.{Second}
+use Rattle.gated_log.specs.Layout.{empty_size, slot_size}
 use Rattle.weather_book.specs.Stands.{HasRows, NowHasRows, StandsOn}
 use Rattle.station_session.specs.declared.session.Session.{Session}
 use Rattle.station_session.specs.Session.{book_of, settings_of, most_of, is_stale}
@@ -18,7 +19,7 @@ use Rattle.station_replay.specs.Stopped.{Rests}
 
 -- The room that a run of so many records asks for.
 pub record IsRoomFor (records : ℕ) (limits : Limits) : Type 0 where
-  pub capacity : 177 + 2464 * records ≤ limits.capacity
+  pub capacity : empty_size + 14 * slot_size * records ≤ limits.capacity
   pub changes : 1403 + 4 * records ≤ limits.changes
   pub bytes : 2500000 + 2465 * records ≤ limits.bytes
 
@@ -26,7 +27,7 @@ pub record IsRoomFor (records : ℕ) (limits : Limits) : Type 0 where
 -- its rows and at each opening.
 pub record HasLeft (openings : ℕ) (a : Archive) (s : StoppingState) : Type 0 where
   pub changes : s.inner.limits.changes ≤ s.inner.changes + a.changes
-  pub bytes : s.inner.limits.bytes ≤ s.inner.bytes + (176 * slots a.rows + length a.rows + 200 * openings)
+  pub bytes : s.inner.limits.bytes ≤ s.inner.bytes + (slot_size * slots a.rows + length a.rows + 200 * openings)
 
 -- The disk is at rest, of the archive's length, with its rows in what it reads and in each image that a crash may
 -- leave, which is what it reads, in the second version. No stop is armed, and no call is to fail. So many openings

@@ -10,6 +10,7 @@ use borrow.Rule.Slice.PartMut.{put_mid}
 use Rattle.byteorder.specs.Endian.{little_from, little_bytes, little_number}
 use Rattle.byteorder.specs.Numbers.{little_from-cons, little_from-lt, little_number-reads_back}
 use Rattle.causes.specs.Lists.{AreBytes}
+use Rattle.row_slot.specs.Slot.{row_size}
 use Rattle.row_slot.specs.Values.{number_in}
 
 -- the bytes of a number from its second on are those of what is left of it above the first
@@ -58,9 +59,9 @@ number_read z rest fits =
 
 -- two parts that are copied over zeros, one behind the other
 pub copied : (head numbers first second : List ℕ) → first ≡ head → second ≡ numbers → length head ≡ 20 → length numbers ≡ 148 →
-    put_mid 20 148 (first ++ drop 20 (replicate 176 0)) second ≡ head ++ (numbers ++ little_bytes 8 0)
+    put_mid 20 148 (first ++ drop 20 (replicate row_size 0)) second ≡ head ++ (numbers ++ little_bytes 8 0)
 copied head numbers first second first_is second_is head_long numbers_long =
-    let zeros : List ℕ = drop 20 (replicate 176 0) in
+    let zeros : List ℕ = drop 20 (replicate row_size 0) in
     let front : take 20 (head ++ zeros) ≡ head = ap (λ (n : ℕ). take n (head ++ zeros)) (sym head_long) ∙ take-append_seam head zeros in
     let behind : drop 20 (head ++ zeros) ≡ zeros = ap (λ (n : ℕ). drop n (head ++ zeros)) (sym head_long) ∙ drop-append_seam head zeros in
     ap (λ (xs : List ℕ). put_mid 20 148 (xs ++ zeros) second) first_is ∙ ap (put_mid 20 148 (head ++ zeros)) second_is
@@ -75,7 +76,7 @@ ended head numbers last head_long numbers_long =
     let taken : take 168 (front ++ little_bytes 8 0) ≡ front = ap (λ (n : ℕ). take n (front ++ little_bytes 8 0)) (sym long) ∙ take-append_seam front (little_bytes 8 0) in
     ap (λ (xs : List ℕ). take 168 xs ++ last) whole ∙ ap (λ (xs : List ℕ). xs ++ last) taken ∙ append_assoc head numbers last
 
-pub put_last : (slot last new : List ℕ) → length slot ≡ 176 → new ≡ last ++ drop 8 (take 8 (drop 168 slot)) → put_mid 168 8 slot new ≡ take 168 slot ++ last
+pub put_last : (slot last new : List ℕ) → length slot ≡ row_size → new ≡ last ++ drop 8 (take 8 (drop 168 slot)) → put_mid 168 8 slot new ≡ take 168 slot ++ last
 put_last slot last new long is =
     let behind : List ℕ = drop 168 slot in
     let eight : length behind ≡ 8 = omega (arith, length-drop 168 slot) in

@@ -18,7 +18,7 @@ use Rattle.station_base.proofs.FieldSets.{missing_below}
 use Rattle.station_base.proofs.Periods.{period_bound}
 use Rattle.station_base.proofs.Words.{stamp_of_words-of, words_of-stamp}
 use Rattle.row_slot.specs.Values.{presence_of, numbers_of, spelled, values_in}
-use Rattle.row_slot.specs.Slot.{slot_of, number_at, is_marked, stamp_in, interval_in, limited_in, row_of, row_in}
+use Rattle.row_slot.specs.Slot.{slot_of, number_at, is_marked, stamp_in, interval_in, limited_in, row_of, row_in, row_size}
 use Rattle.causes.specs.Lists.{AreBytes}
 use Rattle.causes.proofs.Bytes.{bytes_behind}
 use Rattle.row_slot.proofs.Bytes.{bytes_again}
@@ -187,7 +187,7 @@ chained : (slot d1 d2 d4 d6 d8 d10 d12 d20 d168 b2 b4 b6 b8 b10 b12 b20 b168 : L
 chained slot d1 d2 d4 d6 d8 d10 d12 d20 d168 b2 b4 b6 b8 b10 b12 b20 b168 e0 e1 e2 e4 e6 e8 e10 e12 e20 e168 = rw (e0, e1, e2, e4, e6, e8, e10, e12, e20, e168) refl
 
 -- what is read of a slot is written as this slot
-pub slot_of-row_in : (slot : List ℕ) (row : Row) → length slot ≡ 176 → AreBytes slot → row_in slot ≡ Some row → slot ≡ slot_of row
+pub slot_of-row_in : (slot : List ℕ) (row : Row) → length slot ≡ row_size → AreBytes slot → row_in slot ≡ Some row → slot ≡ slot_of row
 unfolding slot_of
 slot_of-row_in slot row long fits is =
     let parts : AreParts slot row = parts-row_in slot row is in
@@ -198,7 +198,7 @@ slot_of-row_in slot row long fits is =
     let values : drop 20 slot ≡ spelled (numbers_of row.values) ++ drop 168 slot =
     sym (take-append-drop 148 (drop 20 slot)) ∙ ap (λ (xs : List ℕ). xs ++ drop 148 (drop 20 slot)) (sym told.numbers)
     ∙ ap (λ (xs : List ℕ). spelled (numbers_of row.values) ++ xs) (drop-drop 148 20 slot) in
-    let none : drop 176 slot ≡ [] = drop_all 176 slot (omega (arith, long)) in
+    let none : drop row_size slot ≡ [] = drop_all row_size slot (omega (arith, long)) in
     chained slot (drop 1 slot) (drop 2 slot) (drop 4 slot) (drop 6 slot) (drop 8 slot) (drop 10 slot) (drop 12 slot) (drop 20 slot) (drop 168 slot)
     (little_bytes 2 0) (little_bytes 2 (date_word_of row.stamp)) (little_bytes 2 (time_word_of row.stamp)) (little_bytes 2 row.interval) (little_bytes 2 0)
     (little_bytes 8 (presence_of row.values)) (spelled (numbers_of row.values)) (little_bytes 8 row.limited)
@@ -211,10 +211,10 @@ slot_of-row_in slot row long fits is =
     (part_at 2 10 12 0 slot refl (omega arith) fits marks.spare)
     (part_at 8 12 20 (presence_of row.values) slot refl (omega arith) fits told.bits)
     values
-    (part_at 8 168 176 row.limited slot refl (omega arith) fits parts.limited ∙ ap (λ (xs : List ℕ). little_bytes 8 row.limited ++ xs) none)
+    (part_at 8 168 row_size row.limited slot refl (omega arith) fits parts.limited ∙ ap (λ (xs : List ℕ). little_bytes 8 row.limited ++ xs) none)
 
 -- and its values are within the bound
-pub printable-row_in : (slot : List ℕ) (row : Row) → length slot ≡ 176 → AreBytes slot → row_in slot ≡ Some row → All IsPrintable row.values
+pub printable-row_in : (slot : List ℕ) (row : Row) → length slot ≡ row_size → AreBytes slot → row_in slot ≡ Some row → All IsPrintable row.values
 printable-row_in slot row long fits is =
     let parts : AreParts slot row = parts-row_in slot row is in
     (values_again 37 (number_at 8 12 slot) (drop 20 slot) row.values (omega (arith, length-drop 20 slot)) (bytes_behind 20 slot fits) parts.values).printable

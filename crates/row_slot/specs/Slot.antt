@@ -10,6 +10,10 @@ use Rattle.station_base.specs.Period.{is_period}
 use Rattle.station_base.specs.Stamp.{date_word_of, time_word_of, stamp_of_words}
 use Rattle.row_slot.specs.Values.{presence_of, numbers_of, spelled, values_in}
 
+-- the bytes of a row, which fill a slot of the archive's log
+abbrev pub row_size : ℕ
+row_size = 176
+
 -- what stands before the values: a closed gate, the kind of a row, no number of slots, the words of the stamp, the
 -- interval in minutes, two bytes 0 and the presence bits
 abbrev pub head_of : Row → List ℕ
@@ -17,7 +21,7 @@ head_of row =
     0 ∷ 1 ∷ 0 ∷ 0 ∷ (little_bytes 2 (date_word_of row.stamp) ++ little_bytes 2 (time_word_of row.stamp)
     ++ little_bytes 2 row.interval ++ little_bytes 2 0 ++ little_bytes 8 (presence_of row.values))
 
--- the 176 bytes of a row: the head, the number of each field, and the bits of those that limits made missing
+-- the bytes of a row: the head, the number of each field, and the bits of those that limits made missing
 unfoldable pub slot_of : Row → List ℕ
 slot_of row = head_of row ++ (spelled (numbers_of row.values) ++ little_bytes 8 row.limited)
 

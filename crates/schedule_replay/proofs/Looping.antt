@@ -12,6 +12,7 @@ use Rattle.schedule_file.specs.declared.schedule.step.Step as code_step
 use Rattle.schedule_file.specs.declared.schedule.step.Step.TheVariants as code
 use Rattle.station_sim.specs.declared.sim.Sim.{Sim}
 use Rattle.schedule_file.specs.Fates.{Fates}
+use Rattle.gated_log.specs.Layout.{slot_size}
 use Rattle.station_session.specs.Attempts.{all_said}
 use Rattle.station_session.specs.declared.session.Session.{Session}
 use Rattle.station_replay.specs.Replay.{Does, IsBegun, IsBroken, IsReplay, IsRound, IsUnseen, IsWhole, Item, Opens, OpensNext, Runs, Stage, closing, first, is_stop, left_by_round, opened, start, stops_opening}
@@ -122,7 +123,7 @@ pub stands_there : (settings : StationSettings) (eeprom : List ℕ) (packet : Lo
     → StandsThere (length (records (xs ++ x ∷ ys))) openings settings x s disk
 stands_there settings eeprom packet xs ys x is s openings disk ok few records_few stop room runs openings_few =
     let n = length (records (xs ++ x ∷ ys)) in
-    let fits = room_law settings eeprom packet xs (x ∷ ys) ok (176 * (14 * n + 1) + 1) (λ (rows : List Row) less. let a = total_few rows in let b = slots_is rows in omega (arith, a, b, less)) is s runs in
+    let fits = room_law settings eeprom packet xs (x ∷ ys) ok (slot_size * (14 * n + 1) + 1) (λ (rows : List Row) less. let a = total_few rows in let b = slots_is rows in omega (arith, a, b, less)) is s runs in
     let e = lines_join xs (x ∷ ys) in (
       record {
         room = room;
@@ -312,7 +313,7 @@ module _ (settings : StationSettings) (eeprom : List ℕ) (packet : LoopPacket) 
       let all : z ++ w ≡ steps_for q xs = steps_parts q xs i in
       let n = length (records (steps_for q xs)) in
       let m = length (records (z ++ w)) in
-      let fits = room_law settings eeprom packet z w (subst IsSchedule (sym all) r.ok) (176 * (14 * m + 1) + 1) (λ (rows : List Row) less. let a = total_few rows in let t = slots_is rows in omega (arith, a, t, less)) given s runs in
+      let fits = room_law settings eeprom packet z w (subst IsSchedule (sym all) r.ok) (slot_size * (14 * m + 1) + 1) (λ (rows : List Row) less. let a = total_few rows in let t = slots_is rows in omega (arith, a, t, less)) given s runs in
       let same : m ≡ n = ap (λ (y : List Step). length (records y)) all in
       let l = lines_part q xs i in
       record {

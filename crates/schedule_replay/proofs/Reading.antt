@@ -15,6 +15,7 @@ use Rattle.gated_log.proofs.Starting.{still_durable}
 use Rattle.gated_log.specs.declared.version.Version.TheVariants.{Second}
 use Rattle.station_base.specs.declared.row.Row.{Row}
 use Rattle.settings_file.specs.StationSettings.{StationSettings}
+use Rattle.gated_log.specs.Layout.{slot_size}
 use Rattle.weather_book.specs.declared.book.Book.{Book}
 use Rattle.weather_book.specs.Book.{StandsFor}
 use Rattle.packed_rows.specs.Rows.{rows_from, slot_total}
@@ -95,17 +96,17 @@ module _ (old new : Stopping MemDisk) (state : stopping_state_of new ≡ stoppin
 
 -- the slots of the rows stand within the length
 room_to_read : (disk : Stopping MemDisk) (session : Session) (settings : StationSettings) (rows : List Row) (openings : ℕ) (a : Archive) → AtRest openings a disk → GoesOn settings rows session disk
-    → 176 * (slot_total rows + 1) ≤ (stopping_state_of disk).inner.size
+    → slot_size * (slot_total rows + 1) ≤ (stopping_state_of disk).inner.size
 room_to_read disk session settings rows openings a at goes =
     let log = goes.stands.log in let closed = log.rests.reads at.image at.seen in
     omega (arith, at.rests.size, at.length_is, log.count_is, gate_place log.before goes.stands.slots log.chain, ap length closed.1, length-append log.before (0 ∷ closed.0))
 
 -- reads of its rows alone leave a disk at rest as it is, and none fails
 reads_at_rest : (old new : Stopping MemDisk) (session : Session) (settings : StationSettings) (rows : List Row) (openings : ℕ) (a : Archive) (failed : Bool) → AtRest openings a old → GoesOn settings rows session old
-    → Stays stopping_medium old new → Looked stopping_medium (176 * (slot_total rows + 1)) failed old new → (failed ≡ false) × IsOnlyRead old new
+    → Stays stopping_medium old new → Looked stopping_medium (slot_size * (slot_total rows + 1)) failed old new → (failed ≡ false) × IsOnlyRead old new
 reads_at_rest old new session settings rows openings a failed at goes stays looked =
     let room = room_to_read old session settings rows openings a at goes in
-    let done = reads_done (stopping_state_of old) (stopping_state_of new) (176 * (slot_total rows + 1)) looked.calls at.rests.goes at.rests.sure room looked.within looked.by.state in
+    let done = reads_done (stopping_state_of old) (stopping_state_of new) (slot_size * (slot_total rows + 1)) looked.calls at.rests.goes at.rests.sure room looked.within looked.by.state in
     (sym looked.fails ∙ done.1, only_read old new done.0 stays)
 
 -- the same of the reads of a report, which meets no fault of the disk

@@ -15,6 +15,7 @@ use Rattle.station_sim.specs.declared.unseen.Unseen.{Unseen}
 use Rattle.schedule_file.specs.Fates.{Fates}
 use Rattle.schedule_file.specs.Lists.{fates_of, left_in}
 use Rattle.station_sim.specs.Standing.{StandsFor}
+use Rattle.gated_log.specs.Layout.{empty_size}
 use Rattle.station_replay.specs.Keeping.{Archive}
 use Rattle.station_replay.specs.Replay.{IsBroken, Item, Stage, after_round, first, is_stop, left_by_round, opened}
 use Rattle.station_replay.specs.Schedule.{Step, Stop, no_fates}
@@ -50,7 +51,7 @@ one_or_three false = omega arith
 
 opened_changes : (t : Bool) (s : Stage) → (opened t s).archive.changes ≤ s.archive.changes + 3
 opened_changes true s = omega arith
-opened_changes false s = let n = one_or_three (Rattle.std.specs.Prelude.nat_lt 177 s.archive.size) in omega (arith, n)
+opened_changes false s = let n = one_or_three (Rattle.std.specs.Prelude.nat_lt empty_size s.archive.size) in omega (arith, n)
 
 opened_counted : (t : Bool) (records : ℕ) (settings : StationSettings) (f : Fates) (s : Stage) → IsCounted records settings f s → IsCounted records settings f (opened t s)
 opened_counted true records settings f s c = c

@@ -9,6 +9,7 @@ use causes::OutOfMemory;
 use console_model::Console;
 use disk_model::{MemDisk, Stopping};
 use eeprom_map::Eeprom;
+use gated_log::SLOT_SIZE;
 use loop_packet::LoopPacket;
 use station_base::Period;
 use station_sim::Sim;
@@ -25,10 +26,10 @@ pub fn new_line(alloc: Global, period: Period, packet: LoopPacket) -> Result<Sim
 }
 
 // The bytes of a file that is an archive without rows.
-const EMPTY_BYTES: usize = 177;
+const EMPTY_BYTES: usize = SLOT_SIZE + 1;
 
 // The most bytes of the file that a record can take: its own slot, and thirteen of a day's summary before it.
-const RECORD_BYTES: usize = 14 * 176;
+const RECORD_BYTES: usize = 14 * SLOT_SIZE;
 
 // The changes that the openings, and the batches that are cut short, of 200 lines can make, and those of the last
 // opening.

@@ -20,6 +20,7 @@ use Rattle.station_replay.specs.Session.{NotPast}
 use Rattle.station_replay.specs.Schedule.{Stop}
 use Rattle.station_replay.specs.Stopped.{armed_by, IsStop}
 use Rattle.gated_log.proofs.StoppedCalls.{not_one, one_of, wrote_done, synced_done, written, after_sync}
+use Rattle.gated_log.specs.Layout.{slot_size}
 use Rattle.station_replay.proofs.Stops.{stops_part, not_past, total_grows}
 use Rattle.station_session.proofs.Stamps.{stored_append}
 
@@ -116,8 +117,8 @@ chain_passes : (settings : StationSettings) (rows : List Row) (steps : Handed) (
 chain_passes settings rows Handed.Nothing failed s u h some = omega (arith, some)
 chain_passes settings rows (Handed.Refused records why) failed s u h some = omega (arith, some)
 chain_passes settings rows (Handed.Kept records more) failed s u h some =
-    let p = stops_part (Some s) (up_to (four_changes (176 * (slot_total rows + 1)) (176 * slots_more rows (stored_rows settings records))) Done) (changes_for settings failed (rows ++ stored_rows settings records) more) u h in
-    let q = batch_passes s p.0 (176 * (slot_total rows + 1)) (176 * slots_more rows (stored_rows settings records)) p.1 in
+    let p = stops_part (Some s) (up_to (four_changes (slot_size * (slot_total rows + 1)) (slot_size * slots_more rows (stored_rows settings records))) Done) (changes_for settings failed (rows ++ stored_rows settings records) more) u h in
+    let q = batch_passes s p.0 (slot_size * (slot_total rows + 1)) (slot_size * slots_more rows (stored_rows settings records)) p.1 in
     let r = chain_passes settings (rows ++ stored_rows settings records) more failed p.0 u p.2 (omega (arith, q.0 some, q.1)) in
     omega (arith, r, q.0 some, q.1)
 
@@ -143,7 +144,7 @@ batch_takes s u gate len h =
 -- What batches that were kept take of the record's room: four changes each, and the bytes of their slots and of a gate.
 pub record Takes (settings : StationSettings) (rows : List Row) (steps : Handed) (s u : StoppingState) : Type 0 where
   pub changes : s.inner.changes ≤ u.inner.changes + 4 * kept_count steps
-  pub bytes : s.inner.bytes + 176 * slot_total rows ≤ u.inner.bytes + 176 * slot_total (rows ++ stored_rows settings (kept_records steps)) + kept_count steps
+  pub bytes : s.inner.bytes + slot_size * slot_total rows ≤ u.inner.bytes + slot_size * slot_total (rows ++ stored_rows settings (kept_records steps)) + kept_count steps
 
 takes_none : (settings : StationSettings) (rows : List Row) (steps : Handed) (s u : StoppingState) → Some s ≡ Some u → kept_records steps ≡ [] → Takes settings rows steps s u
 takes_none settings rows steps s u is none =
@@ -157,8 +158,8 @@ chain_takes settings rows (Handed.Refused records Refusal.Full) failed s u sure 
 chain_takes settings rows (Handed.Refused records Refusal.Stale) failed s u sure h = takes_none settings rows (Handed.Refused records Refusal.Stale) s u h refl
 chain_takes settings rows (Handed.Refused records Refusal.DiskFault) failed s u sure h = absurd (sure refl)
 chain_takes settings rows (Handed.Kept records more) failed s u sure h =
-    let p = stops_part (Some s) (up_to (four_changes (176 * (slot_total rows + 1)) (176 * slots_more rows (stored_rows settings records))) Done) (changes_for settings failed (rows ++ stored_rows settings records) more) u h in
-    let q = batch_takes s p.0 (176 * (slot_total rows + 1)) (176 * slots_more rows (stored_rows settings records)) p.1 in
+    let p = stops_part (Some s) (up_to (four_changes (slot_size * (slot_total rows + 1)) (slot_size * slots_more rows (stored_rows settings records))) Done) (changes_for settings failed (rows ++ stored_rows settings records) more) u h in
+    let q = batch_takes s p.0 (slot_size * (slot_total rows + 1)) (slot_size * slots_more rows (stored_rows settings records)) p.1 in
     let r = chain_takes settings (rows ++ stored_rows settings records) more failed p.0 u sure p.2 in
     let rows_are : rows ++ stored_rows settings (kept_records (Handed.Kept records more)) ≡ (rows ++ stored_rows settings records) ++ stored_rows settings (kept_records more)
     = ap (λ (z : List Row). rows ++ z) (stored_append settings records (kept_records more)) ∙ sym (append_assoc rows (stored_rows settings records) (stored_rows settings (kept_records more))) in

@@ -18,6 +18,7 @@ use Rattle.gated_log.specs.Appending.{ByGate, Moved, OnAppended, OnRefused}
 use Rattle.weather_book.specs.Stands.{HasRows, NowHasRows, RowsOldOrAll, StandsOn, StandsToReadOn}
 use Rattle.causes.specs.declared.stored.Stored.{Stored}
 use Rattle.causes.specs.declared.stored.Stored.TheVariants as stored
+use Rattle.gated_log.specs.Layout.{slot_size}
 use Rattle.station_session.specs.declared.report.Mark.{Mark}
 use Rattle.station_session.specs.Records.{stored_rows, AllRead}
 use Rattle.station_session.specs.Report.{mark, mark_for}
@@ -38,10 +39,10 @@ pub record Tells {D : Type 0} (medium : Medium D)
   pub newest : last_of new ≡ book.last_after (last_of old) (rows_after a [] rows)
   pub moved : Moved a (medium.moment disk) (medium.moment disk')
   pub untouched : OnRefused a ((new ≡ old) × (disk' ≡ disk))
-  pub went_on : (l : List Row) → StandsFor old l → medium.went disk (up_to (take (medium.moment disk' - medium.moment disk) (four_changes (176 * (slot_total l + 1)) (176 * (slot_total (l ++ rows) - slot_total l)))) (disk_answer a)) disk'
+  pub went_on : (l : List Row) → StandsFor old l → medium.went disk (up_to (take (medium.moment disk' - medium.moment disk) (four_changes (slot_size * (slot_total l + 1)) (slot_size * (slot_total (l ++ rows) - slot_total l)))) (disk_answer a)) disk'
   pub images : (l : List Row) → StandsOn medium old disk l → LeavesOnly medium (RowsOldOrAll l rows (medium.moment disk + 3 ≤ medium.moment disk')) disk disk'
   pub gate : a ≡ stored.DiskFault → (l : List Row) → StandsOn medium old disk l
-      → ByGate medium (medium.moment disk + 3 ≤ medium.moment disk') (176 * (slot_total l + 1)) (HasRows l) (HasRows (l ++ rows)) disk'
+      → ByGate medium (medium.moment disk + 3 ≤ medium.moment disk') (slot_size * (slot_total l + 1)) (HasRows l) (HasRows (l ++ rows)) disk'
   pub still : OnUndone a ((l : List Row) → StandsOn medium old disk l → StandsToReadOn medium new disk' l)
   pub now : OnAppended a ((l : List Row) → StandsOn medium old disk l → NowHasRows medium disk' (l ++ rows))
   pub stands : OnAppended a ((l : List Row) → StandsOn medium old disk l → StandsOn medium new disk' (l ++ rows))

@@ -12,6 +12,7 @@ use Rattle.dmpaft_pump.specs.Keeper.{Handed, Refusal, answer_for, one_batch}
 use Rattle.station_session.specs.declared.report.Mark.{Mark}
 use Rattle.station_session.specs.Records.{stored_rows}
 use Rattle.gated_log.specs.Appending.{ByGate}
+use Rattle.gated_log.specs.Layout.{slot_size}
 use Rattle.station_session.specs.Batches.{Delivery, delivery, kept_of, kept_records, all_records, Fits, Fit, IsBegun, begun_for, batch_changes, slots_more, changes_for}
 use Rattle.station_session.specs.Images.{MayStand, HasWhole}
 use Rattle.station_session.specs.Report.{mark, mark_for, marks_for}
@@ -75,11 +76,11 @@ module _ {D : Type 0} (medium : Medium D) (settings : StationSettings) where
     still = λ e. cc;
   }
 
-  gate_as : (failed : ℕ) (d : D) (before before' all all' : List Row) → before ≡ before' → all ≡ all' → ByGate medium (3 ≤ failed) (176 * (slot_total before + 1)) (HasRows before) (HasRows all) d
-      → ByGate medium (3 ≤ failed) (176 * (slot_total before' + 1)) (HasRows before') (HasRows all') d
+  gate_as : (failed : ℕ) (d : D) (before before' all all' : List Row) → before ≡ before' → all ≡ all' → ByGate medium (3 ≤ failed) (slot_size * (slot_total before + 1)) (HasRows before) (HasRows all) d
+      → ByGate medium (3 ≤ failed) (slot_size * (slot_total before' + 1)) (HasRows before') (HasRows all') d
   gate_as failed d before before' all all' e f h =
-      subst (λ (x : List Row). ByGate medium (3 ≤ failed) (176 * (slot_total before' + 1)) (HasRows before') (HasRows x) d) f
-      (subst (λ (x : List Row). ByGate medium (3 ≤ failed) (176 * (slot_total x + 1)) (HasRows x) (HasRows all) d) e h)
+      subst (λ (x : List Row). ByGate medium (3 ≤ failed) (slot_size * (slot_total before' + 1)) (HasRows before') (HasRows x) d) f
+      (subst (λ (x : List Row). ByGate medium (3 ≤ failed) (slot_size * (slot_total x + 1)) (HasRows x) (HasRows all) d) e h)
 
   later_by : (a : Stored) (failed m n : ℕ) → n ≡ m + begun_for a failed → m ≤ n
   later_by a failed m n e = omega (arith, e)

@@ -11,6 +11,7 @@ use Rattle.packed_rows.specs.Rows.{slot_total}
 use Rattle.weather_book.specs.Stands.{HasRows, StandsOn, StandsToReadOn}
 use Rattle.causes.specs.declared.stored.Stored.TheVariants as stored
 use Rattle.dmpaft_pump.specs.Keeper.{Handed}
+use Rattle.gated_log.specs.Layout.{slot_size}
 use Rattle.station_session.specs.declared.report.Mark.{Mark}
 use Rattle.station_session.specs.Records.{stored_rows}
 use Rattle.station_session.specs.Batches.{kept_records, all_records, kept_count, last_answer, Fit, changes_for, IsBegun}
@@ -50,7 +51,7 @@ pub record Stores {D : Type 0} (medium : Medium D)
       → LeavesOnly medium (HasWhole settings (3 ≤ failed) rows steps) old.disk new.disk
   -- after a disk fault the gate behind the rows tells which of the two a crash now leaves
   pub gate : last_answer steps ≡ stored.DiskFault → StandsOn medium old.book old.disk rows
-      → ByGate medium (3 ≤ failed) (176 * (slot_total (rows_with settings rows steps) + 1))
+      → ByGate medium (3 ≤ failed) (slot_size * (slot_total (rows_with settings rows steps) + 1))
       (HasRows (rows_with settings rows steps)) (HasRows (rows ++ stored_rows settings (all_records steps))) new.disk
   pub marked : StandsOn medium old.book old.disk rows → IsMarked medium old.disk rows old.marks
       → IsMarked medium new.disk (rows_with settings rows steps) new.marks

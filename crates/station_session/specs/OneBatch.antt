@@ -14,6 +14,7 @@ use Rattle.causes.specs.declared.stored.Stored.TheVariants as stored
 use Rattle.dmpaft_pump.specs.Keeper.{Handed, answer_for, one_batch, kept_all, join, last_kept}
 use Rattle.station_session.specs.Records.{stored_rows}
 use Rattle.causes.specs.Stored.{stale_after}
+use Rattle.gated_log.specs.Layout.{slot_size}
 use Rattle.station_session.specs.Batches.{Delivery, delivery, kept_of, Fits, IsBegun, begun_for, batch_changes}
 use Rattle.station_session.specs.Batches.{slots_more}
 use Rattle.station_session.specs.Images.{MayStand}
@@ -49,7 +50,7 @@ pub record AddsBatch {D : Type 0} (medium : Medium D)
       → LeavesOnly medium (RowsOldOrAll rows (stored_rows settings s.rows) (MayStand s.answer (3 ≤ failed)))
       old.disk new.disk
   pub gate : s.answer ≡ stored.DiskFault → (rows : List Row) → StandsOn medium old.book old.disk rows
-      → ByGate medium (3 ≤ failed) (176 * (slot_total rows + 1)) (HasRows rows)
+      → ByGate medium (3 ≤ failed) (slot_size * (slot_total rows + 1)) (HasRows rows)
       (HasRows (rows ++ stored_rows settings s.rows)) new.disk
   pub now : s.answer ≡ stored.Done → (rows : List Row) → StandsOn medium old.book old.disk rows
       → NowHasRows medium new.disk (rows ++ stored_rows settings s.rows)

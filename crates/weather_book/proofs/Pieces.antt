@@ -6,20 +6,21 @@ use Rattle.disk_model.specs.Medium.{Medium}
 use Rattle.disk_model.specs.Calls.{DiskCall, attached, measured, was_read, wrote, synced}
 use Rattle.gated_log.specs.Calls.{reads_within, any_failed, Looked}
 use Rattle.gated_log.proofs.CallsMade.{any_join}
+use Rattle.gated_log.specs.Layout.{slot_size}
 
 -- one slot of those that were read of a place of a file
-pub slot_of_piece : (buf rest file : List ℕ) (p k n : ℕ) → buf ≡ take (length buf) (drop p file) → length buf ≡ 176 * n → k < n
-    → take 176 (drop (176 * k) (buf ++ rest)) ≡ take 176 (drop (p + 176 * k) file)
+pub slot_of_piece : (buf rest file : List ℕ) (p k n : ℕ) → buf ≡ take (length buf) (drop p file) → length buf ≡ slot_size * n → k < n
+    → take slot_size (drop (slot_size * k) (buf ++ rest)) ≡ take slot_size (drop (p + slot_size * k) file)
 slot_of_piece buf rest file p k n is long lt =
-    let m : ℕ = length buf - 176 * k in
-    let split : length buf ≡ 176 * k + (length buf - 176 * k) = omega (arith, long, lt) in
-    let part : drop (176 * k) buf ≡ take (length buf - 176 * k) (drop (176 * k) (drop p file))
-    = ap (λ (xs : List ℕ). drop (176 * k) xs) (is ∙ ap (λ (j : ℕ). take j (drop p file)) split) ∙ drop-take (176 * k) (length buf - 176 * k) (drop p file) in
-    ap (λ (xs : List ℕ). take 176 xs) (drop-append-le (176 * k) buf rest (omega (arith, long, lt)))
-    ∙ take-append-le 176 (drop (176 * k) buf) rest (omega (arith, length-drop (176 * k) buf, long, lt))
-    ∙ ap (λ (xs : List ℕ). take 176 xs) part
-    ∙ take-take 176 (length buf - 176 * k) (drop (176 * k) (drop p file)) (omega (arith, long, lt))
-    ∙ ap (λ (xs : List ℕ). take 176 xs) (drop-drop (176 * k) p file)
+    let m : ℕ = length buf - slot_size * k in
+    let split : length buf ≡ slot_size * k + (length buf - slot_size * k) = omega (arith, long, lt) in
+    let part : drop (slot_size * k) buf ≡ take (length buf - slot_size * k) (drop (slot_size * k) (drop p file))
+    = ap (λ (xs : List ℕ). drop (slot_size * k) xs) (is ∙ ap (λ (j : ℕ). take j (drop p file)) split) ∙ drop-take (slot_size * k) (length buf - slot_size * k) (drop p file) in
+    ap (λ (xs : List ℕ). take slot_size xs) (drop-append-le (slot_size * k) buf rest (omega (arith, long, lt)))
+    ∙ take-append-le slot_size (drop (slot_size * k) buf) rest (omega (arith, length-drop (slot_size * k) buf, long, lt))
+    ∙ ap (λ (xs : List ℕ). take slot_size xs) part
+    ∙ take-take slot_size (length buf - slot_size * k) (drop (slot_size * k) (drop p file)) (omega (arith, long, lt))
+    ∙ ap (λ (xs : List ℕ). take slot_size xs) (drop-drop (slot_size * k) p file)
 
 within_join : (len : ℕ) (xs ys : List DiskCall) → reads_within len xs → reads_within len ys → reads_within len (xs ++ ys)
 within_join len [] ys one two = two

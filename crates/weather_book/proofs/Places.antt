@@ -14,6 +14,7 @@ use Rattle.gated_log.specs.declared.version.Version.{Version}
 use Rattle.station_base.specs.CivilMinute.{CivilMinute}
 use Rattle.station_base.specs.RowLine.{blank_row}
 use Rattle.std.specs.Option.{unwrap_or}
+use Rattle.gated_log.specs.Layout.{slot_size}
 use Rattle.weather_book.specs.ReadBack.{row_back, rows_back, slot_in}
 use Rattle.packed_rows.specs.Rows.{rows_with, shown_with, slot_total, rows_from, holds, as_read}
 use Rattle.weather_book.proofs.Pieces.{slot_of_piece}
@@ -195,11 +196,11 @@ back_more v file n count row items more is were push =
     ∙ ap (rows_back v file n) (let s : suc count ≡ count + 1 = omega arith in s)
 
 -- slot k of those that one read from slot n on gives
-pub slot_read : (file bytes : List ℕ) (n k count : ℕ) → bytes ≡ take (length bytes) (drop (176 * (n + 1)) file) → length bytes ≡ 176 * count → k < count
-    → take 176 (drop (176 * k) bytes) ≡ slot_in file (n + k)
+pub slot_read : (file bytes : List ℕ) (n k count : ℕ) → bytes ≡ take (length bytes) (drop (slot_size * (n + 1)) file) → length bytes ≡ slot_size * count → k < count
+    → take slot_size (drop (slot_size * k) bytes) ≡ slot_in file (n + k)
 slot_read file bytes n k count is long lt =
-    ap (λ (xs : List ℕ). take 176 (drop (176 * k) xs)) (sym (append-nil bytes)) ∙ slot_of_piece bytes [] file (176 * (n + 1)) k count is long lt
-    ∙ ap (λ (j : ℕ). take 176 (drop j file)) (let e : 176 * (n + 1) + 176 * k ≡ 176 * (n + k + 1) = omega arith in e)
+    ap (λ (xs : List ℕ). take slot_size (drop (slot_size * k) xs)) (sym (append-nil bytes)) ∙ slot_of_piece bytes [] file (slot_size * (n + 1)) k count is long lt
+    ∙ ap (λ (j : ℕ). take slot_size (drop j file)) (let e : slot_size * (n + 1) + slot_size * k ≡ slot_size * (n + k + 1) = omega arith in e)
 
 -- one row more of those from number n on
 pub pushed : (rows : List Row) (n k : ℕ) (row one : Row) (items more : List Row) → slice_get rows (n + k) ≡ Some row → one ≡ row → items ≡ take k (drop n rows) → more ≡ items ++ one ∷ [] → more ≡ take (k + 1) (drop n rows)

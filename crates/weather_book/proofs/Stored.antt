@@ -1,5 +1,5 @@
 -- The parts of a summary in the slots that close its day.
-use Rattle.std.proofs.Common.{◌≡◌, inl, inr, ℕ, ℤ, zero, suc, ◌+◌, ◌*◌, ◌<◌, ◌≤◌, List, [], ◌∷◌, ◌++◌, length, take, drop, get_or, replicate, refl, sym, ◌∙◌, ap, subst, arith, append_assoc, append-nil, length-append}
+use Rattle.std.proofs.Common.{◌≡◌, inl, inr, ℕ, ℤ, zero, suc, ◌+◌, ◌*◌, ◌<◌, ◌≤◌, List, [], ◌∷◌, ◌++◌, length, take, drop, get_or, replicate, refl, sym, ◌∙◌, ap, subst, arith, append_assoc, append-nil, length-append, ◌-◌}
 use Rattle.std.specs.Prelude.{flat_map}
 use Rattle.std.specs.List.{range_with_len}
 use Rattle.std.proofs.Math.Seq.{take-append_seam}
@@ -14,6 +14,7 @@ use Rattle.daily_summary.specs.WellFormed.{IsStoredAs}
 use Rattle.daily_summary.proofs.PartsLaws.{part_long}
 use Rattle.gated_log.specs.Log.{unmarked}
 use Rattle.gated_log.specs.Stands.{AreSlots, IsSlot}
+use Rattle.gated_log.specs.Layout.{slot_size}
 use Rattle.packed_rows.specs.Closing.{summary_slot}
 
 -- the part in a slot
@@ -31,7 +32,7 @@ same_part (a ∷ b ∷ c ∷ d ∷ rest) = refl
 part_written : (day : ℤ) (k : ℕ) (s : DaySummary) → part_in (summary_slot day k s) ≡ part_of k s
 unfolding part_in summary_slot
 part_written day k s =
-    ap (λ (n : ℕ). take n (part_of k s ++ replicate 20 0)) (sym (part_long k s)) ∙ take-append_seam (part_of k s) (replicate 20 0)
+    ap (λ (n : ℕ). take n (part_of k s ++ replicate (slot_size - 156) 0)) (sym (part_long k s)) ∙ take-append_seam (part_of k s) (replicate (slot_size - 156) 0)
 
 -- what is read of a slot that closes a day has its part
 pub part_read : (day : ℤ) (k : ℕ) (s : DaySummary) (slot bytes : List ℕ) → IsSlot slot bytes → unmarked slot ≡ summary_slot day k s → take 132 (drop 24 bytes) ≡ part_of k s
@@ -48,26 +49,26 @@ same_parts (suc n) a f g each =
     ap (λ (xs : List ℕ). xs ++ flat_map f (range_with_len (a + 1) n)) first ∙ ap (λ (xs : List ℕ). g a ++ xs) rest
 
 -- the parts in slots that close a day are those of its summary
-pub parts_read : (slots : List (List ℕ)) (place : ℕ) (day : ℤ) (s : DaySummary) (bytes : List ℕ) → length bytes ≡ 2288 → AreSlots slots place bytes → IsClosedAt slots place day s → parts_at bytes ≡ parts_of s
+pub parts_read : (slots : List (List ℕ)) (place : ℕ) (day : ℤ) (s : DaySummary) (bytes : List ℕ) → length bytes ≡ 13 * slot_size → AreSlots slots place bytes → IsClosedAt slots place day s → parts_at bytes ≡ parts_of s
 parts_read slots place day s bytes long are closed =
     same_parts 13 0 (part_at bytes) (λ k. part_of k s)
     (λ i h. ap (part_at bytes) (let e : 0 + i ≡ i = omega arith in e) ∙ one i h ∙ ap (λ (k : ℕ). part_of k s) (let e : i ≡ 0 + i = omega arith in e))
   where
     one : (i : ℕ) → i < 13 → part_at bytes i ≡ part_of i s
     one i h =
-        let slot_bytes : List ℕ = take 176 (drop (176 * i) bytes) in
+        let slot_bytes : List ℕ = take slot_size (drop (slot_size * i) bytes) in
         let inner : take 132 (drop 24 slot_bytes) ≡ part_at bytes i =
-        ap (take 132) (drop-take 24 152 (drop (176 * i) bytes)) ∙ take-take 132 152 (drop 24 (drop (176 * i) bytes)) (omega arith) ∙ ap (take 132) (drop-drop 24 (176 * i) bytes) in
+        ap (take 132) (drop-take 24 (slot_size - 24) (drop (slot_size * i) bytes)) ∙ take-take 132 (slot_size - 24) (drop 24 (drop (slot_size * i) bytes)) (omega arith) ∙ ap (take 132) (drop-drop 24 (slot_size * i) bytes) in
         sym inner ∙ part_read day i s (get_or slots (place + i) []) slot_bytes (are i (omega (arith, long, h))) (closed.each i h)
 
 -- so many parts in front of zeros in place of those that are still to be copied
 pub record AreCopied (bytes : List ℕ) (count : ℕ) (parts : List ℕ) : Type 0 where
   pub parts_are : parts ≡ flat_map (part_at bytes) (range_with_len 0 count) ++ drop (132 * count) (replicate 1716 0)
 
-part_size : (bytes : List ℕ) (k : ℕ) → length bytes ≡ 2288 → k < 13 → length (part_at bytes k) ≡ 132
-part_size bytes k long lt = let a = length-take 132 (drop (176 * k + 24) bytes) in let b = length-drop (176 * k + 24) bytes in omega (arith, a, b, long, lt)
+part_size : (bytes : List ℕ) (k : ℕ) → length bytes ≡ 13 * slot_size → k < 13 → length (part_at bytes k) ≡ 132
+part_size bytes k long lt = let a = length-take 132 (drop (slot_size * k + 24) bytes) in let b = length-drop (slot_size * k + 24) bytes in omega (arith, a, b, long, lt)
 
-front_size : (bytes : List ℕ) (a n : ℕ) → length bytes ≡ 2288 → a + n ≤ 13 → length (flat_map (part_at bytes) (range_with_len a n)) ≡ 132 * n
+front_size : (bytes : List ℕ) (a n : ℕ) → length bytes ≡ 13 * slot_size → a + n ≤ 13 → length (flat_map (part_at bytes) (range_with_len a n)) ≡ 132 * n
 front_size bytes a zero long le = refl
 front_size bytes a (suc n) long le =
     let one = part_size bytes a long (omega arith) in let rest = front_size bytes (a + 1) n long (omega arith) in
@@ -80,7 +81,7 @@ more_parts bytes a (suc n) =
     ap (λ (xs : List ℕ). part_at bytes a ++ xs) (more_parts bytes (a + 1) n) ∙ sym (append_assoc (part_at bytes a) rest (part_at bytes (a + 1 + n)))
     ∙ ap (λ (k : ℕ). (part_at bytes a ++ rest) ++ part_at bytes k) (let e : a + 1 + n ≡ a + suc n = omega arith in e)
 
-pub one_copied : (bytes : List ℕ) (count size : ℕ) (parts new : List ℕ) → length bytes ≡ 2288 → count < 13 → size ≡ 132 → AreCopied bytes count parts → new ≡ part_at bytes count →
+pub one_copied : (bytes : List ℕ) (count size : ℕ) (parts new : List ℕ) → length bytes ≡ 13 * slot_size → count < 13 → size ≡ 132 → AreCopied bytes count parts → new ≡ part_at bytes count →
     AreCopied bytes (count + 1) (put_mid (132 * count) size parts new)
 one_copied bytes count size parts new long lt is132 are new_is =
     let front : List ℕ = flat_map (part_at bytes) (range_with_len 0 count) in

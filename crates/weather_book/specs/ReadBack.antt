@@ -6,6 +6,7 @@ use Rattle.station_base.specs.RowLine.{blank_row}
 use Rattle.row_slot.specs.Slot.{row_in}
 use Rattle.gated_log.specs.Log.{unmarked}
 use Rattle.gated_log.specs.declared.version.Version.{Version}
+use Rattle.gated_log.specs.Layout.{slot_size}
 use Rattle.packed_rows.specs.Rows.{as_read, slot_total}
 
 -- the row of a slot as its version reads it, its gate and the number of its batch's slots aside, and the default row of
@@ -15,7 +16,7 @@ row_back version slot = unwrap_or (row_in (as_read version (unmarked slot))) bla
 
 -- slot n of the log of a file
 abbrev pub slot_in : List ℕ → ℕ → List ℕ
-slot_in file n = take 176 (drop (176 * (n + 1)) file)
+slot_in file n = take slot_size (drop (slot_size * (n + 1)) file)
 
 -- the rows of so many slots from number n on
 abbrev pub rows_back : Version → List ℕ → ℕ → ℕ → List Row

@@ -3,6 +3,7 @@ ghost use Rattle.causes.specs.Told.{WhereTold};
 ghost use Rattle.disk_model.specs.Disk.{Stays, Faults, OnDone};
 ghost use Rattle.gated_log.specs.Calls.{Looked};
 ghost use Rattle.gated_log.specs.GatedLog.{slot_count};
+ghost use Rattle.gated_log.specs.Layout.{slot_size};
 ghost use Rattle.weather_book.specs.Pieces.{AreSlotsOf, did_fail};
 
 use disk_model::{Disk, Disked};
@@ -44,14 +45,15 @@ impl Piece {
         requires order { self.old.first ≤ n }
         requires few { self.old.held ≤ 70 }
         ensures file { OnDone result (WhereTold (D.medium.seen disk.old) (λ c. AreSlotsOf self.old.held self.old.first self.old.bytes c
-            → slot.new ≡ take 176 (drop (176 * (n + 1)) c))) }
+            → slot.new ≡ take slot_size (drop (slot_size * (n + 1)) c))) }
         ensures holds { OnDone result (WhereTold (D.medium.seen disk.old) (λ c. AreSlotsOf self.old.held self.old.first self.old.bytes c
             → AreSlotsOf self.new.held self.new.first self.new.bytes c)) }
         ensures order { OnDone result (self.new.first ≤ n) }
         ensures few { OnDone result (self.new.held ≤ 70) }
         ensures stays { Stays D.medium disk.old disk.new }
         ensures cause { Faults D.medium disk.old disk.new (result ≡ Disked.Failed) }
-        ensures went { (len : ℕ) → 176 * (slot_count log.now + 1) ≤ len → Looked D.medium len (did_fail result) disk.old disk.new }
+        ensures went { (len : ℕ) → slot_size * (slot_count log.now + 1) ≤ len
+            → Looked D.medium len (did_fail result) disk.old disk.new }
     {
         if n - self.first >= self.held as u64 {
             let count = most_from(log, n);

@@ -12,6 +12,7 @@ ghost use Rattle.station_base.specs.declared.row.Row.{Row};
 ghost use Rattle.packed_rows.specs.Adding.{AreLimited, ArePrintable};
 ghost use Rattle.daily_summary.specs.Bounds.{IsInBounds};
 ghost use Rattle.daily_summary.specs.declared.summary.DaySummary.{DaySummary};
+ghost use Rattle.gated_log.specs.Layout.{slot_size};
 ghost use Rattle.packed_rows.specs.Closed.{IsClosedAt, parts_at};
 ghost use Rattle.packed_rows.specs.Packed.{AreRowsAt};
 ghost use Rattle.weather_book.specs.ReadBack.{row_back, rows_back};
@@ -65,8 +66,8 @@ pub(crate) fn row_of(version: Version, slot: &[u8; SLOT_SIZE]) -> Row
 
 // Reads the row of slot `k` of these.
 fn read_at(version: Version, bytes: &[u8], k: usize, row: &mut Row)
-    requires { 176 * (k + 1) ≤ length bytes.now }
-    ensures row { row.new ≡ row_back version (take 176 (drop (176 * k) bytes.now)) }
+    requires { slot_size * (k + 1) ≤ length bytes.now }
+    ensures row { row.new ≡ row_back version (take slot_size (drop (slot_size * k) bytes.now)) }
     ensures printable { All IsPrintable row.new.values }
     ensures limited { AreMissing row.new.limited row.new.values }
 {
@@ -86,7 +87,7 @@ pub(crate) fn read_slots<D: Disk>(
 ) -> RowsAnswer
     requires some { 1 ≤ count }
     requires most { count ≤ 16 }
-    requires size { length bytes.old ≡ 176 * count }
+    requires size { length bytes.old ≡ slot_size * count }
     requires within { place + count ≤ slot_count log.now }
     requires empty { into.old.items ≡ [] }
     ensures file { OnRows result (WhereTold (D.medium.seen disk.old)
@@ -101,7 +102,8 @@ pub(crate) fn read_slots<D: Disk>(
     ensures stays { Stays D.medium disk.old disk.new }
     ensures cause { Faults D.medium disk.old disk.new (result ≡ RowsAnswer.DiskFault) }
     ensures looks { Looks D.medium 1 disk.old disk.new }
-    ensures went { (len : ℕ) → 176 * (place + count + 1) ≤ len → Looked D.medium len (rows_failed result) disk.old disk.new }
+    ensures went { (len : ℕ) → slot_size * (place + count + 1) ≤ len
+        → Looked D.medium len (rows_failed result) disk.old disk.new }
 {
     match log.slots_at(disk, place, bytes) {
         Disked::Done => {}
@@ -147,7 +149,8 @@ pub(crate) fn read_summary<D: Disk>(
     ensures stays { Stays D.medium disk.old disk.new }
     ensures cause { Faults D.medium disk.old disk.new (result ≡ DayAnswer.DiskFault) }
     ensures looks { Looks D.medium 1 disk.old disk.new }
-    ensures went { (len : ℕ) → 176 * (place + 14) ≤ len → Looked D.medium len (day_failed result) disk.old disk.new }
+    ensures went { (len : ℕ) → slot_size * (place + 14) ≤ len
+        → Looked D.medium len (day_failed result) disk.old disk.new }
 {
     let mut bytes = [0; CLOSING_BYTES];
     match log.slots_at(disk, place, &mut bytes) {

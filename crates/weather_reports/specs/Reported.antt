@@ -7,6 +7,7 @@ use Rattle.causes.specs.Written.{WritesPart}
 use Rattle.disk_model.specs.Medium.{Medium}
 use Rattle.gated_log.specs.Calls.{Looked}
 use Rattle.station_base.specs.declared.row.Row.{Row}
+use Rattle.gated_log.specs.Layout.{slot_size}
 use Rattle.packed_rows.specs.Rows.{slot_total}
 use Rattle.weather_reports.specs.declared.end.ReportEnd.{ReportEnd}
 use Rattle.weather_reports.specs.declared.end.ReportEnd.TheVariants.{Done, DiskFault, WriteFault}
@@ -35,4 +36,4 @@ AsFailed WriteFault failed = Unit {0}
 pub record ReadsOver {D : Type 0} (medium : Medium D) (rows : List Row) (end : ReportEnd) (old new : D) : Type 0 where
   pub failed : Bool
   pub by_end : AsFailed end failed
-  pub looked : Looked medium (176 * (slot_total rows + 1)) failed old new
+  pub looked : Looked medium (slot_size * (slot_total rows + 1)) failed old new

@@ -5,6 +5,7 @@ ghost use Rattle.station_base.specs.DayText.{IsDayNumber, day_text};
 ghost use Rattle.station_base.specs.declared.row.Row.{Row};
 ghost use Rattle.daily_summary.specs.Summary.{rows_of_day, summary_of};
 ghost use Rattle.gated_log.specs.Calls.{Looked};
+ghost use Rattle.gated_log.specs.Layout.{slot_size};
 ghost use Rattle.weather_book.specs.Book.{StandsFor};
 ghost use Rattle.packed_rows.specs.Rows.{slot_total};
 ghost use Rattle.weather_book.specs.Stands.{StandsToReadOn};
@@ -34,7 +35,7 @@ pub fn summary_of<D: Disk>(book: &Book, disk: &mut D, day: DayNumber) -> Option<
     ensures stays { Stays D.medium disk.old disk.new }
     ensures cause { Faults D.medium disk.old disk.new (result ≡ None) }
     ensures went { (rows : List Row) → StandsFor book.now rows
-        → Looked D.medium (176 * (slot_total rows + 1)) (is_none result) disk.old disk.new }
+        → Looked D.medium (slot_size * (slot_total rows + 1)) (is_none result) disk.old disk.new }
 {
     match book.day(disk, day) {
         DayAnswer::Summary(summary) => Some(summary),

@@ -2,6 +2,7 @@ use Rattle.std.proofs.Common.{rules, ◌≡◌, length, sym, ap, ◌∙◌, arit
 use Rattle.station_base.specs.CivilMinute.{CivilMinute}
 use Rattle.row_slot.specs.Slot.{row_in}
 use Rattle.std.specs.Prelude.{Option}
+use Rattle.gated_log.specs.Layout.{slot_size}
 use Rattle.packed_rows.specs.Closing.{closings, begins_day}
 use Rattle.packed_rows.proofs.Packing.{one_closing, is_thirteen, slots_and_row, small_closings}
 use Rattle.packed_rows.proofs.batch_slots.push_row.Goals as goal
@@ -11,7 +12,7 @@ closing_slot-slot-requires c = let few = small_closings (begins_day c.args.tail.
 
 pub loop-k-preserved : goal.loop-k-preserved
 loop-k-preserved c =
-    let long : length c.closing_slot-slot.result ≡ 176 = search rules in
+    let long : length c.closing_slot-slot.result ≡ slot_size = search rules in
     record {
       slots = λ before ends.
           one_closing before c.loop-k.k c.args.slots.now.items c.loop-k.slots.items c.push_bytes.new.text.items c.closing_slot-slot.result (c.loop-k.invariant.slots before ends) c.push_bytes.ensures.bytes
@@ -29,11 +30,11 @@ returns-clause-slots c before ends =
 
 pub returns-clause-length : goal.returns-clause-length
 returns-clause-length c =
-    let long : length c.write-slot.result ≡ 176 = search rules in
+    let long : length c.write-slot.result ≡ slot_size = search rules in
     let count : c.loop-k.k ≡ c.closings-k-end.result = omega arith in
     let few = small_closings (begins_day c.args.tail.now.last c.args.row.now.stamp) in
     omega (arith, c.push_bytes-2.ensures.length, c.loop-k.invariant.size, long, c.closings-k-end.ensures)
 
 pub returns-clause-read_back : goal.returns-clause-read_back
-returns-clause-read_back c = let long : length c.write-slot.result ≡ 176 = search rules in
+returns-clause-read_back c = let long : length c.write-slot.result ≡ slot_size = search rules in
     record { back = ap row_in (sym c.write-slot.ensures.bytes) ∙ c.write-slot.ensures.read_back; size = ap length (sym c.write-slot.ensures.bytes) ∙ long }

@@ -1,6 +1,7 @@
-use Rattle.std.proofs.Common.{◌≡◌, [], Option, Some, None, IfSome, length, ap, subst, sym, ◌∙◌, arith}
+use Rattle.std.proofs.Common.{◌≡◌, [], Option, Some, None, IfSome, length, ap, subst, sym, ◌∙◌, arith, ◌*◌}
 use Rattle.daily_summary.specs.declared.summary.DaySummary.{DaySummary}
 use Rattle.daily_summary.specs.WellFormed.{IsStoredAs}
+use Rattle.gated_log.specs.Layout.{slot_size}
 use Rattle.weather_book.proofs.DayOf.{summary_rows}
 use Rattle.weather_book.proofs.Looks.{one_look}
 use Rattle.weather_book.proofs.Stored.{parts_read, stored_as}
@@ -14,13 +15,13 @@ no_summary o s t one two = absurd cc
 
 pub returns-in-Some-clause-summary : goal.returns-in-Some-clause-summary
 returns-in-Some-clause-summary g c slots day t stands closed count x told =
-    let long : length c.slots_at.new.buf ≡ 2288 = omega (arith, c.slots_at.auto.buf) in
+    let long : length c.slots_at.new.buf ≡ 13 * slot_size = omega (arith, c.slots_at.auto.buf) in
     let parts = c.parts_at.ensures ∙ parts_read slots c.args.place day t c.slots_at.new.buf long (c.in-Done.ensures.bytes slots stands x told) closed in
     one_summary c.from_parts.result c.in-Some.summary t c.in-Some.is (c.from_parts.ensures.only t closed.typed (stored_as c.args.rows c.parts_at.result t count closed.bounds (sym parts)))
 
 pub returns-in-None-clause-summary : goal.returns-in-None-clause-summary
 returns-in-None-clause-summary g c slots day t stands closed count x told =
-    let long : length c.slots_at.new.buf ≡ 2288 = omega (arith, c.slots_at.auto.buf) in
+    let long : length c.slots_at.new.buf ≡ 13 * slot_size = omega (arith, c.slots_at.auto.buf) in
     let parts = c.parts_at.ensures ∙ parts_read slots c.args.place day t c.slots_at.new.buf long (c.in-Done.ensures.bytes slots stands x told) closed in
     no_summary c.from_parts.result c.new.result t c.in-None.is (c.from_parts.ensures.only t closed.typed (stored_as c.args.rows c.parts_at.result t count closed.bounds (sym parts)))
 

@@ -1,6 +1,7 @@
 use Rattle.std.proofs.Common.{◌≡◌, ◌+◌, ◌∙◌, length, refl, sym, ap, arith, ◌*◌, true, false, [], Some}
 use Rattle.std.proofs.lemmas.List.{drop_all}
 use Rattle.disk_model.specs.Disk.{stays_none, stays_joins}
+use Rattle.gated_log.specs.Layout.{slot_size}
 use Rattle.packed_rows.specs.Days.{days_of}
 use Rattle.packed_rows.specs.Rows.{slot_total}
 use Rattle.weather_book.proofs.Looks.{no_look}
@@ -19,7 +20,7 @@ loop-n-init g c = record {
   faults = refl;
   disk = omega arith;
   stays = stays_none g.D.Disk.medium c.args.disk.now;
-  went = λ rows stands. no_look g.D.Disk.medium (176 * (slot_total rows + 1)) c.args.disk.now;
+  went = λ rows stands. no_look g.D.Disk.medium (slot_size * (slot_total rows + 1)) c.args.disk.now;
   lines = λ rows stands x told.
       rw c.new-pending.ensures (comes_none (g.K.Sink.outlet.taken c.args.out.now) (day_table_lines c.args.first c.args.last rows));
   wrote = wrote_nothing g.K.Sink.outlet g.D.Disk.medium c.args.book.now c.args.disk.now _ c.args.out.now (λ rows stands x told.

@@ -2,6 +2,7 @@ use Rattle.std.proofs.Common.{◌≡◌, ◌+◌, ◌∙◌, [], ◌∷◌, ◌+
 use Rattle.std.proofs.lemmas.List.{append-nil, drop_all}
 use Rattle.std.specs.Prelude.{filter, flat_map}
 use Rattle.disk_model.specs.Disk.{stays_none, stays_joins}
+use Rattle.gated_log.specs.Layout.{slot_size}
 use Rattle.packed_rows.specs.Days.{days_of}
 use Rattle.packed_rows.specs.Rows.{slot_total}
 use Rattle.weather_book.proofs.Looks.{no_look}
@@ -22,7 +23,7 @@ loop-n-init g c = record {
   faults = refl;
   disk = omega arith;
   stays = stays_none g.D.Disk.medium c.args.disk.now;
-  went = λ rows stands. no_look g.D.Disk.medium (176 * (slot_total rows + 1)) c.args.disk.now;
+  went = λ rows stands. no_look g.D.Disk.medium (slot_size * (slot_total rows + 1)) c.args.disk.now;
   month = tt;
   few = λ rows stands. tt;
   lines = λ rows stands x told.

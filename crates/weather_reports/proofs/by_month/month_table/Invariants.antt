@@ -7,6 +7,7 @@ use Rattle.station_base.specs.declared.row.Row.{Row}
 use Rattle.weather_book.specs.Book.{StandsFor}
 use Rattle.packed_rows.specs.Days.{days_of}
 use Rattle.gated_log.specs.Calls.{Looked}
+use Rattle.gated_log.specs.Layout.{slot_size}
 use Rattle.packed_rows.specs.Rows.{slot_total}
 use Rattle.weather_book.specs.Stands.{StandsToReadOn}
 use Rattle.weather_reports.specs.declared.printing.TheConstants.{PIECE}
@@ -23,7 +24,7 @@ invariant-loop-n g l = record {
   faults : g.K.Sink.outlet.faults l.out ≡ g.K.Sink.outlet.faults l.initial.out;
   disk : g.D.Disk.medium.faults l.initial.disk ≤ g.D.Disk.medium.faults l.disk;
   stays : Stays g.D.Disk.medium l.initial.disk l.disk;
-  went : (rows : List Row) → StandsFor l.book rows → Looked g.D.Disk.medium (176 * (slot_total rows + 1)) false l.initial.disk l.disk;
+  went : (rows : List Row) → StandsFor l.book rows → Looked g.D.Disk.medium (slot_size * (slot_total rows + 1)) false l.initial.disk l.disk;
   month : IfSome l.month IsInOrder;
   few : (rows : List Row) → StandsFor l.book rows → IfSome l.month (HasFewRows rows l.n);
   lines : (rows : List Row) → StandsToReadOn g.D.Disk.medium l.book l.initial.disk rows

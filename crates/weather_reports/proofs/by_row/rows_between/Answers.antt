@@ -5,6 +5,7 @@ use Rattle.disk_model.specs.Disk.{stays_none, stays_joins}
 use Rattle.station_base.specs.FieldSet.{AreMissing}
 use Rattle.station_base.specs.RowLine.{IsPrintable, row_line}
 use Rattle.station_base.specs.declared.row.Row.{Row}
+use Rattle.gated_log.specs.Layout.{slot_size}
 use Rattle.packed_rows.specs.Days.{day_rest}
 use Rattle.packed_rows.specs.Rows.{slot_total}
 use Rattle.weather_book.proofs.Looks.{no_look}
@@ -22,7 +23,7 @@ loop-at-init g c = record {
   faults = refl;
   disk = omega arith;
   stays = stays_none g.D.Disk.medium c.args.disk.now;
-  went = λ rows stands. no_look g.D.Disk.medium (176 * (slot_total rows + 1)) c.args.disk.now;
+  went = λ rows stands. no_look g.D.Disk.medium (slot_size * (slot_total rows + 1)) c.args.disk.now;
   lines = λ rows stands x told.
       rw c.new-pending.ensures (comes_none (g.K.Sink.outlet.taken c.args.out.now) (map row_line (take (c.args.end - c.args.from) (drop c.args.from rows))));
   wrote = wrote_nothing g.K.Sink.outlet g.D.Disk.medium c.args.book.now c.args.disk.now _ c.args.out.now (λ rows stands x told.

@@ -16,6 +16,7 @@ use Rattle.packed_rows.proofs.DayRows.{day_count, few_of}
 use Rattle.weather_book.proofs.KeptLaws.{total_kept}
 use Rattle.packed_rows.specs.Rows.{as_read}
 use Rattle.std.proofs.Common.{map}
+use Rattle.gated_log.specs.Layout.{slot_size}
 use Rattle.packed_rows.proofs.Versions.{closed_read}
 use Rattle.weather_book.proofs.book.Book.day.Goals as goal
 
@@ -101,7 +102,7 @@ returns-clause-went g c rows stands =
     let self = c.args.self.now in let kept = self.kept in
     let o = over_kept kept.days.items kept.count kept.tail rows c.args.day c.rows_before-first.result c.rows_to-end.result stands.keeps (c.rows_before-first.ensures rows stands.keeps) (c.rows_to-end.ensures rows stands.keeps) c.if-end-first.false c.if-end-self.false in
     let at = c.place.ensures.rows rows stands.keeps in let total = o.total in
-    c.read_summary.ensures.went (176 * (slot_total rows + 1))
+    c.read_summary.ensures.went (slot_size * (slot_total rows + 1))
     (omega (arith, at, total, c.from.ensures, c.place.ensures.within, c.if-end-self.false, kept.days.ok.0, total_kept kept.days.items kept.count kept.tail rows stands.keeps))
 
 pub returns-clause-bounds : goal.returns-clause-bounds

@@ -7,6 +7,7 @@ use Rattle.std.specs.Prelude.{get_or}
 use Rattle.row_slot.specs.Slot.{row_in}
 use Rattle.packed_rows.specs.Rows.{slot_total, as_read}
 use Rattle.gated_log.specs.declared.version.Version.{Version}
+use Rattle.gated_log.specs.Layout.{slot_size}
 use Rattle.weather_book.specs.ReadBack.{rows_back, slot_number}
 use Rattle.packed_rows.proofs.Versions.{read_at}
 use Rattle.weather_book.specs.Start.{OnRows}
@@ -46,7 +47,7 @@ returns-clause-file g c =
 pub returns-clause-went : goal.returns-clause-went
 returns-clause-went g c rows stands =
     let self = c.args.self.now in let kept = self.kept in
-    c.read_slots.ensures.went (176 * (slot_total rows + 1))
+    c.read_slots.ensures.went (slot_size * (slot_total rows + 1))
     (omega (arith, c.rest-count.ensures.within, c.place-place.ensures.within, kept.days.ok.0, total_kept kept.days.items kept.count kept.tail rows stands.keeps))
 
 pub returns-clause-some : goal.returns-clause-some

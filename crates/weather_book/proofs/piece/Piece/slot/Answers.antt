@@ -1,4 +1,5 @@
 use Rattle.std.proofs.Common.{◌≡◌, ◌+◌, ◌*◌, ℕ, take, drop, length, ◌∙◌, ap, arith, length-take}
+use Rattle.gated_log.specs.Layout.{slot_size}
 use Rattle.weather_book.specs.Pieces.{AreSlotsOf}
 use Rattle.weather_book.proofs.Pieces.{slot_of_piece}
 use Rattle.weather_book.proofs.piece.Piece.slot.Goals as goal
@@ -11,8 +12,8 @@ returns-clause-holds g c x told are =
           let count = w.most_from-count.result in
           let n = c.args.n in
           let file = w.in-Done.ensures.file x told in
-          let long : length w.slots_at.new.buf ≡ 176 * count = omega (arith, w.slots_at.auto.buf, length-take (176 * count) c.args.self.now.bytes, w.most_from-count.ensures.most) in
-          rw w.self-is (λ k lt. slot_of_piece w.slots_at.new.buf _ x (176 * (n + 1)) k count file long lt
-          ∙ ap (λ (j : ℕ). take 176 (drop j x)) (let e : 176 * (n + 1) + 176 * k ≡ 176 * (n + k + 1) = omega arith in e))
+          let long : length w.slots_at.new.buf ≡ slot_size * count = omega (arith, w.slots_at.auto.buf, length-take (slot_size * count) c.args.self.now.bytes, w.most_from-count.ensures.most) in
+          rw w.self-is (λ k lt. slot_of_piece w.slots_at.new.buf _ x (slot_size * (n + 1)) k count file long lt
+          ∙ ap (λ (j : ℕ). take slot_size (drop j x)) (let e : slot_size * (n + 1) + slot_size * k ≡ slot_size * (n + k + 1) = omega arith in e))
       | else-n-self w ↦ rw w.self-is are
     ]

@@ -1,0 +1,10 @@
+-- How many bytes stand where in an archive file. The layout is this project's own.
+use Rattle.std.specs.Prelude.{ℕ, ◌+◌}
+
+-- the bytes of a slot, and of the head before the first
+abbrev pub slot_size : ℕ
+slot_size = 176
+
+-- the bytes of an archive without slots: the head and a closed gate
+abbrev pub empty_size : ℕ
+empty_size = slot_size + 1
