@@ -11,26 +11,26 @@ use Rattle.circular_buffer.proofs.Places.{slice_get-drop}
 use Rattle.station_base.specs.CivilMinute.{CivilMinute, minute_of}
 use Rattle.station_base.specs.LastStamp.{CanFollow}
 use Rattle.archive_record.specs.Reading.{stamp_in}
-use Rattle.console_ring.specs.History.{retained, newest_of, CanExtend, IsHistory}
+use Rattle.console_ring.specs.History.{retained, newest_of, CanExtend, IsHistory, ring_size}
 use Rattle.console_ring.specs.Picture.{last_in, slot_of}
 use Rattle.console_ring.specs.Standing.{Kept, StandsFor}
 
-pub retained_push : (history : List (List ℕ)) (bytes : List ℕ) → keep_last 2560 (retained history ++ bytes ∷ []) ≡ retained (history ++ bytes ∷ [])
+pub retained_push : (history : List (List ℕ)) (bytes : List ℕ) → keep_last ring_size (retained history ++ bytes ∷ []) ≡ retained (history ++ bytes ∷ [])
 retained_push history bytes =
-    let overwritten : ℕ = length history - 2560 in
+    let overwritten : ℕ = length history - ring_size in
     let long = length-append (retained history) (bytes ∷ []) in
     let kept = length-drop overwritten history in
     let all = length-append history (bytes ∷ []) in
     let front : drop overwritten history ++ bytes ∷ [] ≡ drop overwritten (history ++ bytes ∷ []) = sym (drop-append-le overwritten history (bytes ∷ []) (omega arith)) in
-    let gone : ℕ = length (retained history ++ bytes ∷ []) - 2560 in
-    let sum : overwritten + gone ≡ length (history ++ bytes ∷ []) - 2560 = omega (arith, long, kept, all) in
+    let gone : ℕ = length (retained history ++ bytes ∷ []) - ring_size in
+    let sum : overwritten + gone ≡ length (history ++ bytes ∷ []) - ring_size = omega (arith, long, kept, all) in
     ap (λ xs. drop gone xs) front ∙ drop-drop gone overwritten (history ++ bytes ∷ []) ∙ ap (λ n. drop n (history ++ bytes ∷ [])) sum
 
 -- the last of those that are left is the last of all
 pub last_retained : (history : List (List ℕ)) → last_item (retained history) ≡ last_item history
 last_retained [] = refl
 last_retained (r ∷ rs) =
-    let overwritten : ℕ = length (r ∷ rs) - 2560 in
+    let overwritten : ℕ = length (r ∷ rs) - ring_size in
     slice_get-drop overwritten (r ∷ rs) (length (retained (r ∷ rs)) - 1) (length (r ∷ rs) - 1) (omega (arith, length-drop overwritten (r ∷ rs)))
 
 -- the item so many behind the last one, where there are more
@@ -39,7 +39,7 @@ item_behind more items behind = if more then slice_get items (length items - beh
 
 -- what a ring has so many behind its last record is what was put last in a slot
 pub slot_kept : (records : List (List ℕ)) (next number behind : ℕ) (history : List (List ℕ)) →
-    StandsFor (record { records = records; next_slot = next }) history → number < 2560 → behind ≡ (next + 2560 - 1 - number) % 2560 →
+    StandsFor (record { records = records; next_slot = next }) history → number < ring_size → behind ≡ (next + ring_size - 1 - number) % ring_size →
     item_behind (nat_lt behind (length records)) records behind ≡ slot_of history number
 slot_kept records next number behind history stands small is =
     ap (λ items. item_behind (nat_lt behind (length items)) items behind) stands.records ∙ by_put (nat_lt number (length history)) refl
@@ -47,13 +47,13 @@ slot_kept records next number behind history stands small is =
     by_put : (put : Bool) → nat_lt number (length history) ≡ put →
         item_behind (nat_lt behind (length (retained history))) (retained history) behind ≡ (if put then slice_get history (last_in (length history) number) else None)
     by_put true test =
-        let long = length-drop (length history - 2560) history in
+        let long = length-drop (length history - ring_size) history in
         let put : number < length history = ltb-true number (length history) test in
         let within : behind < length (retained history) = omega (arith, long, put, stands.next_slot, small, is) in
         ap (λ more. item_behind more (retained history) behind) (lt-ltb behind (length (retained history)) within)
-        ∙ slice_get-drop (length history - 2560) history (length (retained history) - behind - 1) (last_in (length history) number) (omega (arith, long, put, stands.next_slot, small, is, within))
+        ∙ slice_get-drop (length history - ring_size) history (length (retained history) - behind - 1) (last_in (length history) number) (omega (arith, long, put, stands.next_slot, small, is, within))
     by_put false test =
-        let long = length-drop (length history - 2560) history in
+        let long = length-drop (length history - ring_size) history in
         let unput : length history ≤ number = grind (arith, nat_tests, test) in
         let beyond : length (retained history) ≤ behind = omega (arith, long, unput, stands.next_slot, small, is) in
         let past : nat_lt behind (length (retained history)) ≡ false = grind (arith, nat_tests, beyond) in
@@ -73,18 +73,18 @@ rises_push history bytes rises follows i none within =
     (take-append_seam history (bytes ∷ [])) (get_or-append_seam history bytes [] none) follows)
     i below
 
-next_push : (next long : ℕ) → next ≡ long % 2560 → (next + 1) % 2560 ≡ (long + 1) % 2560
+next_push : (next long : ℕ) → next ≡ long % ring_size → (next + 1) % ring_size ≡ (long + 1) % ring_size
 next_push next long is = omega (arith, is)
 
 kept : List (List ℕ) → ℕ → Kept
 kept records next = record { records = records; next_slot = next }
 
 pub appended : (records more : List (List ℕ)) (next capacity : ℕ) (history : List (List ℕ)) (bytes : List ℕ) →
-    StandsFor (record { records = records; next_slot = next }) history → CanExtend history bytes → capacity ≡ 2560 → more ≡ keep_last capacity (records ++ bytes ∷ []) →
-    StandsFor (record { records = more; next_slot = (next + 1) % 2560 }) (history ++ bytes ∷ [])
+    StandsFor (record { records = records; next_slot = next }) history → CanExtend history bytes → capacity ≡ ring_size → more ≡ keep_last capacity (records ++ bytes ∷ []) →
+    StandsFor (record { records = more; next_slot = (next + 1) % ring_size }) (history ++ bytes ∷ [])
 appended records more next capacity history bytes stands follows size is = record {
-  records = is ∙ ap (λ n. keep_last n (records ++ bytes ∷ [])) size ∙ ap (λ xs. keep_last 2560 (xs ++ bytes ∷ [])) stands.records ∙ retained_push history bytes;
-  next_slot = next_push next (length history) stands.next_slot ∙ ap (λ n. n % 2560) (sym (length-append history (bytes ∷ [])));
+  records = is ∙ ap (λ n. keep_last n (records ++ bytes ∷ [])) size ∙ ap (λ xs. keep_last ring_size (xs ++ bytes ∷ [])) stands.records ∙ retained_push history bytes;
+  next_slot = next_push next (length history) stands.next_slot ∙ ap (λ n. n % ring_size) (sym (length-append history (bytes ∷ [])));
   rises = rises_push history bytes stands.rises follows;
 }
 

@@ -11,7 +11,7 @@ use Rattle.station_base.proofs.Civil.{stamp_civil}
 use Rattle.station_base.proofs.WordOrder.{words_exceed_when_later}
 use Rattle.archive_record.specs.Kind.{word_at}
 use Rattle.archive_record.specs.Reading.{stamp_in}
-use Rattle.console_ring.specs.History.{retained, newest_of, IsHistory, is_newer, newer}
+use Rattle.console_ring.specs.History.{retained, newest_of, IsHistory, is_newer, newer, ring_size}
 use Rattle.console_ring.specs.Picture.{last_in, plan_by, plan_from, plan_of, plan_of_last, IsLastIn}
 use Rattle.console_ring.proofs.Words.{stamp_words}
 
@@ -103,7 +103,7 @@ newer_goes_on h date time rises i none within is =
 
 upward_retained : (h : List (List ℕ)) (date time : ℕ) → IsHistory h → Upward (is_newer date time) (retained h)
 upward_retained h date time rises =
-    let k = length h - 2560 in
+    let k = length h - ring_size in
     let test = is_newer date time in
     upward test (retained h) (λ i none within is.
     subst (λ (r : List ℕ). test r ≡ true) (sym (get_or-drop k h (suc i) none))
@@ -118,16 +118,16 @@ count_newer h date time rises =
 
 pub newer_last : (h : List (List ℕ)) (date time : ℕ) → IsHistory h → newer date time (retained h) ≡ drop (length h - length (newer date time (retained h))) h
 newer_last h date time rises =
-    let k = length h - 2560 in
+    let k = length h - ring_size in
     let p = position_or_len (is_newer date time) (retained h) in
     let at : k + p ≡ length h - length (newer date time (retained h)) =
     omega (arith, count_newer h date time rises, length-drop k h, position_within (is_newer date time) (retained h)) in
     from_first (is_newer date time) (retained h) (upward_retained h date time rises) ∙ drop-drop p k h ∙ ap (λ (n : ℕ). drop n h) at
 
-by_place : (b : Bool) (p len count n : ℕ) → nat_lt p len ≡ b → p ≤ len → n ≡ len - p → len ≡ count - (count - 2560) → plan_by (if b then Some p else None) (count - 2560) count ≡ plan_of_last n count
+by_place : (b : Bool) (p len count n : ℕ) → nat_lt p len ≡ b → p ≤ len → n ≡ len - p → len ≡ count - (count - ring_size) → plan_by (if b then Some p else None) (count - ring_size) count ≡ plan_of_last n count
 by_place true p len count zero less within is long = absurd (grind (arith, nat_tests, less, is, within))
 by_place true p len count (suc more) less within is long =
-    let at : count - 2560 + p ≡ count - suc more = omega (arith, is, long, within) in
+    let at : count - ring_size + p ≡ count - suc more = omega (arith, is, long, within) in
     ap (λ (first : ℕ). plan_from first count) at
 by_place false p len count zero less within is long = refl
 by_place false p len count (suc more) less within is long = absurd (grind (arith, nat_tests, less, is, within))
@@ -137,10 +137,10 @@ unfolding plan_of
 plan_newer h date time rises =
     let p = position_or_len (is_newer date time) (retained h) in
     by_place (nat_lt p (length (retained h))) p (length (retained h)) (length h) (length (newer date time (retained h))) refl
-    (position_within (is_newer date time) (retained h)) (count_newer h date time rises) (length-drop (length h - 2560) h)
+    (position_within (is_newer date time) (retained h)) (count_newer h date time rises) (length-drop (length h - ring_size) h)
 
 -- the last number in a slot
-pub last_number : (count slot : ℕ) → slot < 2560 → slot < count → IsLastIn count slot (last_in count slot)
+pub last_number : (count slot : ℕ) → slot < ring_size → slot < count → IsLastIn count slot (last_in count slot)
 last_number count slot small within = record {
   below = omega arith;
   slot_is = omega arith;

@@ -11,9 +11,17 @@ use Rattle.station_base.specs.Stamp.{words_exceed}
 use Rattle.archive_record.specs.Kind.{word_at}
 use Rattle.archive_record.specs.Reading.{stamp_in}
 
--- the records that the archive still has: the last 2,560 (Davis serial manual, "DMPAFT")
+-- the pages of the archive (Davis serial manual, "DMPAFT")
+abbrev pub ring_pages : ℕ
+ring_pages = 512
+
+-- the records that the archive has at most, five a page
+abbrev pub ring_size : ℕ
+ring_size = 2560
+
+-- the records that the archive still has: the last ones that it has room for
 abbrev pub retained : List (List ℕ) → List (List ℕ)
-retained history = drop (length history - 2560) history
+retained history = drop (length history - ring_size) history
 
 -- the words of a record's stamp exceed these: the date word does, or it is equal and the time word does
 abbrev pub is_newer : ℕ → ℕ → List ℕ → Bool

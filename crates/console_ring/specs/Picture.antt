@@ -1,4 +1,4 @@
--- What the archive's 2,560 slots, 512 pages of five, show of a history, and the pages of a dump (Davis serial manual,
+-- What the archive's slots, five a page, show of a history, and the pages of a dump (Davis serial manual,
 -- "Download Protocol"). That a dump goes on to the last record, over the end of the ring into its first page again, is
 -- this project's profile.
 use Rattle.std.specs.Prelude.{ℕ, ◌≡◌, ◌<◌, ◌≤◌, zero, suc, ◌+◌, ◌-◌, ◌*◌, ◌/◌, ◌%◌, List, [], ◌∷◌, ◌++◌}
@@ -6,17 +6,17 @@ use Rattle.std.specs.Prelude.{length, replicate, if◌then◌else◌, nat_lt, sl
 use Rattle.std.specs.declared.option.Option.{Option}
 use Rattle.crc_ccitt.specs.Check.{sealed}
 use Rattle.console_ring.specs.declared.plan.Plan.{Plan}
-use Rattle.console_ring.specs.History.{retained, is_newer}
+use Rattle.console_ring.specs.History.{retained, is_newer, ring_size, ring_pages}
 
 -- the greatest number below the count that stands in a slot, numbers being counted from 0
 abbrev pub last_in : ℕ → ℕ → ℕ
-last_in count slot = slot + 2560 * ((count - 1 - slot) / 2560)
+last_in count slot = slot + ring_size * ((count - 1 - slot) / ring_size)
 
 -- It is the greatest number below the count of a record that goes into this slot.
 pub record IsLastIn (count slot number : ℕ) : Type 0 where
   pub below : number < count
-  pub slot_is : number % 2560 ≡ slot
-  pub greatest : (other : ℕ) → other < count → other % 2560 ≡ slot → other ≤ number
+  pub slot_is : number % ring_size ≡ slot
+  pub greatest : (other : ℕ) → other < count → other % ring_size ≡ slot → other ≤ number
 
 -- the last record that was put in a slot, if one was
 abbrev pub slot_of : List (List ℕ) → ℕ → Option (List ℕ)
@@ -35,9 +35,9 @@ no_plan = record { pages = 0; place = 0; first_page = 0 }
 -- a dump from a record's number on, to the last of so many
 abbrev pub plan_from : ℕ → ℕ → Plan
 plan_from first count = record {
-  pages = (count - 1 - first + first % 2560 % 5) / 5 + 1;
-  place = first % 2560 % 5;
-  first_page = first % 2560 / 5;
+  pages = (count - 1 - first + first % ring_size % 5) / 5 + 1;
+  place = first % ring_size % 5;
+  first_page = first % ring_size / 5;
 }
 
 -- a dump of the last so many records: of none, or from the first of them on
@@ -53,11 +53,11 @@ plan_by (Some place) overwritten count = plan_from (overwritten + place) count
 -- the dump of all that is retained from the first record on that is newer than these words
 unfoldable pub plan_of : List (List ℕ) → ℕ → ℕ → Plan
 plan_of history date time =
-    plan_by (position (is_newer date time) (retained history)) (length history - 2560) (length history)
+    plan_by (position (is_newer date time) (retained history)) (length history - ring_size) (length history)
 
 -- the bytes at a place of a page of a dump
 abbrev pub slot_on : List (List ℕ) → Plan → ℕ → ℕ → List ℕ
-slot_on history plan page place = shown (slot_of history (5 * ((plan.first_page + page) % 512) + place))
+slot_on history plan page place = shown (slot_of history (5 * ((plan.first_page + page) % ring_pages) + place))
 
 -- those below a place, one behind the other
 unfoldable pub slots_before : (ℕ → List ℕ) → ℕ → List ℕ

@@ -2,7 +2,7 @@
 use Rattle.std.specs.Prelude.{ℕ, ◌≡◌, ◌%◌, List, [], ◌∷◌, ◌++◌, length, Some}
 use Rattle.console_ring.specs.declared.put.RingPut.{RingPut}
 use Rattle.console_ring.specs.declared.put.RingPut.TheVariants.{Done, NotRising}
-use Rattle.console_ring.specs.History.{retained, newest_of, CanExtend, IsNotAfter, IsHistory}
+use Rattle.console_ring.specs.History.{retained, newest_of, CanExtend, IsNotAfter, IsHistory, ring_size}
 
 -- the records in the slots, from the oldest on, and the slot of the next
 pub record Kept : Type 0 where
@@ -12,7 +12,7 @@ pub record Kept : Type 0 where
 -- the ring is what is left of this history
 pub record StandsFor (ring : Kept) (history : List (List ℕ)) : Type 0 where
   pub records : ring.records ≡ retained history
-  pub next_slot : ring.next_slot ≡ length history % 2560
+  pub next_slot : ring.next_slot ≡ length history % ring_size
   pub rises : IsHistory history
 
 -- what a put of a record answers, and the ring that it leaves

@@ -1,11 +1,11 @@
 ghost use Rattle.std.specs.Prelude.{ℕ, ◌≡◌, ◌-◌, ◌<◌, ◌%◌, List, [], ◌∷◌, length, take, drop};
 ghost use Rattle.console_ring.specs.declared.plan.Plan.{Plan};
-ghost use Rattle.console_ring.specs.History.{retained, newer, IsHistory};
+ghost use Rattle.console_ring.specs.History.{retained, newer, IsHistory, ring_size};
 ghost use Rattle.console_ring.specs.Picture.{last_in, plan_of, plan_of_last, page_of, IsLastIn};
 
 /// What a slot shows is the last record that went into it.
 pub fn slots_show_the_last()
-    ensures { (count slot : ℕ) → slot < 2560 → slot < count → IsLastIn count slot (last_in count slot) }
+    ensures { (count slot : ℕ) → slot < ring_size → slot < count → IsLastIn count slot (last_in count slot) }
 {}
 
 /// The records newer than any two words are the last of the archive, and the dump after these words is of them.

@@ -1,5 +1,5 @@
 ghost use Rattle.std.specs.Prelude.{ℕ, ◌≡◌, ◌+◌, ◌-◌, ◌%◌, ◌<◌, ◌≤◌, List, [], ◌∷◌, ◌++◌, length, position, option_map, IfOk, IfSome};
-ghost use Rattle.console_ring.specs.History.{newest_of, CanExtend, is_newer};
+ghost use Rattle.console_ring.specs.History.{newest_of, CanExtend, is_newer, ring_size};
 ghost use Rattle.console_ring.specs.Picture.{slot_of, shown};
 ghost use Rattle.console_ring.specs.Standing.{StandsFor, Puts};
 
@@ -31,13 +31,15 @@ pub struct Ring {
 
 impl Model for Ring {
     ghost use Rattle.std.specs.Prelude.{◌≡◌, ◌<◌, ◌≤◌, length};
+    ghost use Rattle.console_ring.specs.History.{ring_size};
     ghost use Rattle.console_ring.specs.Standing.{Kept};
 
     ghost Value = { Kept };
 
     ghost view = { λ ring. record { records = ring.records.items; next_slot = ring.next_slot } };
 
-    ghost invariant = { λ ring. (ring.records.capacity ≡ 2560) × (length ring.records.items ≤ 2560) × (ring.next_slot < 2560) };
+    ghost invariant = { λ ring. (ring.records.capacity ≡ ring_size) × (length ring.records.items ≤ ring_size)
+        × (ring.next_slot < ring_size) };
 }
 
 impl Ring {
@@ -92,7 +94,7 @@ impl Ring {
 
     /// The number of the slot that the next record goes into, from 0 to 2,559.
     pub fn next_slot(&self) -> u16
-        ensures slot { (history : List (List ℕ)) → StandsFor self.now history → result ≡ length history % 2560 }
+        ensures slot { (history : List (List ℕ)) → StandsFor self.now history → result ≡ length history % ring_size }
         ensures range { result < SLOT_COUNT }
     {
         self.next_slot

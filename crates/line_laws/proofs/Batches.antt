@@ -9,7 +9,7 @@ use Rattle.archive_record.specs.Record.{ReadsAsRow}
 use Rattle.vantage_frames.specs.Words.{frame_of_words}
 use Rattle.vantage_frames.specs.StampFrame.{date_asked, time_asked, stamp_frame_of}
 use Rattle.console_ring.specs.declared.plan.Plan.{Plan}
-use Rattle.console_ring.specs.History.{retained, newer, is_newer}
+use Rattle.console_ring.specs.History.{retained, newer, is_newer, ring_size}
 use Rattle.console_ring.specs.Picture.{plan_by, plan_from, plan_of, no_plan}
 use Rattle.console_model.specs.Spelling.{plan_after, date_in, time_in}
 use Rattle.console_model.specs.Valid.{EachFollows}
@@ -110,12 +110,12 @@ module _ (after : Option CivilMinute) (ok : IsStamp after) (h : List (List ℕ))
   frame = stamp_frame_of after
 
   -- the plan of a history that splits into old and new records
-  plan_is : (old : List (List ℕ)) (x : List ℕ) (new : List (List ℕ)) → h ≡ old ++ x ∷ new → UpTo (level after) (drop (length h - 2560) old) → level after < level_of x → length h ≤ length old + 2560 →
+  plan_is : (old : List (List ℕ)) (x : List ℕ) (new : List (List ℕ)) → h ≡ old ++ x ∷ new → UpTo (level after) (drop (length h - ring_size) old) → level after < level_of x → length h ≤ length old + ring_size →
       plan_after h (stamp_frame_of after) ≡ plan_from (length old) (length h)
   unfolding plan_after plan_of
   plan_is old x new split up above_it few =
       let words = frame_words (date_asked after) (time_asked after) (small_asked after ok).0 (small_asked after ok).1 in
-      let c = length h - 2560 in
+      let c = length h - ring_size in
       let test = is_newer (date_asked after) (time_asked after) in
       let parts : retained h ≡ drop c old ++ x ∷ new = ap (drop c) split ∙ drop_join c old (x ∷ new) (omega arith) in
       let all : AreRecords (drop c old ++ x ∷ new) = subst AreRecords parts (records_drop c h are) in
@@ -126,22 +126,22 @@ module _ (after : Option CivilMinute) (ok : IsStamp after) (h : List (List ℕ))
       let at : position test (retained h) ≡ Some (length (drop c old)) = ap (λ xs. position test xs) parts ∙ found_at test (drop c old) x new none passes in
       let long : length h ≡ length old + suc (length new) = ap length split ∙ length-append old (x ∷ new) in
       let first : c + length (drop c old) ≡ length old = omega (arith, length-drop c old, long) in
-      ap (λ d. plan_by (position (is_newer d (time_in (stamp_frame_of after))) (retained h)) (length h - 2560) (length h)) words.0
-      ∙ ap (λ t. plan_by (position (is_newer (date_asked after) t) (retained h)) (length h - 2560) (length h)) words.1
-      ∙ ap (λ o. plan_by o (length h - 2560) (length h)) at
+      ap (λ d. plan_by (position (is_newer d (time_in (stamp_frame_of after))) (retained h)) (length h - ring_size) (length h)) words.0
+      ∙ ap (λ t. plan_by (position (is_newer (date_asked after) t) (retained h)) (length h - ring_size) (length h)) words.1
+      ∙ ap (λ o. plan_by o (length h - ring_size) (length h)) at
       ∙ ap (λ f. plan_from f (length h)) first
 
-  plan_none : (old : List (List ℕ)) → h ≡ old → UpTo (level after) (drop (length h - 2560) old) → plan_after h (stamp_frame_of after) ≡ no_plan
+  plan_none : (old : List (List ℕ)) → h ≡ old → UpTo (level after) (drop (length h - ring_size) old) → plan_after h (stamp_frame_of after) ≡ no_plan
   unfolding plan_after plan_of
   plan_none old split up =
       let words = frame_words (date_asked after) (time_asked after) (small_asked after ok).0 (small_asked after ok).1 in
-      let c = length h - 2560 in
+      let c = length h - ring_size in
       let test = is_newer (date_asked after) (time_asked after) in
       let same : UpTo (level after) (retained h) = subst (λ xs. UpTo (level after) (drop c xs)) (sym split) up in
       let none : filter test (retained h) ≡ [] = newer_above after ok (retained h) (records_drop c h are) ∙ filter_up (level after) (retained h) same in
-      ap (λ d. plan_by (position (is_newer d (time_in (stamp_frame_of after))) (retained h)) (length h - 2560) (length h)) words.0
-      ∙ ap (λ t. plan_by (position (is_newer (date_asked after) t) (retained h)) (length h - 2560) (length h)) words.1
-      ∙ ap (λ o. plan_by o (length h - 2560) (length h)) (not_found test (retained h) none)
+      ap (λ d. plan_by (position (is_newer d (time_in (stamp_frame_of after))) (retained h)) (length h - ring_size) (length h)) words.0
+      ∙ ap (λ t. plan_by (position (is_newer (date_asked after) t) (retained h)) (length h - ring_size) (length h)) words.1
+      ∙ ap (λ o. plan_by o (length h - ring_size) (length h)) (not_found test (retained h) none)
 
   -- what taken pages give is what climbs in the slots that they show
   given_is : (p : Plan) (taken : List (List ℕ)) → p.place ≤ 4 → ArePages h p 0 taken → records_in (batches after p.place taken) ≡ climbing (level after) (listed h p (length taken))
@@ -152,7 +152,7 @@ module _ (after : Option CivilMinute) (ok : IsStamp after) (h : List (List ℕ))
       ∙ rising_is after (listed h p (length taken)) (good_drop p.place (pages_from h p 0 (length taken)) (good_pages h p 0 (length taken) are))
 
   held_newer : newer_held after h ≡ above (level after) (retained h)
-  held_newer = newer_above after ok (retained h) (records_drop (length h - 2560) h are)
+  held_newer = newer_above after ok (retained h) (records_drop (length h - ring_size) h are)
 
   -- what an attempt's pages give
   pub batches_law : (taken : List (List ℕ)) → ArePages h (plan_after h (stamp_frame_of after)) 0 taken → length taken ≤ (plan_after h (stamp_frame_of after)).pages →
@@ -165,7 +165,7 @@ module _ (after : Option CivilMinute) (ok : IsStamp after) (h : List (List ℕ))
       p : Plan
       p = plan_after h (stamp_frame_of after)
 
-      go : (old new : List (List ℕ)) → h ≡ old ++ new → ((0 < length new) → Follows (level after) old new) → UpTo (level after) (drop (length h - 2560) old) → Ascend (level after) new → length h ≤ length old + 2560 →
+      go : (old new : List (List ℕ)) → h ≡ old ++ new → ((0 < length new) → Follows (level after) old new) → UpTo (level after) (drop (length h - ring_size) old) → Ascend (level after) new → length h ≤ length old + ring_size →
           IsFrontOf (records_in (batches after (plan_after h (stamp_frame_of after)).place taken)) (newer_held after h)
           × (length taken ≡ (plan_after h (stamp_frame_of after)).pages → records_in (batches after (plan_after h (stamp_frame_of after)).place taken) ≡ newer_held after h)
       go old [] split follows up rises size =
@@ -181,8 +181,8 @@ module _ (after : Option CivilMinute) (ok : IsStamp after) (h : List (List ℕ))
           let some : 0 < length (x ∷ new) = omega arith in
           let g : records_in (batches after (plan_after h (stamp_frame_of after)).place taken) ≡ climbing (level after) (listed h f (length taken)) =
           given_is (plan_after h (stamp_frame_of after)) taken small.place pages ∙ ap (λ y. climbing (level after) (listed h y (length taken))) is in
-          let m = g ∙ picture_law old (x ∷ new) (level after) (length taken) h split (follows some) up rises size ∙ ap (λ xs. take (5 * length taken - length old % 2560 % 5) xs) (sym held_newer) in (
-            subst (λ y. IsFrontOf y (newer_held after h)) (sym m) (take_front (5 * length taken - length old % 2560 % 5) (newer_held after h)),
+          let m = g ∙ picture_law old (x ∷ new) (level after) (length taken) h split (follows some) up rises size ∙ ap (λ xs. take (5 * length taken - length old % ring_size % 5) xs) (sym held_newer) in (
+            subst (λ y. IsFrontOf y (newer_held after h)) (sym m) (take_front (5 * length taken - length old % ring_size % 5) (newer_held after h)),
             λ whole. g ∙ ap (λ n. climbing (level after) (listed h f n)) (whole ∙ ap (λ y. y.pages) is)
                 ∙ whole_picture old (x ∷ new) (level after) h split some (follows some) up rises size ∙ sym held_newer,
           )

@@ -10,6 +10,7 @@ use Rattle.crc_ccitt.specs.Check.{check_bytes}
 use Rattle.station_sim.specs.Sound.{AreRecords}
 use Rattle.crc_ccitt.specs.Check.{is_good}
 use Rattle.vantage_frames.specs.Slots.{page_size}
+use Rattle.console_ring.specs.History.{ring_pages}
 use Rattle.console_model.specs.declared.reply.ReplyKind.TheVariants.{Page}
 use Rattle.station_sim.specs.declared.part.Part.{Part}
 use Rattle.schedule_file.specs.declared.fate.Fate.{Fate}
@@ -83,7 +84,7 @@ unfolding page_of
 page_length h p k ok =
     let body = slots_before (slot_on h p k) 5 in
     let message = (k % 256) ∷ body ++ replicate 4 255 in
-    omega (arith, length-append message (check_bytes message), length-append body (replicate 4 255), length-replicate {A = ℕ} 4 255, slots_long (slot_on h p k) (λ n. slot_long h ok (5 * ((p.first_page + k) % 512) + n)) 5)
+    omega (arith, length-append message (check_bytes message), length-append body (replicate 4 255), length-replicate {A = ℕ} 4 255, slots_long (slot_on h p k) (λ n. slot_long h ok (5 * ((p.first_page + k) % ring_pages) + n)) 5)
 
 pub page_sequence : (h : List (List ℕ)) (p : Plan) (k n : ℕ) → HasSequence n (page_of h p k) → k % 256 ≡ n
 unfolding page_of

@@ -3,13 +3,13 @@ use Rattle.std.proofs.Common.{◌≡◌, ℕ, zero, suc, ◌+◌, ◌-◌, ◌*�
 use Rattle.std.specs.Prelude.{nat_lt, slice_get}
 use Rattle.std.specs.Prelude.{filter}
 use Rattle.console_ring.specs.declared.plan.Plan.{Plan}
-use Rattle.console_ring.specs.History.{retained}
+use Rattle.console_ring.specs.History.{retained, ring_size, ring_pages}
 use Rattle.console_ring.specs.Picture.{last_in, slot_of, plan_from}
 use Rattle.line_laws.proofs.Levels.{level_of, Ascend}
 
 -- what a plan shows at a place of a page, and on so many places from one on
 abbrev pub seen_at : List (List ℕ) → Plan → ℕ → ℕ → Option (List ℕ)
-seen_at h p k j = slot_of h (5 * ((p.first_page + k) % 512) + j)
+seen_at h p k j = slot_of h (5 * ((p.first_page + k) % ring_pages) + j)
 
 abbrev pub seen_from : List (List ℕ) → Plan → ℕ → ℕ → ℕ → List (Option (List ℕ))
 seen_from h p k j zero = []
@@ -46,45 +46,45 @@ Follows a old (x ∷ new) = UpTo (level_of x) old
 -- the slots of the records that have numbers i and on, so many
 abbrev pub run : List (List ℕ) → ℕ → ℕ → List (Option (List ℕ))
 run h i zero = []
-run h i (suc m) = slot_of h (i % 2560) ∷ run h (i + 1) m
+run h i (suc m) = slot_of h (i % ring_size) ∷ run h (i + 1) m
 
 run_more : (h : List (List ℕ)) (i m n : ℕ) → run h i (m + n) ≡ run h i m ++ run h (i + m) n
 run_more h i zero n = let a : 0 + n ≡ n = omega arith in let b : i + 0 ≡ i = omega arith in rw (a, b)
 run_more h i (suc m) n =
     let a : suc m + n ≡ suc (m + n) = omega arith in
     let b : i + suc m ≡ i + 1 + m = omega arith in
-    ap (run h i) a ∙ ap (λ l. slot_of h (i % 2560) ∷ l) (run_more h (i + 1) m n) ∙ ap (λ x. run h i (suc m) ++ run h x n) (sym b)
+    ap (run h i) a ∙ ap (λ l. slot_of h (i % ring_size) ∷ l) (run_more h (i + 1) m n) ∙ ap (λ x. run h i (suc m) ++ run h x n) (sym b)
 
 run_drop : (h : List (List ℕ)) (m i n : ℕ) → drop m (run h i n) ≡ run h (i + m) (n - m)
 run_drop h zero i n = let a : i + 0 ≡ i = omega arith in let b : n - 0 ≡ n = omega arith in rw (a, b)
 run_drop h (suc m) i zero = let b : 0 - suc m ≡ 0 = omega arith in rw b
 run_drop h (suc m) i (suc n) = run_drop h m (i + 1) n ∙ (let a : i + 1 + m ≡ i + suc m = omega arith in let b : suc n - suc m ≡ n - m = omega arith in rw (a, b))
 
-slot_number : (f k j : ℕ) → j < 5 → 5 * ((f % 2560 / 5 + k) % 512) + j ≡ (f - f % 2560 % 5 + 5 * k + j) % 2560
+slot_number : (f k j : ℕ) → j < 5 → 5 * ((f % ring_size / 5 + k) % ring_pages) + j ≡ (f - f % ring_size % 5 + 5 * k + j) % ring_size
 slot_number f k j a = omega arith
 
 module _ (h : List (List ℕ)) (f n : ℕ) where
-  slots_run : (left k j : ℕ) → j + left ≤ 5 → seen_from h (plan_from f n) k j left ≡ run h (f - f % 2560 % 5 + 5 * k + j) left
+  slots_run : (left k j : ℕ) → j + left ≤ 5 → seen_from h (plan_from f n) k j left ≡ run h (f - f % ring_size % 5 + 5 * k + j) left
   slots_run zero k j a = refl
   slots_run (suc left) k j a =
       let e = slot_number f k j (omega arith) in
-      let b : f - f % 2560 % 5 + 5 * k + (j + 1) ≡ f - f % 2560 % 5 + 5 * k + j + 1 = omega arith in
-      ap (λ s. slot_of h s ∷ seen_from h (plan_from f n) k (j + 1) left) e ∙ ap (λ l. slot_of h ((f - f % 2560 % 5 + 5 * k + j) % 2560) ∷ l) (slots_run left k (j + 1) (omega arith) ∙ ap (λ x. run h x left) b)
+      let b : f - f % ring_size % 5 + 5 * k + (j + 1) ≡ f - f % ring_size % 5 + 5 * k + j + 1 = omega arith in
+      ap (λ s. slot_of h s ∷ seen_from h (plan_from f n) k (j + 1) left) e ∙ ap (λ l. slot_of h ((f - f % ring_size % 5 + 5 * k + j) % ring_size) ∷ l) (slots_run left k (j + 1) (omega arith) ∙ ap (λ x. run h x left) b)
 
-  pages_run : (left k : ℕ) → pages_from h (plan_from f n) k left ≡ run h (f - f % 2560 % 5 + 5 * k) (5 * left)
+  pages_run : (left k : ℕ) → pages_from h (plan_from f n) k left ≡ run h (f - f % ring_size % 5 + 5 * k) (5 * left)
   pages_run zero k = refl
   pages_run (suc left) k =
-      let a : f - f % 2560 % 5 + 5 * k + 0 ≡ f - f % 2560 % 5 + 5 * k = omega arith in
-      let b : f - f % 2560 % 5 + 5 * (k + 1) ≡ f - f % 2560 % 5 + 5 * k + 5 = omega arith in
+      let a : f - f % ring_size % 5 + 5 * k + 0 ≡ f - f % ring_size % 5 + 5 * k = omega arith in
+      let b : f - f % ring_size % 5 + 5 * (k + 1) ≡ f - f % ring_size % 5 + 5 * k + 5 = omega arith in
       let c : 5 + 5 * left ≡ 5 * suc left = omega arith in
       ap (λ l. l ++ pages_from h (plan_from f n) (k + 1) left) (slots_run 5 k 0 (omega arith) ∙ ap (λ x. run h x 5) a)
-      ∙ ap (λ l. run h (f - f % 2560 % 5 + 5 * k) 5 ++ l) (pages_run left (k + 1) ∙ ap (λ x. run h x (5 * left)) b)
-      ∙ sym (run_more h (f - f % 2560 % 5 + 5 * k) 5 (5 * left)) ∙ ap (run h (f - f % 2560 % 5 + 5 * k)) c
+      ∙ ap (λ l. run h (f - f % ring_size % 5 + 5 * k) 5 ++ l) (pages_run left (k + 1) ∙ ap (λ x. run h x (5 * left)) b)
+      ∙ sym (run_more h (f - f % ring_size % 5 + 5 * k) 5 (5 * left)) ∙ ap (run h (f - f % ring_size % 5 + 5 * k)) c
 
-  listed_run : (m : ℕ) → listed h (plan_from f n) m ≡ run h f (5 * m - f % 2560 % 5)
+  listed_run : (m : ℕ) → listed h (plan_from f n) m ≡ run h f (5 * m - f % ring_size % 5)
   listed_run m =
-      let a : f - f % 2560 % 5 + 5 * 0 + f % 2560 % 5 ≡ f = omega arith in
-      ap (drop (f % 2560 % 5)) (pages_run m 0) ∙ run_drop h (f % 2560 % 5) (f - f % 2560 % 5 + 5 * 0) (5 * m) ∙ ap (λ x. run h x (5 * m - f % 2560 % 5)) a
+      let a : f - f % ring_size % 5 + 5 * 0 + f % ring_size % 5 ≡ f = omega arith in
+      ap (drop (f % ring_size % 5)) (pages_run m 0) ∙ run_drop h (f % ring_size % 5) (f - f % ring_size % 5 + 5 * 0) (5 * m) ∙ ap (λ x. run h x (5 * m - f % ring_size % 5)) a
 
 up_more : (a b : ℕ) (l : List (List ℕ)) (x : List ℕ) → a ≤ b → (level_of x) ≤ b → UpTo a l → UpTo b (l ++ x ∷ [])
 up_more a b [] x h k u = (k, tt)
@@ -99,24 +99,24 @@ get_up a [] i r u e = absurd cc
 get_up a (x ∷ l) zero r u e = let z : x ≡ r = grind arith in subst (λ y. (level_of y) ≤ a) z u.0
 get_up a (x ∷ l) (suc i) r u e = get_up a l i r u.1 e
 
-past_one : (a : ℕ) (h : List (List ℕ)) (i : ℕ) (l : List (Option (List ℕ))) → UpTo a h → (t : Bool) (o : Option (List ℕ)) → slice_get h (last_in (length h) (i % 2560)) ≡ o → climbing a l ≡ [] → climbing a ((if t then o else None) ∷ l) ≡ []
+past_one : (a : ℕ) (h : List (List ℕ)) (i : ℕ) (l : List (Option (List ℕ))) → UpTo a h → (t : Bool) (o : Option (List ℕ)) → slice_get h (last_in (length h) (i % ring_size)) ≡ o → climbing a l ≡ [] → climbing a ((if t then o else None) ∷ l) ≡ []
 past_one a h i l u false o e more = more
 past_one a h i l u true None e more = more
-past_one a h i l u true (Some r) e more = let z : nat_lt a (level_of r) ≡ false = grind (arith, get_up a h (last_in (length h) (i % 2560)) r u e) in rw z more
+past_one a h i l u true (Some r) e more = let z : nat_lt a (level_of r) ≡ false = grind (arith, get_up a h (last_in (length h) (i % ring_size)) r u e) in rw z more
 
 -- what is past the newest rises no more
 past : (a : ℕ) (h : List (List ℕ)) (m i : ℕ) → UpTo a h → climbing a (run h i m) ≡ []
 past a h zero i u = refl
-past a h (suc m) i u = past_one a h i (run h (i + 1) m) u (nat_lt (i % 2560) (length h)) (slice_get h (last_in (length h) (i % 2560))) refl (past a h m (i + 1) u)
+past a h (suc m) i u = past_one a h i (run h (i + 1) m) u (nat_lt (i % ring_size) (length h)) (slice_get h (last_in (length h) (i % ring_size))) refl (past a h m (i + 1) u)
 
-last_is : (n i : ℕ) → i < n → n ≤ i + 2560 → last_in n (i % 2560) ≡ i
+last_is : (n i : ℕ) → i < n → n ≤ i + ring_size → last_in n (i % ring_size) ≡ i
 last_is n i a b = omega arith
 
-slot_is : (pre suf : List (List ℕ)) (x : List ℕ) (h : List (List ℕ)) → h ≡ pre ++ x ∷ suf → length h ≤ length pre + 2560 → slot_of h (length pre % 2560) ≡ Some x
+slot_is : (pre suf : List (List ℕ)) (x : List ℕ) (h : List (List ℕ)) → h ≡ pre ++ x ∷ suf → length h ≤ length pre + ring_size → slot_of h (length pre % ring_size) ≡ Some x
 slot_is pre suf x h e n =
     let l : length h ≡ length pre + suc (length suf) = ap length e ∙ length-append pre (x ∷ suf) in
-    let t : nat_lt (length pre % 2560) (length h) ≡ true = grind (arith, l) in
-    ap (λ b. if b then slice_get h (last_in (length h) (length pre % 2560)) else None) t
+    let t : nat_lt (length pre % ring_size) (length h) ≡ true = grind (arith, l) in
+    ap (λ b. if b then slice_get h (last_in (length h) (length pre % ring_size)) else None) t
     ∙ ap (slice_get h) (last_is (length h) (length pre) (omega (arith, l)) n)
     ∙ ap (λ y. slice_get y (length pre)) e ∙ get_at pre suf x
 
@@ -124,7 +124,7 @@ follows_more : (pre suf : List (List ℕ)) (x : List ℕ) → UpTo (level_of x) 
 follows_more pre [] x u r = up_more (level_of x) (level_of x) pre x (omega arith) (omega arith) u
 follows_more pre (y ∷ suf) x u r = up_more (level_of x) (level_of y) pre x (omega (arith, r.0)) (omega (arith, r.0)) u
 
-pub gathers : (m : ℕ) (pre suf : List (List ℕ)) (a : ℕ) (h : List (List ℕ)) → h ≡ pre ++ suf → Follows a pre suf → Ascend a suf → length h ≤ length pre + 2560 → climbing a (run h (length pre) m) ≡ take m suf
+pub gathers : (m : ℕ) (pre suf : List (List ℕ)) (a : ℕ) (h : List (List ℕ)) → h ≡ pre ++ suf → Follows a pre suf → Ascend a suf → length h ≤ length pre + ring_size → climbing a (run h (length pre) m) ≡ take m suf
 gathers zero pre suf a h e u r n = refl
 gathers (suc m) pre [] a h e u r n = past a h (suc m) (length pre) (subst (UpTo a) (sym (e ∙ append-nil pre)) u)
 gathers (suc m) pre (x ∷ suf) a h e u r n =
@@ -163,9 +163,9 @@ drop_join (suc n) [] l h = absurd (omega arith)
 drop_join (suc n) (x ∷ k) l h = drop_join n k l (omega arith)
 
 -- the above of those held are the ones past the front
-pub newer_is : (pre suf : List (List ℕ)) (a : ℕ) (h : List (List ℕ)) → h ≡ pre ++ suf → UpTo a (drop (length h - 2560) pre) → Ascend a suf → length h ≤ length pre + 2560 → above a (retained h) ≡ suf
+pub newer_is : (pre suf : List (List ℕ)) (a : ℕ) (h : List (List ℕ)) → h ≡ pre ++ suf → UpTo a (drop (length h - ring_size) pre) → Ascend a suf → length h ≤ length pre + ring_size → above a (retained h) ≡ suf
 newer_is pre suf a h e u r n =
-    let c = length h - 2560 in
+    let c = length h - ring_size in
     ap (above a) (ap (drop c) e ∙ drop_join c pre suf (omega (arith, n))) ∙ newer_join a (drop c pre) suf
     ∙ ap (λ y. y ++ above a suf) (filter_none a (drop c pre) u) ∙ filter_all a a suf (omega arith) r
 
@@ -176,15 +176,15 @@ take_all (suc m) [] h = refl
 take_all (suc m) (x ∷ l) h = ap (λ y. x ∷ y) (take_all m l (omega arith))
 
 -- what m pages of the plan give is the beginning of the above ones, and all pages give all
-pub picture_law : (pre suf : List (List ℕ)) (a m : ℕ) (h : List (List ℕ)) → h ≡ pre ++ suf → Follows a pre suf → UpTo a (drop (length h - 2560) pre) → Ascend a suf → length h ≤ length pre + 2560 →
-    climbing a (listed h (plan_from (length pre) (length h)) m) ≡ take (5 * m - length pre % 2560 % 5) (above a (retained h))
+pub picture_law : (pre suf : List (List ℕ)) (a m : ℕ) (h : List (List ℕ)) → h ≡ pre ++ suf → Follows a pre suf → UpTo a (drop (length h - ring_size) pre) → Ascend a suf → length h ≤ length pre + ring_size →
+    climbing a (listed h (plan_from (length pre) (length h)) m) ≡ take (5 * m - length pre % ring_size % 5) (above a (retained h))
 picture_law pre suf a m h e w u r n =
-    ap (climbing a) (listed_run h (length pre) (length h) m) ∙ gathers (5 * m - length pre % 2560 % 5) pre suf a h e w r n
-    ∙ ap (take (5 * m - length pre % 2560 % 5)) (sym (newer_is pre suf a h e u r n))
+    ap (climbing a) (listed_run h (length pre) (length h) m) ∙ gathers (5 * m - length pre % ring_size % 5) pre suf a h e w r n
+    ∙ ap (take (5 * m - length pre % ring_size % 5)) (sym (newer_is pre suf a h e u r n))
 
-pub whole_picture : (pre suf : List (List ℕ)) (a : ℕ) (h : List (List ℕ)) → h ≡ pre ++ suf → 0 < length suf → Follows a pre suf → UpTo a (drop (length h - 2560) pre) → Ascend a suf → length h ≤ length pre + 2560 →
+pub whole_picture : (pre suf : List (List ℕ)) (a : ℕ) (h : List (List ℕ)) → h ≡ pre ++ suf → 0 < length suf → Follows a pre suf → UpTo a (drop (length h - ring_size) pre) → Ascend a suf → length h ≤ length pre + ring_size →
     climbing a (listed h (plan_from (length pre) (length h)) (plan_from (length pre) (length h)).pages) ≡ above a (retained h)
 whole_picture pre suf a h e s w u r n =
     let p = plan_from (length pre) (length h) in
     let l : length h ≡ length pre + length suf = ap length e ∙ length-append pre suf in
-    picture_law pre suf a p.pages h e w u r n ∙ take_all (5 * p.pages - length pre % 2560 % 5) (above a (retained h)) (omega (arith, l, ap length (newer_is pre suf a h e u r n)))
+    picture_law pre suf a p.pages h e w u r n ∙ take_all (5 * p.pages - length pre % ring_size % 5) (above a (retained h)) (omega (arith, l, ap length (newer_is pre suf a h e u r n)))

@@ -14,6 +14,7 @@ use Rattle.console_ring.specs.declared.plan.Plan.{Plan}
 use Rattle.console_ring.specs.Picture.{slot_of, slot_on, slots_before, shown, last_in, page_of}
 use Rattle.dmpaft_pump.specs.Slot.{is_row, is_record}
 use Rattle.station_base.specs.LastStamp.{exceeds}
+use Rattle.console_ring.specs.History.{ring_pages}
 use Rattle.dmpaft_pump.specs.Batch.{slots_from, slots, is_newer, one_if, last_if, rising, all_slots}
 use Rattle.station_sim.specs.Sound.{AreRecords}
 use Rattle.line_laws.specs.Host.{ArePages}
@@ -51,7 +52,7 @@ pub slot_seen : (h : List (List ℕ)) (p : Plan) (k j : ℕ) → AreRecords h �
 unfolding page_of
 slot_seen h p k j ok below =
     let slot = slot_on h p k in
-    let size : (n : ℕ) → length (slot n) ≡ 52 = λ n. slot_long h ok (5 * ((p.first_page + k) % 512) + n) in
+    let size : (n : ℕ) → length (slot n) ≡ 52 = λ n. slot_long h ok (5 * ((p.first_page + k) % ring_pages) + n) in
     let body = slots_before slot 5 in
     let fill = replicate 4 255 in
     let seal = check_bytes ((k % 256) ∷ body ++ fill) in
@@ -138,7 +139,7 @@ good_slot h s ok = go (nat_lt s (length h))
 
 good_from : (h : List (List ℕ)) (p : Plan) (k j left : ℕ) → AreRecords h → AreGood (seen_from h p k j left)
 good_from h p k j zero ok = tt
-good_from h p k j (suc left) ok = (good_slot h (5 * ((p.first_page + k) % 512) + j) ok, good_from h p k (j + 1) left ok)
+good_from h p k j (suc left) ok = (good_slot h (5 * ((p.first_page + k) % ring_pages) + j) ok, good_from h p k (j + 1) left ok)
 
 good_join : (xs ys : List (Option (List ℕ))) → AreGood xs → AreGood ys → AreGood (xs ++ ys)
 good_join [] ys a b = b

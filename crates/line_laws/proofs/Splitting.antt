@@ -1,6 +1,7 @@
 -- Each history of climbing stamps splits so.
 use Rattle.std.proofs.Common.{◌≡◌, ℕ, zero, suc, ◌+◌, ◌-◌, ◌<◌, ◌≤◌, Bool, true, false, List, [], ◌∷◌, ◌++◌, length, drop, take, refl, sym, ◌∙◌, ap, subst, arith, append_assoc, length-append, length-take}
 use Rattle.std.specs.Prelude.{nat_lt}
+use Rattle.console_ring.specs.History.{ring_size}
 use Rattle.line_laws.proofs.Levels.{level_of, Ascend}
 use Rattle.line_laws.proofs.Gathering.{UpTo, Follows}
 
@@ -41,10 +42,10 @@ join_take (suc c) (x ∷ l) = ap (λ y. x ∷ y) (join_take c l)
 
 -- the parts that `Shows` speaks of are there for each history
 pub parts : (b a : ℕ) (h : List (List ℕ)) → Ascend b h →
-    (old : List (List ℕ)) × (new : List (List ℕ)) × (h ≡ old ++ new) × ((0 < length new) → Follows a old new) × UpTo a (drop (length h - 2560) old) × Ascend a new × (length h ≤ length old + 2560)
+    (old : List (List ℕ)) × (new : List (List ℕ)) × (h ≡ old ++ new) × ((0 < length new) → Follows a old new) × UpTo a (drop (length h - ring_size) old) × Ascend a new × (length h ≤ length old + ring_size)
 unfolding Split
 parts b a h r =
-    let c = length h - 2560 in
+    let c = length h - ring_size in
     let d = rises_drop b c h r in
     let q = split a d.0 (drop c h) d.1 in
     let old = take c h ++ q.0 in

@@ -15,7 +15,7 @@ use Rattle.archive_record.specs.Reading.{is_unwritten, stamp_in, dated, reading}
 use Rattle.archive_record.specs.Record.{IsRow, ReadsAsRow}
 use Rattle.vantage_frames.specs.StampFrame.{stamp_frame_of}
 use Rattle.loop_packet.specs.declared.packet.LoopPacket.{LoopPacket}
-use Rattle.console_ring.specs.History.{retained, newer, newest_of, is_newer, CanExtend, IsHistory}
+use Rattle.console_ring.specs.History.{retained, newer, newest_of, is_newer, CanExtend, IsHistory, ring_size}
 use Rattle.console_ring.specs.Picture.{plan_of, plan_of_last}
 use Rattle.console_ring.proofs.Histories.{first_follows, later_follows}
 use Rattle.console_ring.proofs.Latest.{plan_newer}
@@ -151,28 +151,28 @@ minutes_newer (suc count) n =
     ∙ ap (λ xs. minute_record n ∷ xs) (minutes_newer count (n + 1))
 
 -- the archive has the last of them, and all of these are newer than no stamp
-pub minutes_kept : (count : ℕ) → 2560 < count → newer_held None (minute_records 0 count) ≡ minute_records (count - 2560) 2560
+pub minutes_kept : (count : ℕ) → ring_size < count → newer_held None (minute_records 0 count) ≡ minute_records (count - ring_size) ring_size
 minutes_kept count many =
-    let all : count ≡ count - 2560 + 2560 = omega (arith, many) in
-    let gone : length (minute_records 0 count) - 2560 ≡ count - 2560 = omega (arith, minutes_count count 0) in
-    let held : retained (minute_records 0 count) ≡ minute_records (count - 2560) 2560 =
-    ap (λ d. drop d (minute_records 0 count)) gone ∙ ap (λ k. drop (count - 2560) (minute_records 0 k)) all ∙ minutes_drop (count - 2560) 2560 0
-    ∙ ap (λ k. minute_records k 2560) (let e : 0 + (count - 2560) ≡ count - 2560 = omega arith in e) in
-    ap (newer 0 0) held ∙ minutes_newer 2560 (count - 2560)
+    let all : count ≡ count - ring_size + ring_size = omega (arith, many) in
+    let gone : length (minute_records 0 count) - ring_size ≡ count - ring_size = omega (arith, minutes_count count 0) in
+    let held : retained (minute_records 0 count) ≡ minute_records (count - ring_size) ring_size =
+    ap (λ d. drop d (minute_records 0 count)) gone ∙ ap (λ k. drop (count - ring_size) (minute_records 0 k)) all ∙ minutes_drop (count - ring_size) ring_size 0
+    ∙ ap (λ k. minute_records k ring_size) (let e : 0 + (count - ring_size) ≡ count - ring_size = omega arith in e) in
+    ap (newer 0 0) held ∙ minutes_newer ring_size (count - ring_size)
 
 pub minutes_history : (count : ℕ) → count ≤ 40320 → IsHistory (minute_records 0 count)
 unfolding Before
 minutes_history count small = rises_all [] (minute_records 0 count) no_history (minutes_follow count 0 [] (omega (arith, small)) (inl refl))
 
 -- the dump after no stamp has just these
-pub minutes_plan : (count : ℕ) → 2560 < count → count ≤ 40320 → plan_after (minute_records 0 count) (stamp_frame_of None) ≡ plan_of_last 2560 count
+pub minutes_plan : (count : ℕ) → ring_size < count → count ≤ 40320 → plan_after (minute_records 0 count) (stamp_frame_of None) ≡ plan_of_last ring_size count
 unfolding plan_after
 minutes_plan count many small =
     let h = minute_records 0 count in
     let words = frame_words 0 0 (omega arith) (omega arith) in
-    let found : length (newer 0 0 (retained h)) ≡ 2560 = ap length (minutes_kept count many) ∙ minutes_count 2560 (count - 2560) in
+    let found : length (newer 0 0 (retained h)) ≡ ring_size = ap length (minutes_kept count many) ∙ minutes_count ring_size (count - ring_size) in
     ap (λ d. plan_of h d (time_in (stamp_frame_of None))) words.0 ∙ ap (λ t. plan_of h 0 t) words.1 ∙ plan_newer h 0 0 (minutes_history count small)
-    ∙ ap (λ n. plan_of_last n (length h)) found ∙ ap (plan_of_last 2560) (minutes_count count 0)
+    ∙ ap (λ n. plan_of_last n (length h)) found ∙ ap (plan_of_last ring_size) (minutes_count count 0)
 
 pub minutes_schedule : (count : ℕ) → count ≤ 40320 → IsSchedule (Step.Due (minute_records 0 count) ∷ [])
 unfolding Before

@@ -28,6 +28,7 @@ use Rattle.dmpaft_pump.specs.Header.{IsHeader}
 use Rattle.dmpaft_pump.specs.Page.{is_page_for, has_sequence}
 use Rattle.dmpaft_driver.proofs.Bounding.{frame_long}
 use Rattle.crc_ccitt.specs.Check.{is_good}
+use Rattle.console_ring.specs.History.{ring_size}
 use Rattle.schedule_file.specs.Fates.{Fates}
 use Rattle.station_sim.specs.Delivery.{delivered, all_bytes, late}
 use Rattle.station_sim.specs.Line.{Line, flies, happens, replied, unanswered, hears, counted, sends, says, is_harmed, earlier}
@@ -335,8 +336,8 @@ first_history [] = []
 first_history (b ∷ bs) = b.history
 
 -- over the records of more minutes than an archive holds the last of them are taken
-pub overflow_taken : (count : ℕ) → 2560 < count → count ≤ 40320 → (eeprom : List ℕ) (packet : LoopPacket) → (a : WholeAttempt None (filled_line count eeprom packet))
-    × (records_in (batches None a.place a.taken) ≡ minute_records (count - 2560) 2560)
+pub overflow_taken : (count : ℕ) → ring_size < count → count ≤ 40320 → (eeprom : List ℕ) (packet : LoopPacket) → (a : WholeAttempt None (filled_line count eeprom packet))
+    × (records_in (batches None a.place a.taken) ≡ minute_records (count - ring_size) ring_size)
 unfolding first_history
 overflow_taken count many small eeprom packet =
     let h = minute_records 0 count in

@@ -3,6 +3,7 @@ ghost use Rattle.station_base.specs.CivilMinute.{CivilMinute};
 ghost use Rattle.loop_packet.specs.declared.packet.LoopPacket.{LoopPacket};
 ghost use Rattle.vantage_frames.specs.StampFrame.{stamp_frame_of};
 ghost use Rattle.console_ring.specs.Picture.{plan_of_last};
+ghost use Rattle.console_ring.specs.History.{ring_size};
 ghost use Rattle.console_model.specs.Console.{Console};
 ghost use Rattle.console_model.specs.Console.State.{Command};
 ghost use Rattle.console_model.specs.Spelling.{plan_after};
@@ -35,14 +36,15 @@ pub fn an_archive_can_overflow()
     ensures schedule { (count : ℕ) → count ≤ 40320 → IsSchedule (Step.Due (minute_records 0 count) ∷ []) }
     ensures put { (count : ℕ) → count ≤ 40320 → (eeprom : List ℕ) (packet : LoopPacket) → let w = filled_line count eeprom packet in
         (w.console.history ≡ minute_records 0 count) × IsCalm w × IsSound w }
-    ensures held { (count : ℕ) → 2560 < count → newer_held None (minute_records 0 count) ≡ minute_records (count - 2560) 2560 }
-    ensures plan { (count : ℕ) → 2560 < count → count ≤ 40320
-        → plan_after (minute_records 0 count) (stamp_frame_of None) ≡ plan_of_last 2560 count }
+    ensures held { (count : ℕ) → ring_size < count
+        → newer_held None (minute_records 0 count) ≡ minute_records (count - ring_size) ring_size }
+    ensures plan { (count : ℕ) → ring_size < count → count ≤ 40320
+        → plan_after (minute_records 0 count) (stamp_frame_of None) ≡ plan_of_last ring_size count }
 {}
 
 /// Such an archive can be taken: a whole attempt after no stamp gives the last 2,560 records.
 pub fn an_overflowed_archive_can_be_taken()
-    ensures { (count : ℕ) → 2560 < count → count ≤ 40320 → (eeprom : List ℕ) (packet : LoopPacket)
+    ensures { (count : ℕ) → ring_size < count → count ≤ 40320 → (eeprom : List ℕ) (packet : LoopPacket)
         → (a : WholeAttempt None (filled_line count eeprom packet))
-        × (records_in (batches None a.place a.taken) ≡ minute_records (count - 2560) 2560) }
+        × (records_in (batches None a.place a.taken) ≡ minute_records (count - ring_size) ring_size) }
 {}
