@@ -4,7 +4,7 @@ use Rattle.std.proofs.Common.{append_assoc, append-nil}
 use Rattle.std.proofs.lemmas.List.{append_cancel_left}
 use Rattle.serial_link.specs.declared.talk.TalkItem.{TalkItem}
 use Rattle.serial_link.specs.Talk.{message}
-use Rattle.wake_retry.specs.Parts.{heard, Still, Wakes}
+use Rattle.wake_retry.specs.Parts.{heard, Still, Wakes, wake_tries, settled_waits}
 use Rattle.wake_retry.proofs.Endings.{one_still, one_flood, one_answer, one_wake, one_wake_flood, still_or_flood, flood_or_wake}
 use Rattle.console_tasks.specs.declared.end.TaskEnd.{TaskEnd}
 use Rattle.console_tasks.specs.Exchange.{Exchange, quiets_for, shows}
@@ -59,29 +59,29 @@ exchanges_once (z ∷ more) s t x y a b e f (u, r, d, w, how) (v, q, g, w2, how2
 
 -- a task that floods does so at one place
 floods_once : (s t x y : List TalkItem) → Floods s → Floods t → s ++ x ≡ t ++ y → s ≡ t
-floods_once s t x y (inl k) (inl m) same = (one_flood 6 (omega arith) s t x y k m same).0
+floods_once s t x y (inl k) (inl m) same = (one_flood settled_waits (omega arith) s t x y k m same).0
 floods_once s t x y (inl k) (inr (u, v, g, still, w)) same =
-    absurd (still_or_flood 6 (omega arith) u s (v ++ y) x still k
+    absurd (still_or_flood settled_waits (omega arith) u s (v ++ y) x still k
     (sym (append_assoc u v y) ∙ ap (λ (l : List TalkItem). l ++ y) (sym g) ∙ sym same))
 floods_once s t x y (inr (u, v, g, still, w)) (inl m) same =
-    absurd (still_or_flood 6 (omega arith) u t (v ++ x) y still m
+    absurd (still_or_flood settled_waits (omega arith) u t (v ++ x) y still m
     (sym (append_assoc u v x) ∙ ap (λ (l : List TalkItem). l ++ x) (sym g) ∙ same))
 floods_once s t x y (inr (u, v, g, still, w)) (inr (p, q, h, still2, w2)) same =
     let both : u ++ (v ++ x) ≡ p ++ (q ++ y) = sym (append_assoc u v x) ∙ ap (λ (l : List TalkItem). l ++ x) (sym g)
     ∙ same ∙ ap (λ (l : List TalkItem). l ++ y) h ∙ append_assoc p q y in
-    let first = one_still 6 (omega arith) u p (v ++ x) (q ++ y) still still2 both in
+    let first = one_still settled_waits (omega arith) u p (v ++ x) (q ++ y) still still2 both in
     let second = one_wake_flood 3 v q x y w w2 first.1 in
     g ∙ ap (λ (l : List TalkItem). l ++ v) first.0 ∙ ap (λ (l : List TalkItem). p ++ l) second.0 ∙ sym h
 
 -- a task that floods does not wake the console
-floods_or_wakes : (s x u v rest y : List TalkItem) (awake : Bool) → Floods s → Still 6 u → Wakes 3 v awake
+floods_or_wakes : (s x u v rest y : List TalkItem) (awake : Bool) → Floods s → Still settled_waits u → Wakes wake_tries v awake
     → s ++ x ≡ u ++ (v ++ (rest ++ y)) → ⊥
 floods_or_wakes s x u v rest y awake (inl k) still wakes same =
-    still_or_flood 6 (omega arith) u s (v ++ (rest ++ y)) x still k (sym same)
+    still_or_flood settled_waits (omega arith) u s (v ++ (rest ++ y)) x still k (sym same)
 floods_or_wakes s x u v rest y awake (inr (p, q, h, still2, w)) still wakes same =
     let both : p ++ (q ++ x) ≡ u ++ (v ++ (rest ++ y)) = sym (append_assoc p q x)
     ∙ ap (λ (l : List TalkItem). l ++ x) (sym h) ∙ same in
-    let first = one_still 6 (omega arith) p u (q ++ x) (v ++ (rest ++ y)) still2 still both in
+    let first = one_still settled_waits (omega arith) p u (q ++ x) (v ++ (rest ++ y)) still2 still both in
     flood_or_wake 3 q v x (rest ++ y) awake w wakes first.1
 
 -- three parts of a talk, and what stands behind them
@@ -102,7 +102,7 @@ task_once xs s t x y a b e f (inl (u, v, r, awake, g, still, wakes, how)) (inr m
     absurd (floods_or_wakes t y u v r x awake m.0 still wakes (sym same ∙ apart s u v r x g))
 task_once xs s t x y a b e f (inl (u, v, r, awake, g, still, wakes, how)) (inl (p, q, l, woke, h, still2, wakes2, how2)) same =
     let both : u ++ (v ++ (r ++ x)) ≡ p ++ (q ++ (l ++ y)) = sym (apart s u v r x g) ∙ same ∙ apart t p q l y h in
-    let first = one_still 6 (omega arith) u p (v ++ (r ++ x)) (q ++ (l ++ y)) still still2 both in
+    let first = one_still settled_waits (omega arith) u p (v ++ (r ++ x)) (q ++ (l ++ y)) still still2 both in
     let second = one_wake 3 v q (r ++ x) (l ++ y) awake woke wakes wakes2 first.1 in
     let whole = λ (k : List TalkItem) (m : List TalkItem) (z : k ≡ m). ap (λ (n : List TalkItem). p ++ (q ++ n)) z in
     let until : s ≡ p ++ (q ++ r) = g ∙ ap (λ (n : List TalkItem). n ++ (v ++ r)) first.0

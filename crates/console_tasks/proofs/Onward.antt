@@ -11,6 +11,7 @@ use Rattle.wake_retry.specs.Waking.{IsCutWake}
 use Rattle.wake_retry.specs.Asking.{Answered}
 use Rattle.wake_retry.proofs.Running.{silence, short_silence, heard_silence}
 use Rattle.wake_retry.proofs.Onward.{silent_wakes, some_first}
+use Rattle.wake_retry.specs.Parts.{answer_waits, wake_tries, settled_waits}
 use Rattle.console_tasks.specs.declared.end.TaskEnd.{TaskEnd}
 use Rattle.console_tasks.specs.declared.end.TaskEnd.TheVariants as task_end
 use Rattle.console_tasks.specs.Exchange.{Exchange, quiets_for, is_refusal, end_by, shows, answered}
@@ -156,7 +157,7 @@ start_on xs done t k = record {
 }
 
 -- one that finds the console asleep
-pub start_asleep : (xs : List Exchange) (s w : List TalkItem) → Still 6 s → Wakes 3 w false
+pub start_asleep : (xs : List Exchange) (s w : List TalkItem) → Still settled_waits s → Wakes wake_tries w false
     → TaskTalk xs (s ++ w) [] task_end.Asleep
 start_asleep xs s w still woke =
     inl (s, w, [], false, ap (λ (y : List TalkItem). s ++ y) (sym (append-nil w)), still, woke, inr (refl, refl, refl, refl))
@@ -175,8 +176,8 @@ start_cut xs t k =
       ),
     )
 
-cut_wake : (xs : List Exchange) (s w rest : List TalkItem) → Awaiting xs → Still 6 s → rest ≢ [] → (awake : Bool)
-    → Wakes 3 (w ++ rest) awake → IsCutTalk (TaskTalk xs) (s ++ w)
+cut_wake : (xs : List Exchange) (s w rest : List TalkItem) → Awaiting xs → Still settled_waits s → rest ≢ [] → (awake : Bool)
+    → Wakes wake_tries (w ++ rest) awake → IsCutTalk (TaskTalk xs) (s ++ w)
 cut_wake xs s w rest a still some false k = (
   rest,
   some,
@@ -194,7 +195,7 @@ cut_wake xs s w rest a still some true k =
     (rest ++ x.0, some_first rest x.0 some, ([], x.1, inl (s, w ++ rest, x.0, true, whole, still, k, inl (refl, x.2))))
 
 -- one that is cut off in its wake
-pub start_cut_wake : (xs : List Exchange) (s w : List TalkItem) → Awaiting xs → Still 6 s → IsCutWake w
+pub start_cut_wake : (xs : List Exchange) (s w : List TalkItem) → Awaiting xs → Still settled_waits s → IsCutWake w
     → IsCutTalk (TaskTalk xs) (s ++ w)
 start_cut_wake xs s w a still k = cut_wake xs s w k.0 a still k.1 k.2.0 k.2.1
 
@@ -222,7 +223,7 @@ answered_ends said answer judge end t k bad trouble more =
 
 -- one that is cut off
 pub asking_cut : (said : List ℕ) (size : ℕ) (judge : List ℕ → TaskEnd) (more : List Exchange) (t : List TalkItem)
-    → IsCutOff (Answered said (FallsShort 3 size)) t
+    → IsCutOff (Answered said (FallsShort answer_waits size)) t
     → IsCutTalk (Exchanges (answered said size judge ∷ more)) t
 asking_cut said size judge more t k =
     let x = answered said size judge in

@@ -8,7 +8,7 @@ use Rattle.std.specs.declared.result.Result.{Result}
 use Rattle.crc_ccitt.specs.Check.{is_good, sealed}
 use Rattle.serial_link.specs.declared.talk.TalkItem.{TalkItem}
 use Rattle.serial_link.specs.Talk.{message}
-use Rattle.wake_retry.specs.Parts.{heard, IsFull, IsShort}
+use Rattle.wake_retry.specs.Parts.{heard, IsFull, IsShort, answer_waits}
 use Rattle.console_tasks.specs.declared.end.TaskEnd.{TaskEnd}
 use Rattle.console_tasks.specs.declared.end.TaskEnd.TheVariants as task_end
 use Rattle.vantage_frames.specs.Ack.{ack}
@@ -34,7 +34,7 @@ judged_trouble answer (Err end) j = subst IsTrouble (sym j.1) tt
 
 -- a whole answer, judged by its first byte
 pub full_replies : (said answer : List ℕ) (r : Result (Unit {0}) TaskEnd) (t u : List TalkItem) → t ≡ message said ++ u
-    → IsFull 3 0 u → heard u ≡ answer → IsJudged answer r
+    → IsFull answer_waits 0 u → heard u ≡ answer → IsJudged answer r
     → Replies said (length answer) answer r t
 full_replies said answer (Ok done) t u e f h j = (u, e, inl (f, ap (λ (x : List ℕ). length x) h), h, j)
 full_replies said answer (Err end) t u e f h j = λ judge more.
@@ -49,7 +49,7 @@ short_by true s answer one two e = refl
 short_by false s answer one two e = rw e refl
 
 pub short_replies : (said answer : List ℕ) (size : ℕ) (end : TaskEnd) (t u : List TalkItem) → t ≡ message said ++ u
-    → IsShort 3 0 u → heard u ≡ answer → length answer < size
+    → IsShort answer_waits 0 u → heard u ≡ answer → length answer < size
     → end ≡ end_by (is_refusal answer) true answer task_end.Done → (judge : List ℕ → TaskEnd)
     → EndsTask (answered said size judge) end t
 short_replies said answer size end t u e s h below is = λ judge more.

@@ -3,6 +3,7 @@
 use Rattle.std.specs.Prelude.{ℕ, ◌+◌, ◌==◌, ◌&&◌, not, nat_lt, if◌then◌else◌, Bool, true, false}
 use Rattle.std.specs.Prelude.{List, [], ◌∷◌, length, take, drop, slice_index}
 use Rattle.crc_ccitt.specs.Check.{is_good, sealed}
+use Rattle.wake_retry.specs.Parts.{answer_waits}
 use Rattle.console_tasks.specs.declared.end.TaskEnd.{TaskEnd}
 use Rattle.console_tasks.specs.declared.end.TaskEnd.TheVariants.{Done, Refused, Short, BadCheck}
 
@@ -16,7 +17,7 @@ pub record Exchange : Type 0 where
 
 -- so many quiet waits in a row end the wait for an answer: three where it begins with 0x06, and else ten
 abbrev pub quiets_for : Bool → ℕ
-quiets_for true = 3
+quiets_for true = answer_waits
 quiets_for false = 10
 
 -- the answer begins with another byte than 0x06

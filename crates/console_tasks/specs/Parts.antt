@@ -8,7 +8,7 @@ use Rattle.serial_link.specs.declared.talk.TalkItem.{TalkItem}
 use Rattle.serial_link.specs.Talk.{message}
 use Rattle.serial_link.specs.Traffic.{Traffic}
 use Rattle.serial_link.specs.Link.{Talks}
-use Rattle.wake_retry.specs.Parts.{heard, Still, Awaits, Wakes}
+use Rattle.wake_retry.specs.Parts.{heard, Still, Awaits, Wakes, answer_waits, wake_tries, settled_waits}
 use Rattle.console_tasks.specs.declared.end.TaskEnd.{TaskEnd}
 use Rattle.console_tasks.specs.declared.end.TaskEnd.TheVariants as task_end
 use Rattle.vantage_frames.specs.Ack.{ack}
@@ -29,13 +29,14 @@ Awaiting (x ∷ more) = 1 ≤ x.size
 
 -- what a start says and hears: a console that is awake; or whatever the task, it ends so
 abbrev pub Starts : Result (Unit {0}) TaskEnd → List TalkItem → Type 0
-Starts (Ok done) t = (s : List TalkItem) × (w : List TalkItem) × (t ≡ s ++ w) × Still 6 s × Wakes 3 w true
+Starts (Ok done) t =
+    (s : List TalkItem) × (w : List TalkItem) × (t ≡ s ++ w) × Still settled_waits s × Wakes wake_tries w true
 Starts (Err end) t = (exchanges : List Exchange) → Awaiting exchanges → Fails (TaskTalk exchanges) end t
 
 -- a message was answered by these bytes
 abbrev pub IsAnswered : List ℕ → List ℕ → List TalkItem → Type 0
 IsAnswered said answer t =
-    (u : List TalkItem) × (t ≡ message said ++ u) × Awaits 3 (length answer) u
+    (u : List TalkItem) × (t ≡ message said ++ u) × Awaits answer_waits (length answer) u
     × (heard u ≡ answer) × (is_refusal answer ≡ false)
 
 -- the exchange ends a task so, whatever is behind it

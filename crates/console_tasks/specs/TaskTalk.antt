@@ -5,6 +5,7 @@ use Rattle.serial_link.specs.Talk.{message}
 use Rattle.serial_link.specs.Traffic.{Traffic}
 use Rattle.serial_link.specs.Link.{Talks}
 use Rattle.wake_retry.specs.Parts.{heard, Still, Flooding, Awaits, Wakes, WakeFloods, IsCutOff}
+use Rattle.wake_retry.specs.Parts.{wake_tries, settled_waits}
 use Rattle.console_tasks.specs.declared.end.TaskEnd.{TaskEnd}
 use Rattle.console_tasks.specs.declared.end.TaskEnd.TheVariants as task_end
 use Rattle.console_tasks.specs.Exchange.{Exchange, quiets_for, shows}
@@ -26,14 +27,14 @@ Exchanges (x ∷ more) talk answers end =
 -- the first settling floods, or one of the wake behind it
 abbrev pub Floods : List TalkItem → Type 0
 Floods talk =
-    Flooding 6 talk
-    ⊎ ((s : List TalkItem) × (w : List TalkItem) × (talk ≡ s ++ w) × Still 6 s × WakeFloods 3 w)
+    Flooding settled_waits talk
+    ⊎ ((s : List TalkItem) × (w : List TalkItem) × (talk ≡ s ++ w) × Still settled_waits s × WakeFloods wake_tries w)
 
 -- the talk of a task of these exchanges: a settling, a wake, and the exchanges where the console is awake
 abbrev pub TaskTalk : List Exchange → Grammar
 TaskTalk exchanges talk answers end =
     ((s : List TalkItem) × (w : List TalkItem) × (rest : List TalkItem) × (awake : Bool)
-    × (talk ≡ s ++ (w ++ rest)) × Still 6 s × Wakes 3 w awake
+    × (talk ≡ s ++ (w ++ rest)) × Still settled_waits s × Wakes wake_tries w awake
     × (((awake ≡ true) × Exchanges exchanges rest answers end)
     ⊎ ((awake ≡ false) × (rest ≡ []) × (answers ≡ []) × (end ≡ task_end.Asleep))))
     ⊎ (Floods talk × (answers ≡ []) × (end ≡ task_end.Flood))

@@ -4,7 +4,7 @@ use Rattle.std.specs.Prelude.{slice_index}
 use Rattle.vantage_frames.specs.Slots.{page_size}
 use Rattle.serial_link.specs.declared.talk.TalkItem.{TalkItem}
 use Rattle.serial_link.specs.declared.talk.TalkItem.TheVariants.{Said}
-use Rattle.wake_retry.specs.Parts.{heard, Still, Flooding, Awaits}
+use Rattle.wake_retry.specs.Parts.{heard, Still, Flooding, Awaits, settled_waits, answer_waits}
 use Rattle.wake_retry.proofs.Endings.{one_answer, one_still, one_flood, still_or_flood, behind_first, whole_again}
 use Rattle.dmpaft_pump.specs.declared.outcome.Trouble.{Trouble}
 use Rattle.dmpaft_pump.specs.declared.outcome.Trouble.TheVariants.{PageLost, PageAhead}
@@ -30,7 +30,7 @@ Over left k bytes rest (Came.Missed trouble) =
     (is_page_for k bytes ≡ false)
     × (((is_ahead k bytes ≡ true) × (rest ≡ []) × (trouble ≡ PageAhead k (slice_index bytes 0)))
     ⊎ ((is_ahead k bytes ≡ false) × (left ≡ 0) × (rest ≡ []) × (trouble ≡ PageLost k)))
-Over left k bytes rest Came.Floods = (is_page_for k bytes ≡ false) × (is_ahead k bytes ≡ false) × (left ≢ 0) × Flooding 6 rest
+Over left k bytes rest Came.Floods = (is_page_for k bytes ≡ false) × (is_ahead k bytes ≡ false) × (left ≢ 0) × Flooding settled_waits rest
 
 -- with these bytes they go on
 record AskedAgain (left k : ℕ) (bytes : List ℕ) (rest : List TalkItem) (came : Came) : Type 0 where
@@ -39,7 +39,7 @@ record AskedAgain (left k : ℕ) (bytes : List ℕ) (rest : List TalkItem) (came
   pub s : List TalkItem
   pub more : List TalkItem
   pub is : rest ≡ s ++ more
-  pub still : Still 6 s
+  pub still : Still settled_waits s
   pub later : Askings left k (next_said k bytes) more came
 
 -- the first asking, and what is behind it
@@ -47,7 +47,7 @@ record First (left k b : ℕ) (talk : List TalkItem) (came : Came) : Type 0 wher
   pub t : List TalkItem
   pub rest : List TalkItem
   pub is : talk ≡ Said b true ∷ t ++ rest
-  pub awaits : Awaits 3 page_size t
+  pub awaits : Awaits answer_waits page_size t
   pub how : Over left k (heard t) rest came ⊎ AskedAgain left k (heard t) rest came
 
 unroll : (left k b : ℕ) (talk : List TalkItem) (came : Came) → Askings (suc left) k b talk came → First left k b talk came
@@ -94,14 +94,14 @@ over_once left k bytes r1 r2 a c (Came.Missed t) Came.Floods (f, inr x) y e = ab
 over_once left k bytes r1 r2 a c Came.Floods (Came.Page h) x y e = absurd (clash _ y.0 x.0)
 over_once left k bytes r1 r2 a c Came.Floods (Came.Missed u) x (g, inl y) e = absurd (clash _ y.0 x.1)
 over_once left k bytes r1 r2 a c Came.Floods (Came.Missed u) x (g, inr y) e = absurd (x.2 y.1)
-over_once left k bytes r1 r2 a c Came.Floods Came.Floods x y e = (refl, one_flood 6 (omega arith) r1 r2 a c x.3 y.3 e)
+over_once left k bytes r1 r2 a c Came.Floods Came.Floods x y e = (refl, one_flood settled_waits (omega arith) r1 r2 a c x.3 y.3 e)
 
 over_not_on : (left k : ℕ) (bytes : List ℕ) (r1 r2 a c : List TalkItem) (p q : Came) → Over left k bytes r1 p → AskedAgain left k bytes r2 q → r1 ++ a ≡ r2 ++ c → ⊥
 over_not_on left k bytes r1 r2 a c (Came.Page g) q x y e = clash _ x.0 y.not_this
 over_not_on left k bytes r1 r2 a c (Came.Missed t) q (f, inl x) y e = clash _ x.0 y.not_ahead
 over_not_on left k bytes r1 r2 a c (Came.Missed t) q (f, inr x) y e = none_left k (next_said k bytes) y.more q (subst (λ n. Askings n k (next_said k bytes) y.more q) x.1 y.later)
 over_not_on left k bytes r1 r2 a c Came.Floods q x y e =
-    still_or_flood 6 (omega arith) y.s r1 (y.more ++ c) a y.still x.3 (sym (append_assoc y.s y.more c) ∙ ap (λ (z : List TalkItem). z ++ c) (sym y.is) ∙ sym e)
+    still_or_flood settled_waits (omega arith) y.s r1 (y.more ++ c) a y.still x.3 (sym (append_assoc y.s y.more c) ∙ ap (λ (z : List TalkItem). z ++ c) (sym y.is) ∙ sym e)
 
 -- a talk has one end of the askings at most in front
 pub one_askings : (left k b : ℕ) (x y a c : List TalkItem) (p q : Came) → Askings left k b x p → Askings left k b y q → x ++ a ≡ y ++ c → (p ≡ q) × (x ≡ y) × (a ≡ c)
@@ -109,7 +109,7 @@ one_askings zero k b x y a c p q f g e = absurd (none_left k b x p f)
 one_askings (suc left) k b x y a c p q f g e =
     let u = unroll left k b x p f in
     let v = unroll left k b y q g in
-    let first = one_answer 3 page_size (omega arith) u.t v.t (u.rest ++ a) (v.rest ++ c) u.awaits v.awaits (behind_first (Said b true) x y u.t v.t u.rest v.rest a c u.is v.is e) in
+    let first = one_answer answer_waits page_size (omega arith) u.t v.t (u.rest ++ a) (v.rest ++ c) u.awaits v.awaits (behind_first (Said b true) x y u.t v.t u.rest v.rest a c u.is v.is e) in
     let bytes = heard v.t in
     let how : Over left k bytes u.rest p ⊎ AskedAgain left k bytes u.rest p = subst (λ (z : List TalkItem). Over left k (heard z) u.rest p ⊎ AskedAgain left k (heard z) u.rest p) first.0 u.how in
     elim how [
@@ -123,7 +123,7 @@ one_askings (suc left) k b x y a c p q f g e =
         | inl j ↦ absurd (over_not_on left k bytes v.rest u.rest c a q p j i (sym first.1))
         | inr j ↦
             let d : i.s ++ (i.more ++ a) ≡ j.s ++ (j.more ++ c) = sym (append_assoc i.s i.more a) ∙ ap (λ (z : List TalkItem). z ++ a) (sym i.is) ∙ first.1 ∙ ap (λ (z : List TalkItem). z ++ c) j.is ∙ append_assoc j.s j.more c in
-            let s = one_still 6 (omega arith) i.s j.s (i.more ++ a) (j.more ++ c) i.still j.still d in
+            let s = one_still settled_waits (omega arith) i.s j.s (i.more ++ a) (j.more ++ c) i.still j.still d in
             let o = one_askings left k (next_said k bytes) i.more j.more a c p q i.later j.later s.1 in
             let r : u.rest ≡ v.rest = i.is ∙ ap (λ (z : List TalkItem). z ++ i.more) s.0 ∙ ap (λ (z : List TalkItem). j.s ++ z) o.1 ∙ sym j.is in
             (o.0, whole_again (Said b true) x y u.t v.t u.rest v.rest u.is v.is first.0 r, o.2)

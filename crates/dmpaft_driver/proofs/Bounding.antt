@@ -7,7 +7,7 @@ use Rattle.serial_link.specs.declared.talk.TalkItem.TheVariants.{Said}
 use Rattle.vantage_frames.specs.StampFrame.{stamp_frame_of}
 use Rattle.vantage_frames.specs.Words.{frame_of_words}
 use Rattle.vantage_frames.specs.Slots.{page_size}
-use Rattle.wake_retry.specs.Parts.{heard}
+use Rattle.wake_retry.specs.Parts.{heard, wake_tries, flood_size, answer_waits, settled_waits}
 use Rattle.wake_retry.specs.Bounds.{IsBounded}
 use Rattle.wake_retry.proofs.Bounding.{bounded_joins, bounded_within, bounded_front, message_bounded, said_first, bounds_settling, bounds_answer, bounds_wake}
 use Rattle.dmpaft_pump.specs.declared.outcome.DumpEnd.{DumpEnd}
@@ -23,47 +23,47 @@ use Rattle.dmpaft_pump.specs.Page.{next_said}
 
 -- so many askings for a page, with a settling between two: as much is heard as by so many askings and settlings, less a settling
 abbrev AreAskings : ℕ → List TalkItem → Type 0
-AreAskings left talk = IsBounded (65803 * left - 65536) left talk
+AreAskings left talk = IsBounded (65803 * left - flood_size) left talk
 
 -- the last asking
 last_asking : (left b : ℕ) (talk t rest : List TalkItem) → talk ≡ Said b true ∷ t ++ rest → IsBounded page_size 0 t → rest ≡ [] → AreAskings (suc left) talk
 last_asking left b talk t rest is answer none =
     subst (λ (x : List TalkItem). AreAskings (suc left) x) (sym is)
-    (bounded_within page_size 1 (65803 * suc left - 65536) (suc left) (Said b true ∷ t ++ rest) (omega arith) (omega arith)
+    (bounded_within page_size 1 (65803 * suc left - flood_size) (suc left) (Said b true ∷ t ++ rest) (omega arith) (omega arith)
     (subst (λ (x : List TalkItem). IsBounded page_size 1 (Said b true ∷ t ++ x)) (sym none)
     (said_first page_size 0 b (t ++ []) (bounded_joins page_size 0 0 0 t [] answer (record { hears = omega arith; says = omega arith })))))
 
 -- an asking, a settling, and other askings
-next_asking : (left b : ℕ) (talk t rest s more : List TalkItem) → talk ≡ Said b true ∷ t ++ rest → IsBounded page_size 0 t → rest ≡ s ++ more → IsBounded 65536 0 s → 1 ≤ left → AreAskings left more → AreAskings (suc left) talk
+next_asking : (left b : ℕ) (talk t rest s more : List TalkItem) → talk ≡ Said b true ∷ t ++ rest → IsBounded page_size 0 t → rest ≡ s ++ more → IsBounded flood_size 0 s → 1 ≤ left → AreAskings left more → AreAskings (suc left) talk
 next_asking left b talk t rest s more is answer split settled some others =
     subst (λ (x : List TalkItem). AreAskings (suc left) x) (sym is)
     (subst (λ (x : List TalkItem). AreAskings (suc left) (Said b true ∷ t ++ x)) (sym split)
-    (bounded_within (page_size + (65536 + (65803 * left - 65536))) (0 + (0 + left) + 1) (65803 * suc left - 65536) (suc left) (Said b true ∷ t ++ (s ++ more)) (omega (arith, some)) (omega arith)
-    (said_first (page_size + (65536 + (65803 * left - 65536))) (0 + (0 + left)) b (t ++ (s ++ more))
-    (bounded_joins page_size 0 (65536 + (65803 * left - 65536)) (0 + left) t (s ++ more) answer
-    (bounded_joins 65536 0 (65803 * left - 65536) left s more settled others)))))
+    (bounded_within (page_size + (flood_size + (65803 * left - flood_size))) (0 + (0 + left) + 1) (65803 * suc left - flood_size) (suc left) (Said b true ∷ t ++ (s ++ more)) (omega (arith, some)) (omega arith)
+    (said_first (page_size + (flood_size + (65803 * left - flood_size))) (0 + (0 + left)) b (t ++ (s ++ more))
+    (bounded_joins page_size 0 (flood_size + (65803 * left - flood_size)) (0 + left) t (s ++ more) answer
+    (bounded_joins flood_size 0 (65803 * left - flood_size) left s more settled others)))))
 
 takes : (left k b : ℕ) (talk : List TalkItem) (bytes : List ℕ) → Takes left k b talk bytes → (1 ≤ left) × AreAskings left talk
 takes zero k b talk bytes x = absurd x
-takes (suc left) k b talk bytes (t, rest, is, w, inl (page, none, same)) = (omega arith, last_asking left b talk t rest is (bounds_answer 3 page_size t w) none)
+takes (suc left) k b talk bytes (t, rest, is, w, inl (page, none, same)) = (omega arith, last_asking left b talk t rest is (bounds_answer answer_waits page_size t w) none)
 takes (suc left) k b talk bytes (t, rest, is, w, inr (other, near, (s, more, split, still, x))) =
     let y = takes left k (next_said k (heard t)) more bytes x in
-    (omega arith, next_asking left b talk t rest s more is (bounds_answer 3 page_size t w) split ((bounds_settling 6).still s still) y.0 y.1)
+    (omega arith, next_asking left b talk t rest s more is (bounds_answer answer_waits page_size t w) split ((bounds_settling settled_waits).still s still) y.0 y.1)
 
 misses : (left k b : ℕ) (talk : List TalkItem) (trouble : Trouble) → Misses left k b talk trouble → (1 ≤ left) × AreAskings left talk
 misses zero k b talk trouble x = absurd x
-misses (suc left) k b talk trouble (t, rest, is, w, other, inl (ahead, none, e)) = (omega arith, last_asking left b talk t rest is (bounds_answer 3 page_size t w) none)
-misses (suc left) k b talk trouble (t, rest, is, w, other, inr (inl (near, last, none, e))) = (omega arith, last_asking left b talk t rest is (bounds_answer 3 page_size t w) none)
+misses (suc left) k b talk trouble (t, rest, is, w, other, inl (ahead, none, e)) = (omega arith, last_asking left b talk t rest is (bounds_answer answer_waits page_size t w) none)
+misses (suc left) k b talk trouble (t, rest, is, w, other, inr (inl (near, last, none, e))) = (omega arith, last_asking left b talk t rest is (bounds_answer answer_waits page_size t w) none)
 misses (suc left) k b talk trouble (t, rest, is, w, other, inr (inr (near, (s, more, split, still, x)))) =
     let y = misses left k (next_said k (heard t)) more trouble x in
-    (omega arith, next_asking left b talk t rest s more is (bounds_answer 3 page_size t w) split ((bounds_settling 6).still s still) y.0 y.1)
+    (omega arith, next_asking left b talk t rest s more is (bounds_answer answer_waits page_size t w) split ((bounds_settling settled_waits).still s still) y.0 y.1)
 
 -- a settling that floods, after an asking that is not the last
-flooded_asking : (left b : ℕ) (talk t rest : List TalkItem) → talk ≡ Said b true ∷ t ++ rest → IsBounded page_size 0 t → IsBounded 65536 0 rest → 1 ≤ left → AreAskings (suc left) talk
+flooded_asking : (left b : ℕ) (talk t rest : List TalkItem) → talk ≡ Said b true ∷ t ++ rest → IsBounded page_size 0 t → IsBounded flood_size 0 rest → 1 ≤ left → AreAskings (suc left) talk
 flooded_asking left b talk t rest is answer flood some =
     subst (λ (x : List TalkItem). AreAskings (suc left) x) (sym is)
-    (bounded_within (page_size + 65536) (0 + 0 + 1) (65803 * suc left - 65536) (suc left) (Said b true ∷ t ++ rest) (omega (arith, some)) (omega arith)
-    (said_first (page_size + 65536) (0 + 0) b (t ++ rest) (bounded_joins page_size 0 65536 0 t rest answer flood)))
+    (bounded_within (page_size + flood_size) (0 + 0 + 1) (65803 * suc left - flood_size) (suc left) (Said b true ∷ t ++ rest) (omega (arith, some)) (omega arith)
+    (said_first (page_size + flood_size) (0 + 0) b (t ++ rest) (bounded_joins page_size 0 flood_size 0 t rest answer flood)))
 
 some_left : (left : ℕ) → (left ≡ 0 → ⊥) → 1 ≤ left
 some_left zero ne = absurd (ne refl)
@@ -72,10 +72,10 @@ some_left (suc left) ne = omega arith
 ask_floods : (left k b : ℕ) (talk : List TalkItem) → AskFloods left k b talk → (1 ≤ left) × AreAskings left talk
 ask_floods zero k b talk x = absurd x
 ask_floods (suc left) k b talk (t, rest, is, w, other, near, inl (some, flood)) =
-    (omega arith, flooded_asking left b talk t rest is (bounds_answer 3 page_size t w) ((bounds_settling 6).floods rest flood) (some_left left some))
+    (omega arith, flooded_asking left b talk t rest is (bounds_answer answer_waits page_size t w) ((bounds_settling settled_waits).floods rest flood) (some_left left some))
 ask_floods (suc left) k b talk (t, rest, is, w, other, near, inr (s, more, split, still, x)) =
     let y = ask_floods left k (next_said k (heard t)) more x in
-    (omega arith, next_asking left b talk t rest s more is (bounds_answer 3 page_size t w) split ((bounds_settling 6).still s still) y.0 y.1)
+    (omega arith, next_asking left b talk t rest s more is (bounds_answer answer_waits page_size t w) split ((bounds_settling settled_waits).still s still) y.0 y.1)
 
 -- two parts, with the bounds of both
 parts : (h k i j : ℕ) (talk s t : List TalkItem) → talk ≡ s ++ t → IsBounded h k s → IsBounded i j t → IsBounded (h + i) (k + j) talk
@@ -115,7 +115,7 @@ module _ (frame : List ℕ) (place : ℕ) (taken : List (List ℕ)) (end : End) 
   heads talk six (t, rest, is, w, x) =
       bounded_within (0 + (7 + 101407788)) (length frame + (0 + 2053)) 101407795 2059 talk (omega arith) (omega (arith, six))
       (parts 0 (length frame) (7 + 101407788) (0 + 2053) talk (message frame) (t ++ rest) is (message_bounded frame)
-      (bounded_joins 7 0 101407788 2053 t rest (bounds_answer 3 7 t w) (behind x)))
+      (bounded_joins 7 0 101407788 2053 t rest (bounds_answer answer_waits 7 t w) (behind x)))
     where
       behind : ((n : ℕ) × IsHeader (heard t) n place × Pages n 0 rest taken end) ⊎ ((trouble : Trouble) × IsNoHeader (heard t) trouble × (rest ≡ esc) × (taken ≡ []) × (end ≡ End.Failed trouble)) → IsBounded 101407788 2053 rest
       behind (inl (n, h, y)) = bounded_within (197676 * n) (4 * n + 1) 101407788 2053 rest (omega (arith, h.possible.0)) (omega (arith, h.possible.0)) (pages n 0 rest taken end y)
@@ -129,7 +129,7 @@ module _ (frame : List ℕ) (place : ℕ) (taken : List (List ℕ)) (end : End) 
   requests talk six (t, rest, is, w, x) =
       bounded_within (0 + (1 + 101407795)) (7 + (0 + 2059)) 101407796 2066 talk (omega arith) (omega arith)
       (parts 0 7 (1 + 101407795) (0 + 2059) talk (message dmpaft) (t ++ rest) is called
-      (bounded_joins 1 0 101407795 2059 t rest (bounds_answer 3 1 t w) (behind x)))
+      (bounded_joins 1 0 101407795 2059 t rest (bounds_answer answer_waits 1 t w) (behind x)))
     where
       behind : ((heard t ≡ 6 ∷ []) × Heads frame rest place taken end) ⊎ ((heard t ≡ 6 ∷ [] → ⊥) × (rest ≡ esc) × (taken ≡ []) × (end ≡ End.Failed (NoAck (first_of (heard t))))) → IsBounded 101407795 2059 rest
       behind (inl (h, y)) = heads rest six y
@@ -137,18 +137,18 @@ module _ (frame : List ℕ) (place : ℕ) (taken : List (List ℕ)) (end : End) 
 
   attempt : (talk : List TalkItem) → length frame ≡ 6 → Attempt frame talk place taken end → IsBounded 101669940 2069 talk
   attempt talk six (inl (s, t, rest, awake, is, still, wakes, x)) =
-      bounded_within (65536 + (65536 * 3 + 101407796)) (0 + (3 + 2066)) 101669940 2069 talk (omega arith) (omega arith)
-      (parts 65536 0 (65536 * 3 + 101407796) (3 + 2066) talk s (t ++ rest) is ((bounds_settling 6).still s still)
-      (bounded_joins (65536 * 3) 3 101407796 2066 t rest ((bounds_wake 3).ends t awake wakes) (behind x)))
+      bounded_within (flood_size + (flood_size * wake_tries + 101407796)) (0 + (3 + 2066)) 101669940 2069 talk (omega arith) (omega arith)
+      (parts flood_size 0 (flood_size * wake_tries + 101407796) (3 + 2066) talk s (t ++ rest) is ((bounds_settling settled_waits).still s still)
+      (bounded_joins (flood_size * wake_tries) 3 101407796 2066 t rest ((bounds_wake wake_tries).ends t awake wakes) (behind x)))
     where
       behind : ((awake ≡ true) × Requests frame rest place taken end) ⊎ ((awake ≡ false) × (rest ≡ esc) × (taken ≡ []) × (end ≡ End.Failed Asleep)) → IsBounded 101407796 2066 rest
       behind (inl (h, y)) = requests rest six y
       behind (inr (h, e, f, g)) = bounded_within 0 1 101407796 2066 rest (omega arith) (omega arith) (esc_bounded rest e)
   attempt talk six (inr (inl (flood, f, e))) =
-      bounded_within 65536 0 101669940 2069 talk (omega arith) (omega arith) ((bounds_settling 6).floods talk flood)
+      bounded_within flood_size 0 101669940 2069 talk (omega arith) (omega arith) ((bounds_settling settled_waits).floods talk flood)
   attempt talk six (inr (inr (s, t, is, still, floods, f, e))) =
-      bounded_within (65536 + 65536 * 3) (0 + 3) 101669940 2069 talk (omega arith) (omega arith)
-      (parts 65536 0 (65536 * 3) 3 talk s t is ((bounds_settling 6).still s still) ((bounds_wake 3).floods t floods))
+      bounded_within (flood_size + flood_size * wake_tries) (0 + 3) 101669940 2069 talk (omega arith) (omega arith)
+      (parts flood_size 0 (flood_size * wake_tries) 3 talk s t is ((bounds_settling settled_waits).still s still) ((bounds_wake wake_tries).floods t floods))
 
 -- a stamp frame has six bytes
 pub frame_long : (after : Option CivilMinute) → length (stamp_frame_of after) ≡ 6

@@ -4,7 +4,7 @@ use Rattle.std.proofs.lemmas.List.{append_cancel_left}
 use Rattle.serial_link.specs.Talk.{message}
 use Rattle.serial_link.specs.declared.talk.TalkItem.{TalkItem}
 use Rattle.serial_link.specs.declared.talk.TalkItem.TheVariants.{Said}
-use Rattle.wake_retry.specs.Parts.{heard}
+use Rattle.wake_retry.specs.Parts.{heard, answer_waits, settled_waits}
 use Rattle.wake_retry.proofs.Endings.{one_answer, one_still, one_wake, still_or_flood, flood_or_wake}
 use Rattle.dmpaft_pump.specs.declared.outcome.Trouble.{Trouble}
 use Rattle.dmpaft_pump.specs.declared.outcome.Trouble.TheVariants.{Asleep, NoAck}
@@ -164,7 +164,7 @@ at_place p q A B e f a is g = subst (λ n. Extends p n A B e f a) is g
 
 heads_by : (frame : List ℕ) (x y a : List TalkItem) (p q : ℕ) (A B : List (List ℕ)) (e f : End) → Heads frame x p A e → Heads frame y q B f → x ++ a ≡ y → Extends p q A B e f a
 heads_by frame x y a p q A B e f (t1, r1, e1, w1, how1) (t2, r2, e2, w2, how2) i =
-    let first = one_answer 3 7 (omega arith) t1 t2 (r1 ++ a) r2 w1 w2 (behind_message frame x y t1 r1 t2 r2 a e1 e2 i) in
+    let first = one_answer answer_waits 7 (omega arith) t1 t2 (r1 ++ a) r2 w1 w2 (behind_message frame x y t1 r1 t2 r2 a e1 e2 i) in
     elim how1 [
       | inl g ↦ elim how2 [
         | inl h ↦
@@ -182,7 +182,7 @@ heads_by frame x y a p q A B e f (t1, r1, e1, w1, how1) (t2, r2, e2, w2, how2) i
 
 requests_go : (frame : List ℕ) (x y a : List TalkItem) (p q : ℕ) (A B : List (List ℕ)) (e f : End) → Requests frame x p A e → Requests frame y q B f → x ++ a ≡ y → Extends p q A B e f a
 requests_go frame x y a p q A B e f (t1, r1, e1, w1, how1) (t2, r2, e2, w2, how2) i =
-    let first = one_answer 3 1 (omega arith) t1 t2 (r1 ++ a) r2 w1 w2 (behind_message dmpaft x y t1 r1 t2 r2 a e1 e2 i) in
+    let first = one_answer answer_waits 1 (omega arith) t1 t2 (r1 ++ a) r2 w1 w2 (behind_message dmpaft x y t1 r1 t2 r2 a e1 e2 i) in
     elim how1 [
       | inl g ↦ elim how2 [
         | inl h ↦ heads_by frame r1 r2 a p q A B e f g.1 h.1 first.1
@@ -200,7 +200,7 @@ clash b e f = cc
 -- the front of an attempt, and the whole
 pub attempt_goes : (frame : List ℕ) (x y a : List TalkItem) (p q : ℕ) (A B : List (List ℕ)) (e f : End) → Attempt frame x p A e → Attempt frame y q B f → x ++ a ≡ y → Extends p q A B e f a
 attempt_goes frame x y a p q A B e f (inl (s1, t1, r1, b1, e1, still1, w1, how1)) (inl (s2, t2, r2, b2, e2, still2, w2, how2)) i =
-    let first = one_still 6 (omega arith) s1 s2 ((t1 ++ r1) ++ a) (t2 ++ r2) still1 still2 (behind_two x y s1 (t1 ++ r1) s2 (t2 ++ r2) a e1 e2 i) in
+    let first = one_still settled_waits (omega arith) s1 s2 ((t1 ++ r1) ++ a) (t2 ++ r2) still1 still2 (behind_two x y s1 (t1 ++ r1) s2 (t2 ++ r2) a e1 e2 i) in
     let woke = one_wake 3 t1 t2 (r1 ++ a) r2 b1 b2 w1 w2 (sym (append_assoc t1 r1 a) ∙ first.1) in
     elim how1 [
       | inl g ↦ elim how2 [
@@ -213,20 +213,20 @@ attempt_goes frame x y a p q A B e f (inl (s1, t1, r1, b1, e1, still1, w1, how1)
       ]
     ]
 attempt_goes frame x y a p q A B e f (inl (s1, t1, r1, b1, e1, still1, w1, how1)) (inr (inl (flood2, is2, end2))) i =
-    absurd (still_or_flood 6 (omega arith) s1 y ((t1 ++ r1) ++ a) [] still1 flood2 (behind_two x y s1 (t1 ++ r1) y [] a e1 (sym (append-nil y)) i))
+    absurd (still_or_flood settled_waits (omega arith) s1 y ((t1 ++ r1) ++ a) [] still1 flood2 (behind_two x y s1 (t1 ++ r1) y [] a e1 (sym (append-nil y)) i))
 attempt_goes frame x y a p q A B e f (inl (s1, t1, r1, b1, e1, still1, w1, how1)) (inr (inr (s2, t2, e2, still2, floods2, is2, end2))) i =
-    let first = one_still 6 (omega arith) s1 s2 ((t1 ++ r1) ++ a) t2 still1 still2 (behind_two x y s1 (t1 ++ r1) s2 t2 a e1 e2 i) in
+    let first = one_still settled_waits (omega arith) s1 s2 ((t1 ++ r1) ++ a) t2 still1 still2 (behind_two x y s1 (t1 ++ r1) s2 t2 a e1 e2 i) in
     absurd (flood_or_wake 3 t2 t1 [] (r1 ++ a) b1 floods2 w1 (append-nil t2 ∙ sym first.1 ∙ append_assoc t1 r1 a))
 attempt_goes frame x y a p q A B e f (inr (inl (flood1, is1, end1))) (inl (s2, t2, r2, b2, e2, still2, w2, how2)) i =
-    absurd (still_or_flood 6 (omega arith) s2 x (t2 ++ r2) a still2 flood1 (sym e2 ∙ sym i))
+    absurd (still_or_flood settled_waits (omega arith) s2 x (t2 ++ r2) a still2 flood1 (sym e2 ∙ sym i))
 attempt_goes frame x y a p q A B e f (inr (inl (flood1, is1, end1))) (inr (inl (flood2, is2, end2))) i =
     no_pages p q A B e f a is1 is2 (end1 ∙ sym end2) (λ is. flooded_not_refused (sym end2 ∙ is))
 attempt_goes frame x y a p q A B e f (inr (inl (flood1, is1, end1))) (inr (inr (s2, t2, e2, still2, floods2, is2, end2))) i =
-    absurd (still_or_flood 6 (omega arith) s2 x t2 a still2 flood1 (sym e2 ∙ sym i))
+    absurd (still_or_flood settled_waits (omega arith) s2 x t2 a still2 flood1 (sym e2 ∙ sym i))
 attempt_goes frame x y a p q A B e f (inr (inr (s1, t1, e1, still1, floods1, is1, end1))) (inl (s2, t2, r2, b2, e2, still2, w2, how2)) i =
-    let first = one_still 6 (omega arith) s1 s2 (t1 ++ a) (t2 ++ r2) still1 still2 (behind_two x y s1 t1 s2 (t2 ++ r2) a e1 e2 i) in
+    let first = one_still settled_waits (omega arith) s1 s2 (t1 ++ a) (t2 ++ r2) still1 still2 (behind_two x y s1 t1 s2 (t2 ++ r2) a e1 e2 i) in
     absurd (flood_or_wake 3 t1 t2 a r2 b2 floods1 w2 first.1)
 attempt_goes frame x y a p q A B e f (inr (inr (s1, t1, e1, still1, floods1, is1, end1))) (inr (inl (flood2, is2, end2))) i =
-    absurd (still_or_flood 6 (omega arith) s1 y (t1 ++ a) [] still1 flood2 (behind_two x y s1 t1 y [] a e1 (sym (append-nil y)) i))
+    absurd (still_or_flood settled_waits (omega arith) s1 y (t1 ++ a) [] still1 flood2 (behind_two x y s1 t1 y [] a e1 (sym (append-nil y)) i))
 attempt_goes frame x y a p q A B e f (inr (inr (s1, t1, e1, still1, floods1, is1, end1))) (inr (inr (s2, t2, e2, still2, floods2, is2, end2))) i =
     no_pages p q A B e f a is1 is2 (end1 ∙ sym end2) (λ is. flooded_not_refused (sym end2 ∙ is))

@@ -9,6 +9,7 @@ use Rattle.serial_link.specs.Talk.{message}
 use Rattle.serial_link.specs.declared.talk.TalkItem.{TalkItem}
 use Rattle.serial_link.specs.declared.talk.TalkItem.TheVariants.{Said}
 use Rattle.wake_retry.specs.Parts.{heard, Still, Flooding, Awaits, Wakes, WakeFloods, ends_awake}
+use Rattle.wake_retry.specs.Parts.{settled_waits, answer_waits, flood_size}
 use Rattle.dmpaft_pump.specs.declared.outcome.Trouble.{Trouble}
 use Rattle.dmpaft_pump.specs.declared.outcome.Trouble.TheVariants.{Asleep, PageLost, PageAhead}
 use Rattle.dmpaft_pump.specs.Header.{IsHeader}
@@ -49,8 +50,8 @@ Rest W a Calling t place all end = Requests (stamp_frame_of a) t place all end
 Rest W a Heading t place all end = Heads (stamp_frame_of a) t place all end
 Rest W a (Asking more at taken left b) t place all end = (place ≡ at) × (fresh : List (List ℕ)) × (all ≡ taken ++ fresh) × AskRest more (length taken) left b t fresh end
 Rest W a (Resettling more at taken left b) t place all end = (place ≡ at) × (fresh : List (List ℕ)) × (all ≡ taken ++ fresh)
-    × (((s : List TalkItem) × (rest : List TalkItem) × (t ≡ s ++ rest) × Still 6 s × AskRest more (length taken) left b rest fresh end)
-    ⊎ (Flooding 6 t × (fresh ≡ []) × (end ≡ End.Flooded)))
+    × (((s : List TalkItem) × (rest : List TalkItem) × (t ≡ s ++ rest) × Still settled_waits s × AskRest more (length taken) left b rest fresh end)
+    ⊎ (Flooding settled_waits t × (fresh ≡ []) × (end ≡ End.Flooded)))
 Rest W a (Acking at taken) t place all end = (t ≡ Said 6 true ∷ []) × (place ≡ at) × (all ≡ taken) × (end ≡ End.Whole)
 Rest W a (GivingUp at taken trouble) t place all end = (t ≡ esc) × W taken place at × (all ≡ taken) × (end ≡ End.Failed trouble)
 
@@ -97,23 +98,23 @@ onward_pages W a (suc more) at taken page t place all end x =
     let k : length taken + 1 ≡ length (taken ++ page ∷ []) = omega (arith, length-append taken (page ∷ [])) in
     (x.0, x.1, x.2, inl (subst (λ n. AskRest more n 3 6 t x.1 end) (sym k) x.3))
 
-pub hears_flooding : (q : ℕ) (u : List TalkItem) → HearsFrom q 65536 0 0 u true → Flooding q u
-hears_flooding q u h = let y = hears_flood q 65536 0 0 u h in (y.0, omega (arith, y.1))
+pub hears_flooding : (q : ℕ) (u : List TalkItem) → HearsFrom q flood_size 0 0 u true → Flooding q u
+hears_flooding q u h = let y = hears_flood q flood_size 0 0 u h in (y.0, omega (arith, y.1))
 
-pub flooding_hears : (q : ℕ) (u : List TalkItem) → 0 < q → Flooding q u → HearsFrom q 65536 0 0 u true
-flooding_hears q u p f = flood_hears q 65536 0 0 u p f.0 (omega (arith, f.1))
+pub flooding_hears : (q : ℕ) (u : List TalkItem) → 0 < q → Flooding q u → HearsFrom q flood_size 0 0 u true
+flooding_hears q u p f = flood_hears q flood_size 0 0 u p f.0 (omega (arith, f.1))
 
 -- nothing is left after it
 nothing_after : (t u rest : List TalkItem) → t ≡ u ++ rest → rest ≡ [] → u ≡ t
 nothing_after t u rest e n = sym (e ∙ ap (λ (x : List TalkItem). u ++ x) n ∙ append-nil u)
 
-answer_size : (m : ℕ) (u : List TalkItem) → Awaits 3 m u → length (heard u) < m + 1
+answer_size : (m : ℕ) (u : List TalkItem) → Awaits answer_waits m u → length (heard u) < m + 1
 answer_size m u (inl x) = omega (arith, x.1)
 answer_size m u (inr x) = omega (arith, x.1)
 
 module _ (W : Likeness) (exact : (taken : List (List ℕ)) (place at : ℕ) → W taken place at → place ≡ at) (a : Option CivilMinute) (t : List TalkItem) (place : ℕ) (all : List (List ℕ)) (end : End) where
   module _ (u rest : List TalkItem) where
-    waking_out : (left : ℕ) → t ≡ Said 10 true ∷ u ++ rest → Still 3 u → (x : Bool) → ends_awake (heard u) ≡ x → RestAt W a (woken left x) rest place all end → Rest W a (Waking left) t place all end
+    waking_out : (left : ℕ) → t ≡ Said 10 true ∷ u ++ rest → Still answer_waits u → (x : Bool) → ends_awake (heard u) ≡ x → RestAt W a (woken left x) rest place all end → Rest W a (Waking left) t place all end
     waking_out left e still true w x = inl (Said 10 true ∷ u, rest, true, e, (u, [], ap (λ (y : List TalkItem). Said 10 true ∷ y) (sym (append-nil u)), still, inl (w, refl, refl)), inl (refl, x))
     waking_out zero e still false w x =
         inl (Said 10 true ∷ u, rest, false, e, (u, [], ap (λ (y : List TalkItem). Said 10 true ∷ y) (sym (append-nil u)), still, inr (w, (refl, refl))), inr (refl, x.0, x.2, x.3))
@@ -121,16 +122,16 @@ module _ (W : Likeness) (exact : (taken : List (List ℕ)) (place at : ℕ) → 
         inl (Said 10 true ∷ u ++ x.0, x.1, x.2, e ∙ ap (λ (y : List TalkItem). Said 10 true ∷ u ++ y) x.3 ∙ ap (λ (y : List TalkItem). Said 10 true ∷ y) (sym (append_assoc u x.0 x.1)), (u, x.0, refl, still, inr (w, x.4)), x.5)
     waking_out (suc left) e still false w (inr x) = inr ((u, rest, e, inr (still, w, x.0)), x.1, x.2)
 
-    calling_out : t ≡ message dmpaft ++ (u ++ rest) → Awaits 3 1 u → (x : Bool) → bytes_eq (heard u) (6 ∷ []) ≡ x → RestAt W a (called (heard u) x) rest place all end → Rest W a Calling t place all end
+    calling_out : t ≡ message dmpaft ++ (u ++ rest) → Awaits answer_waits 1 u → (x : Bool) → bytes_eq (heard u) (6 ∷ []) ≡ x → RestAt W a (called (heard u) x) rest place all end → Rest W a Calling t place all end
     calling_out e w true q x = (u, rest, e, w, inl ((bytes_eq-Decides (heard u) (6 ∷ [])).0 q, x))
     calling_out e w false q x = (u, rest, e, w, inr ((λ z. (let y : true ≡ false = sym ((bytes_eq-Decides (heard u) (6 ∷ [])).1 z) ∙ q in cc)), x.0, x.2, x.3))
 
-    heading_out : t ≡ message (stamp_frame_of a) ++ (u ++ rest) → Awaits 3 7 u → (y : Reply) → Replies (heard u) y → RestAt W a (headed y) rest place all end → Rest W a Heading t place all end
+    heading_out : t ≡ message (stamp_frame_of a) ++ (u ++ rest) → Awaits answer_waits 7 u → (y : Reply) → Replies (heard u) y → RestAt W a (headed y) rest place all end → Rest W a Heading t place all end
     heading_out e w (Header zero at) h x = (u, rest, e, w, inl (0, subst (λ n. IsHeader (heard u) 0 n) (sym (exact [] place at x.1)) h, (x.0, x.2, x.3)))
     heading_out e w (Header (suc more) at) h x = (u, rest, e, w, inl (suc more, subst (λ n. IsHeader (heard u) (suc more) n) (sym x.0) h, subst (λ (y : List (List ℕ)). Pages (suc more) 0 rest y end) (sym x.2) x.3))
     heading_out e w (NoHeader trouble) h x = (u, rest, e, w, inr (trouble, h, x.0, x.2, x.3))
 
-    module _ (more at : ℕ) (taken : List (List ℕ)) (left b : ℕ) (e : t ≡ Said b true ∷ u ++ rest) (w : Awaits 3 page_size u) where
+    module _ (more at : ℕ) (taken : List (List ℕ)) (left b : ℕ) (e : t ≡ Said b true ∷ u ++ rest) (w : Awaits answer_waits page_size u) where
       alone : Said b true ∷ u ≡ Said b true ∷ u ++ []
       alone = ap (λ (y : List TalkItem). Said b true ∷ y) (sym (append-nil u))
 
@@ -143,7 +144,7 @@ module _ (W : Likeness) (exact : (taken : List (List ℕ)) (place at : ℕ) → 
       batched_out p [] x = taken_out p (onward_pages W a more at taken (heard u) rest place all end x)
       batched_out p (r ∷ rows) x = taken_out p x
 
-    again_out : (more at : ℕ) (taken : List (List ℕ)) (left b : ℕ) → t ≡ Said b true ∷ u ++ rest → Awaits 3 page_size u → is_page_for (length taken) (heard u) ≡ false → is_ahead (length taken) (heard u) ≡ false
+    again_out : (more at : ℕ) (taken : List (List ℕ)) (left b : ℕ) → t ≡ Said b true ∷ u ++ rest → Awaits answer_waits page_size u → is_page_for (length taken) (heard u) ≡ false → is_ahead (length taken) (heard u) ≡ false
         → RestAt W a (asked_again more at taken left (next_said (length taken) (heard u))) rest place all end → Rest W a (Asking more at taken left b) t place all end
     again_out more at taken zero b e w p q x =
         (exact taken place at x.1, [], x.2 ∙ sym (append-nil taken), inr (inl (Said b true ∷ u, PageLost (length taken), e ∙ ap (λ (y : List TalkItem). Said b true ∷ u ++ y) x.0, (u, [], alone more at taken 0 b e w, w, p, inr (inl (q, refl, refl, refl))), refl, x.3)))
@@ -179,7 +180,7 @@ module _ (W : Likeness) (exact : (taken : List (List ℕ)) (place at : ℕ) → 
     again_out more at taken (suc left) b e w p q (pe, fresh, ea, inl (s, rest2, se, still, inr (inr (floods, fe, en)))) =
         (pe, fresh, ea, inr (inr ((u, rest, e, w, p, q, inr (s, rest2, se, still, floods)), fe, en)))
 
-    asking_out : (more at : ℕ) (taken : List (List ℕ)) (left b : ℕ) → t ≡ Said b true ∷ u ++ rest → Awaits 3 page_size u → (x y : Bool) → is_page_for (length taken) (heard u) ≡ x → is_ahead (length taken) (heard u) ≡ y
+    asking_out : (more at : ℕ) (taken : List (List ℕ)) (left b : ℕ) → t ≡ Said b true ∷ u ++ rest → Awaits answer_waits page_size u → (x y : Bool) → is_page_for (length taken) (heard u) ≡ x → is_ahead (length taken) (heard u) ≡ y
         → RestAt W a (judged a more at taken left (heard u) x y) rest place all end → Rest W a (Asking more at taken left b) t place all end
     asking_out more at taken left b e w true y p q x = batched_out more at taken left b e w p (batch_of a at taken (heard u)) x
     asking_out more at taken left b e w false true p q x =
@@ -188,12 +189,12 @@ module _ (W : Likeness) (exact : (taken : List (List ℕ)) (place at : ℕ) → 
 
   -- what is unrolled is a rest
   pub out : (p : Part) → Listens p → Unrolled W a p t place all end → Rest W a p t place all end
-  out Settling is (u, rest, true, e, h, x) = inr (inl (subst (λ (y : List TalkItem). Flooding 6 y) (nothing_after t u rest e x.0) (hears_flooding 6 u h), x.2, x.3))
+  out Settling is (u, rest, true, e, h, x) = inr (inl (subst (λ (y : List TalkItem). Flooding settled_waits y) (nothing_after t u rest e x.0) (hears_flooding settled_waits u h), x.2, x.3))
   out Settling is (u, rest, false, e, h, inl (v, rest2, awake, ve, wakes, woke)) =
-      inl (u, v, rest2, awake, e ∙ ap (λ (y : List TalkItem). u ++ y) ve, hears_still 6 65536 0 0 u refl (omega arith) (omega arith) h, wakes, woke)
-  out Settling is (u, rest, false, e, h, inr x) = inr (inr (u, rest, e, hears_still 6 65536 0 0 u refl (omega arith) (omega arith) h, x.0, x.1, x.2))
-  out (Waking left) is (u, rest, true, e, h, x) = inr ((u, rest, e, inl (hears_flooding 3 u h, x.0)), x.2, x.3)
-  out (Waking left) is (u, rest, false, e, h, x) = waking_out u rest left e (hears_still 3 65536 0 0 u refl (omega arith) (omega arith) h) (ends_awake (heard u)) refl x
+      inl (u, v, rest2, awake, e ∙ ap (λ (y : List TalkItem). u ++ y) ve, hears_still settled_waits flood_size 0 0 u refl (omega arith) (omega arith) h, wakes, woke)
+  out Settling is (u, rest, false, e, h, inr x) = inr (inr (u, rest, e, hears_still settled_waits flood_size 0 0 u refl (omega arith) (omega arith) h, x.0, x.1, x.2))
+  out (Waking left) is (u, rest, true, e, h, x) = inr ((u, rest, e, inl (hears_flooding answer_waits u h, x.0)), x.2, x.3)
+  out (Waking left) is (u, rest, false, e, h, x) = waking_out u rest left e (hears_still answer_waits flood_size 0 0 u refl (omega arith) (omega arith) h) (ends_awake (heard u)) refl x
   out Calling is (u, rest, full, e, h, x) = calling_out u rest e (hears_awaits 1 u full (omega arith) h) (bytes_eq (heard u) (6 ∷ [])) refl x
   out Heading is (u, rest, full, e, h, x) =
       let w = hears_awaits 7 u full (omega arith) h in
@@ -201,7 +202,7 @@ module _ (W : Likeness) (exact : (taken : List (List ℕ)) (place at : ℕ) → 
   out (Asking more at taken left b) is (u, rest, full, e, h, x) =
       asking_out u rest more at taken left b e (hears_awaits page_size u full (omega arith) h) (is_page_for (length taken) (heard u)) (is_ahead (length taken) (heard u)) refl refl x
   out (Resettling more at taken left b) is (u, rest, true, e, h, x) =
-      (exact taken place at x.1, [], x.2 ∙ sym (append-nil taken), inr (subst (λ (y : List TalkItem). Flooding 6 y) (nothing_after t u rest e x.0) (hears_flooding 6 u h), refl, x.3))
-  out (Resettling more at taken left b) is (u, rest, false, e, h, x) = (x.0, x.1, x.2, inl (u, rest, e, hears_still 6 65536 0 0 u refl (omega arith) (omega arith) h, x.3))
+      (exact taken place at x.1, [], x.2 ∙ sym (append-nil taken), inr (subst (λ (y : List TalkItem). Flooding settled_waits y) (nothing_after t u rest e x.0) (hears_flooding settled_waits u h), refl, x.3))
+  out (Resettling more at taken left b) is (u, rest, false, e, h, x) = (x.0, x.1, x.2, inl (u, rest, e, hears_still settled_waits flood_size 0 0 u refl (omega arith) (omega arith) h, x.3))
   out (Acking at taken) none x = absurd none
   out (GivingUp at taken trouble) none x = absurd none

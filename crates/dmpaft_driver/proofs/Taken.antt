@@ -9,7 +9,7 @@ use Rattle.vantage_frames.specs.Slots.{page_size}
 use Rattle.serial_link.specs.Talk.{message}
 use Rattle.serial_link.specs.declared.talk.TalkItem.{TalkItem}
 use Rattle.serial_link.specs.declared.talk.TalkItem.TheVariants.{Said}
-use Rattle.wake_retry.specs.Parts.{heard, ends_awake, Awaits}
+use Rattle.wake_retry.specs.Parts.{heard, ends_awake, Awaits, answer_waits}
 use Rattle.dmpaft_pump.specs.declared.pump_end.PumpEnd.{PumpEnd}
 use Rattle.dmpaft_pump.specs.declared.pump_end.PumpEnd.TheVariants as pump_end
 use Rattle.dmpaft_driver.specs.Attempt.{Attempt, End}
@@ -128,7 +128,7 @@ module _ (a : Option CivilMinute) (s : State) (ne : s ≢ Astray) (place : ℕ) 
     nothing_yet taken p e h = (h.0 ∙ e, inl (h.0 ∙ e))
 
     module _ (t u rest : List TalkItem) where
-      judged_at : (more at : ℕ) (taken : List (List ℕ)) (left b : ℕ) → t ≡ Said b true ∷ u ++ rest → (full : Bool) → HearsFrom 3 page_size 0 0 u full → (x y : Bool) → is_page_for (length taken) (heard u) ≡ x
+      judged_at : (more at : ℕ) (taken : List (List ℕ)) (left b : ℕ) → t ≡ Said b true ∷ u ++ rest → (full : Bool) → HearsFrom answer_waits page_size 0 0 u full → (x y : Bool) → is_page_for (length taken) (heard u) ≡ x
           → Has all place (taken_at (judged a more at taken left (heard u) x y)) (place_at (judged a more at taken left (heard u) x y)) → Had (Asking more at taken left b) t
       judged_at more at taken left b e full h true y p x =
           let o = batched_at more at taken (heard u) (batch_of a at taken (heard u)) in
@@ -136,7 +136,7 @@ module _ (a : Option CivilMinute) (s : State) (ne : s ≢ Astray) (place : ℕ) 
           let w = hears_awaits page_size u full (omega arith) h in
           inr (Said b true ∷ u, rest, sym e, taken_page (x.1) o.1 is w)
         where
-          taken_page : (all ≡ []) ⊎ (place ≡ place_at (batched more at taken (heard u) (batch_of a at taken (heard u)))) → place_at (batched more at taken (heard u) (batch_of a at taken (heard u))) ≡ at → all ≡ taken ++ heard u ∷ [] → Awaits 3 page_size u
+          taken_page : (all ≡ []) ⊎ (place ≡ place_at (batched more at taken (heard u) (batch_of a at taken (heard u)))) → place_at (batched more at taken (heard u) (batch_of a at taken (heard u))) ≡ at → all ≡ taken ++ heard u ∷ [] → Awaits answer_waits page_size u
               → Rest Exact a (Asking more at taken left b) (Said b true ∷ u) place all End.Refused
           taken_page (inl none) f is w = absurd (not_none taken (heard u) (sym is ∙ none))
           taken_page (inr same) f is w =

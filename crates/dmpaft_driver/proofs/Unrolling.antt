@@ -9,6 +9,7 @@ use Rattle.serial_link.specs.Talk.{message}
 use Rattle.serial_link.specs.declared.talk.TalkItem.{TalkItem}
 use Rattle.serial_link.specs.declared.talk.TalkItem.TheVariants.{Said}
 use Rattle.wake_retry.specs.Parts.{heard, Still, Awaits, Wakes, WakeFloods}
+use Rattle.wake_retry.specs.Parts.{answer_waits, settled_waits, flood_size}
 use Rattle.dmpaft_pump.specs.declared.outcome.Trouble.{Trouble}
 use Rattle.dmpaft_pump.specs.Header.{IsHeader}
 use Rattle.dmpaft_pump.specs.Page.{is_page_for, is_ahead}
@@ -25,8 +26,8 @@ use Rattle.dmpaft_driver.proofs.Rest.{Later, Woke, Likeness, Rest, RestAt, Unrol
 front : (b : ℕ) (v s r rest t u : List TalkItem) → t ≡ u ++ rest → u ≡ Said b true ∷ v ++ r → t ≡ Said b true ∷ v ++ (r ++ rest)
 front b v s r rest t u e f = e ∙ ap (λ (y : List TalkItem). y ++ rest) f ∙ ap (λ (y : List TalkItem). Said b true ∷ y) (append_assoc v r rest)
 
-still_heard : (q : ℕ) (u : List TalkItem) → 0 < q → Still q u → HearsFrom q 65536 0 0 u false
-still_heard q u p s = still_hears q 65536 0 0 u refl p (omega arith) s
+still_heard : (q : ℕ) (u : List TalkItem) → 0 < q → Still q u → HearsFrom q flood_size 0 0 u false
+still_heard q u p s = still_hears q flood_size 0 0 u refl p (omega arith) s
 
 module _ (W : Likeness) (same : (taken : List (List ℕ)) (place at : ℕ) → place ≡ at → W taken place at) (free : (place : ℕ) → W [] place 0)
     (a : Option CivilMinute) (t : List TalkItem) (place : ℕ) (all : List (List ℕ)) (end : End) where
@@ -41,7 +42,7 @@ module _ (W : Likeness) (same : (taken : List (List ℕ)) (place at : ℕ) → p
         rest0,
         false,
         g ∙ ap (λ (y : List TalkItem). Said 10 true ∷ s ++ (y ++ rest0)) n,
-        still_heard 3 s (omega arith) still,
+        still_heard answer_waits s (omega arith) still,
         subst (λ (x : Bool). RestAt W a (woken left x) rest0 place all end) (sym w) (woke_true awake rest0 k woke),
       )
   waking_in zero u0 rest0 awake e (s, r, f, still, inr (w, (n, k))) (inl x) = let z : true ≡ false = sym x.0 ∙ k in cc
@@ -51,7 +52,7 @@ module _ (W : Likeness) (same : (taken : List (List ℕ)) (place at : ℕ) → p
         rest0,
         false,
         g ∙ ap (λ (y : List TalkItem). Said 10 true ∷ s ++ (y ++ rest0)) n,
-        still_heard 3 s (omega arith) still,
+        still_heard answer_waits s (omega arith) still,
         subst (λ (x : Bool). RestAt W a (woken 0 x) rest0 place all end) (sym w) (x.1, free place, x.2, x.3),
       )
   waking_in (suc left) u0 rest0 awake e (s, r, f, still, inr (w, wakes)) woke = (
@@ -59,17 +60,17 @@ module _ (W : Likeness) (same : (taken : List (List ℕ)) (place at : ℕ) → p
     r ++ rest0,
     false,
     front 10 s [] r rest0 t u0 e f,
-    still_heard 3 s (omega arith) still,
+    still_heard answer_waits s (omega arith) still,
     subst (λ (x : Bool). RestAt W a (woken (suc left) x) (r ++ rest0) place all end) (sym w) (inl (r, rest0, awake, refl, wakes, woke)),
   )
 
   wake_floods_in : (left : ℕ) → WakeFloods (suc left) t → all ≡ [] → end ≡ End.Flooded → Unrolled W a (Waking left) t place all end
-  wake_floods_in left (u, r, e, inl (flood, n)) ea en = (u, r, true, e, flooding_hears 3 u (omega arith) flood, (n, free place, ea, en))
+  wake_floods_in left (u, r, e, inl (flood, n)) ea en = (u, r, true, e, flooding_hears answer_waits u (omega arith) flood, (n, free place, ea, en))
   wake_floods_in zero (u, r, e, inr (still, w, x)) ea en = absurd x
   wake_floods_in (suc left) (u, r, e, inr (still, w, x)) ea en =
-      (u, r, false, e, still_heard 3 u (omega arith) still, subst (λ (x : Bool). RestAt W a (woken (suc left) x) r place all end) (sym w) (inr (x, ea, en)))
+      (u, r, false, e, still_heard answer_waits u (omega arith) still, subst (λ (x : Bool). RestAt W a (woken (suc left) x) r place all end) (sym w) (inr (x, ea, en)))
 
-  heading_in : (u rest : List TalkItem) → t ≡ message (stamp_frame_of a) ++ (u ++ rest) → Awaits 3 7 u → (n : ℕ) → IsHeader (heard u) n place → Pages n 0 rest all end → Unrolled W a Heading t place all end
+  heading_in : (u rest : List TalkItem) → t ≡ message (stamp_frame_of a) ++ (u ++ rest) → Awaits answer_waits 7 u → (n : ℕ) → IsHeader (heard u) n place → Pages n 0 rest all end → Unrolled W a Heading t place all end
   heading_in u rest e w zero h x =
       let k = awaits_hears 7 u w in
       (u, rest, k.0, e, k.1, subst (λ (y : Reply). RestAt W a (headed y) rest place all end) (sym (header_is (heard u) 0 place h)) (x.0, same [] place place refl, x.1, x.2))
@@ -86,7 +87,7 @@ module _ (W : Likeness) (same : (taken : List (List ℕ)) (place at : ℕ) → p
         absurd (gives_last a at taken page (subst (λ n. EndsGiving a n (taken ++ page ∷ [])) pe ends) z)
     batched_in page rest later ea l (r ∷ rows) z = (pe, later, ea ∙ sym (append_assoc taken (page ∷ []) later), l)
 
-    module _ (left : ℕ) (v rest : List TalkItem) (w : Awaits 3 page_size v) (e : t ≡ Said b true ∷ v ++ rest) where
+    module _ (left : ℕ) (v rest : List TalkItem) (w : Awaits answer_waits page_size v) (e : t ≡ Said b true ∷ v ++ rest) where
       as_heard : RestAt W a (next a (Asking more at taken left b) true (heard v)) rest place all end → Unrolled W a (Asking more at taken left b) t place all end
       as_heard x = let k = awaits_hears page_size v w in (v, rest, k.0, e, k.1, full_or_not k.0)
         where
@@ -139,9 +140,9 @@ module _ (W : Likeness) (same : (taken : List (List ℕ)) (place at : ℕ) → p
 
   -- a rest can be unrolled
   pub into : (p : Part) → Listens p → (end ≡ End.Refused → EndsGiving a place all) → Rest W a p t place all end → Unrolled W a p t place all end
-  into Settling is strict (inl (s, u, rest, awake, e, still, wakes, woke)) = (s, u ++ rest, false, e, still_heard 6 s (omega arith) still, inl (u, rest, awake, refl, wakes, woke))
-  into Settling is strict (inr (inl (flood, ea, en))) = (t, [], true, whole, flooding_hears 6 t (omega arith) flood, (refl, free place, ea, en))
-  into Settling is strict (inr (inr (s, u, e, still, floods, ea, en))) = (s, u, false, e, still_heard 6 s (omega arith) still, inr (floods, ea, en))
+  into Settling is strict (inl (s, u, rest, awake, e, still, wakes, woke)) = (s, u ++ rest, false, e, still_heard settled_waits s (omega arith) still, inl (u, rest, awake, refl, wakes, woke))
+  into Settling is strict (inr (inl (flood, ea, en))) = (t, [], true, whole, flooding_hears settled_waits t (omega arith) flood, (refl, free place, ea, en))
+  into Settling is strict (inr (inr (s, u, e, still, floods, ea, en))) = (s, u, false, e, still_heard settled_waits s (omega arith) still, inr (floods, ea, en))
   into (Waking left) is strict (inl (u, rest, awake, e, wakes, woke)) = waking_in left u rest awake e wakes woke
   into (Waking left) is strict (inr (floods, ea, en)) = wake_floods_in left floods ea en
   into Calling is strict (u, rest, e, w, inl (h, x)) =
@@ -161,8 +162,8 @@ module _ (W : Likeness) (same : (taken : List (List ℕ)) (place at : ℕ) → p
   into (Asking more at taken left b) is strict (pe, fresh, ea, inl (u, rest, bytes, later, e, takes, fe, l)) = takes_in more at taken b pe strict fresh ea left u rest bytes later e takes fe l
   into (Asking more at taken left b) is strict (pe, fresh, ea, inr (inl (u, trouble, e, misses, fe, en))) = misses_in more at taken b pe strict fresh ea left u trouble e misses fe en
   into (Asking more at taken left b) is strict (pe, fresh, ea, inr (inr (floods, fe, en))) = floods_in more at taken b pe strict fresh ea left floods fe en
-  into (Resettling more at taken left b) is strict (pe, fresh, ea, inl (s, rest, e, still, x)) = (s, rest, false, e, still_heard 6 s (omega arith) still, (pe, fresh, ea, x))
+  into (Resettling more at taken left b) is strict (pe, fresh, ea, inl (s, rest, e, still, x)) = (s, rest, false, e, still_heard settled_waits s (omega arith) still, (pe, fresh, ea, x))
   into (Resettling more at taken left b) is strict (pe, fresh, ea, inr (flood, fe, en)) =
-      (t, [], true, whole, flooding_hears 6 t (omega arith) flood, (refl, same taken place at pe, ea ∙ ap (λ (y : List (List ℕ)). taken ++ y) fe ∙ append-nil taken, en))
+      (t, [], true, whole, flooding_hears settled_waits t (omega arith) flood, (refl, same taken place at pe, ea ∙ ap (λ (y : List (List ℕ)). taken ++ y) fe ∙ append-nil taken, en))
   into (Acking at taken) none strict x = absurd none
   into (GivingUp at taken trouble) none strict x = absurd none

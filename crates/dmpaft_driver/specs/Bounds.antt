@@ -5,17 +5,18 @@ use Rattle.vantage_frames.specs.Header.{most_pages}
 use Rattle.vantage_frames.specs.Slots.{page_size}
 use Rattle.serial_link.specs.declared.talk.TalkItem.{TalkItem}
 use Rattle.wake_retry.specs.Bounds.{IsBounded}
+use Rattle.wake_retry.specs.Parts.{flood_size, wake_tries}
 use Rattle.dmpaft_pump.specs.declared.outcome.DumpEnd.{DumpEnd}
 use Rattle.dmpaft_driver.specs.OneAttempt.{IsAttempt}
 
 -- the first settling, those of a wake and those between askings, each of a flood, an answer to DMPAFT, one to the stamp
 -- frame, and four askings for each page
 abbrev pub most_heard : ℕ
-most_heard = (4 + 3 * most_pages) * 65536 + 1 + 7 + 4 * most_pages * page_size
+most_heard = (1 + wake_tries + 3 * most_pages) * flood_size + 1 + 7 + 4 * most_pages * page_size
 
--- three line feeds, DMPAFT and its line feed, the stamp frame, four askings for each page, and the byte that ends it
+-- the line feeds of a wake, DMPAFT and its line feed, the stamp frame, four askings for each page, and the byte that ends it
 abbrev pub most_said : ℕ
-most_said = 3 + 7 + 6 + 4 * most_pages + 1
+most_said = wake_tries + 7 + 6 + 4 * most_pages + 1
 
 -- no attempt hears or says more, however it ended
 abbrev pub AttemptsAreBounded : Type 0

@@ -2,7 +2,7 @@
 use Rattle.std.proofs.Common.{◌≡◌, ℕ, ◌+◌, ◌<◌, ◌⊎◌, Bool, true, false, List, [], ◌∷◌, length, refl, sym, ap, subst, inl, inr, arith}
 use Rattle.serial_link.specs.declared.talk.TalkItem.{TalkItem}
 use Rattle.serial_link.specs.declared.talk.TalkItem.TheVariants.{Said, Heard, Quiet}
-use Rattle.wake_retry.specs.Parts.{heard, StillFrom, IsFull, IsFull, IsShort, Awaits}
+use Rattle.wake_retry.specs.Parts.{heard, StillFrom, IsFull, IsFull, IsShort, Awaits, answer_waits, flood_size}
 
 -- it ends with the first q quiet waits in a row, or with byte number m; whether by the byte
 abbrev pub HearsFrom : ℕ → ℕ → ℕ → ℕ → List TalkItem → Bool → Type 0
@@ -16,12 +16,12 @@ hears_some q m r k [] full h = absurd h
 hears_some q m r k (i ∷ t) full h = omega arith
 
 -- a settling
-pub still_hears : (q m r k : ℕ) (t : List TalkItem) → m ≡ 65536 → r < q → k < m → StillFrom q r k t → HearsFrom q m r k t false
+pub still_hears : (q m r k : ℕ) (t : List TalkItem) → m ≡ flood_size → r < q → k < m → StillFrom q r k t → HearsFrom q m r k t false
 still_hears q m r k [] e a b h = absurd (omega (arith, a, h.0))
 still_hears q m r k (Said b ends ∷ t) e a l h = absurd h
 still_hears q m r k (Heard b ∷ t) e a l h = inr (heard_below t h.1, still_hears q m 0 (k + 1) t e (omega (arith, a)) (heard_below t h.1) h.1)
   where
-    below : (r2 n : ℕ) (u : List TalkItem) → StillFrom q r2 n u → n < 65536
+    below : (r2 n : ℕ) (u : List TalkItem) → StillFrom q r2 n u → n < flood_size
     below r2 n [] x = x.1
     below r2 n (Said c stops ∷ u) x = absurd x
     below r2 n (Heard c ∷ u) x = let y = below 0 (n + 1) u x.1 in omega (arith, y)
@@ -34,7 +34,7 @@ still_hears q m r k (Quiet ∷ Said b ends ∷ t) e a l h = absurd h.1
 still_hears q m r k (Quiet ∷ Heard b ∷ t) e a l h = inr (h.1.0, still_hears q m (r + 1) k (Heard b ∷ t) e h.1.0 l h.1)
 still_hears q m r k (Quiet ∷ Quiet ∷ t) e a l h = inr (h.1.0, still_hears q m (r + 1) k (Quiet ∷ t) e h.1.0 l h.1)
 
-pub hears_still : (q m r k : ℕ) (t : List TalkItem) → m ≡ 65536 → r < q → k < m → HearsFrom q m r k t false → StillFrom q r k t
+pub hears_still : (q m r k : ℕ) (t : List TalkItem) → m ≡ flood_size → r < q → k < m → HearsFrom q m r k t false → StillFrom q r k t
 hears_still q m r k [] e a b h = absurd h
 hears_still q m r k (Said b ends ∷ t) e a l h = absurd h
 hears_still q m r k (Heard b ∷ t) e a l (inl x) = let z = x.2 in cc
@@ -88,10 +88,10 @@ hears_short q m r k (Quiet ∷ t) a l (inl x) = (
 )
 hears_short q m r k (Quiet ∷ t) a l (inr x) = let y = hears_short q m (r + 1) k t x.0 l x.1 in ((a, y.0), y.1)
 
-pub awaits_hears : (m : ℕ) (t : List TalkItem) → Awaits 3 m t → (full : Bool) × HearsFrom 3 m 0 0 t full
+pub awaits_hears : (m : ℕ) (t : List TalkItem) → Awaits answer_waits m t → (full : Bool) × HearsFrom answer_waits m 0 0 t full
 awaits_hears m t (inl x) = (true, flood_hears 3 m 0 0 t (omega arith) x.0 (omega (arith, x.1)))
 awaits_hears m t (inr x) = (false, short_hears 3 m 0 0 t (omega arith) x.0 (omega (arith, x.1)))
 
-pub hears_awaits : (m : ℕ) (t : List TalkItem) (full : Bool) → 0 < m → HearsFrom 3 m 0 0 t full → Awaits 3 m t
+pub hears_awaits : (m : ℕ) (t : List TalkItem) (full : Bool) → 0 < m → HearsFrom answer_waits m 0 0 t full → Awaits answer_waits m t
 hears_awaits m t true p h = let y = hears_flood 3 m 0 0 t h in inl (y.0, omega (arith, y.1))
 hears_awaits m t false p h = let y = hears_short 3 m 0 0 t (omega arith) p h in inr (y.0, omega (arith, y.1))

@@ -4,6 +4,7 @@ use Rattle.station_base.specs.CivilMinute.{CivilMinute}
 use Rattle.vantage_frames.specs.StampFrame.{stamp_frame_of}
 use Rattle.vantage_frames.specs.Header.{most_pages}
 use Rattle.vantage_frames.specs.Slots.{page_size}
+use Rattle.wake_retry.specs.Parts.{flood_size, answer_waits, settled_waits}
 use Rattle.dmpaft_pump.specs.declared.phase.Phase.{Phase}
 use Rattle.dmpaft_pump.specs.declared.phase.Phase.TheVariants as phase
 use Rattle.dmpaft_pump.specs.Command.{dmpaft}
@@ -22,23 +23,23 @@ part_of place taken (phase.GivingUp trouble) = GivingUp place taken trouble
 
 -- so many quiet waits in a row end what it hears
 abbrev pub quiets_of : Phase → ℕ
-quiets_of phase.Settling = 6
-quiets_of (phase.Waking left) = 3
-quiets_of phase.Calling = 3
-quiets_of phase.Heading = 3
-quiets_of (phase.Asking more left said) = 3
-quiets_of (phase.Resettling more left said) = 6
-quiets_of phase.Acking = 3
-quiets_of (phase.GivingUp trouble) = 3
+quiets_of phase.Settling = settled_waits
+quiets_of (phase.Waking left) = answer_waits
+quiets_of phase.Calling = answer_waits
+quiets_of phase.Heading = answer_waits
+quiets_of (phase.Asking more left said) = answer_waits
+quiets_of (phase.Resettling more left said) = settled_waits
+quiets_of phase.Acking = answer_waits
+quiets_of (phase.GivingUp trouble) = answer_waits
 
 -- so many bytes end what it hears
 abbrev pub most_of : Phase → ℕ
-most_of phase.Settling = 65536
-most_of (phase.Waking left) = 65536
+most_of phase.Settling = flood_size
+most_of (phase.Waking left) = flood_size
 most_of phase.Calling = 1
 most_of phase.Heading = 7
 most_of (phase.Asking more left said) = page_size
-most_of (phase.Resettling more left said) = 65536
+most_of (phase.Resettling more left said) = flood_size
 most_of phase.Acking = 1
 most_of (phase.GivingUp trouble) = 1
 

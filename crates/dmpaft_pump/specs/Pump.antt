@@ -1,14 +1,14 @@
 -- The driver as a machine: where an attempt stands after each item of its talk and each answer of the keeper. (Davis
 -- serial manual, "Download Protocol"; the numbers of waits, tries and askings, and what ends an attempt, are this
 -- project's profile.)
-use Rattle.std.specs.Prelude.{ℕ, zero, suc, ◌+◌, ◌==◌, Bool, true, false, ◌&&◌, List, [], ◌∷◌, ◌++◌, length}
+use Rattle.std.specs.Prelude.{ℕ, zero, suc, ◌+◌, ◌==◌, Bool, true, false, ◌&&◌, List, [], ◌∷◌, ◌++◌, length, ◌-◌}
 use Rattle.std.specs.Prelude.{slice_index, bytes_eq, Option}
 use Rattle.station_base.specs.CivilMinute.{CivilMinute}
 use Rattle.vantage_frames.specs.StampFrame.{stamp_frame_of}
 use Rattle.serial_link.specs.Talk.{message}
 use Rattle.serial_link.specs.declared.talk.TalkItem.{TalkItem}
 use Rattle.serial_link.specs.declared.talk.TalkItem.TheVariants.{Said, Heard, Quiet}
-use Rattle.wake_retry.specs.Parts.{ends_awake}
+use Rattle.wake_retry.specs.Parts.{ends_awake, flood_size, answer_waits, wake_tries, settled_waits}
 use Rattle.causes.specs.declared.stored.Stored.{Stored}
 use Rattle.causes.specs.declared.stored.Stored.TheVariants as stored
 use Rattle.vantage_frames.specs.Slots.{page_size}
@@ -65,23 +65,23 @@ words after (GivingUp place taken trouble) = 27 ∷ []
 
 -- so many quiet waits in a row end what a part hears
 abbrev pub quiets : Part → ℕ
-quiets Settling = 6
-quiets (Waking left) = 3
-quiets Calling = 3
-quiets Heading = 3
-quiets (Asking more place taken left b) = 3
-quiets (Resettling more place taken left b) = 6
-quiets (Acking place taken) = 3
-quiets (GivingUp place taken trouble) = 3
+quiets Settling = settled_waits
+quiets (Waking left) = answer_waits
+quiets Calling = answer_waits
+quiets Heading = answer_waits
+quiets (Asking more place taken left b) = answer_waits
+quiets (Resettling more place taken left b) = settled_waits
+quiets (Acking place taken) = answer_waits
+quiets (GivingUp place taken trouble) = answer_waits
 
 -- so many bytes do
 abbrev pub most : Part → ℕ
-most Settling = 65536
-most (Waking left) = 65536
+most Settling = flood_size
+most (Waking left) = flood_size
 most Calling = 1
 most Heading = 7
 most (Asking more place taken left b) = page_size
-most (Resettling more place taken left b) = 65536
+most (Resettling more place taken left b) = flood_size
 most (Acking place taken) = 1
 most (GivingUp place taken trouble) = 1
 
@@ -141,7 +141,7 @@ judged after more place taken left bytes false false = asked_again more place ta
 -- what follows a part that heard these bytes, and whether they are as many as it can hear; the last parts hear nothing
 abbrev pub next : Option CivilMinute → Part → Bool → List ℕ → Next
 next after Settling true bytes = Floods 0 []
-next after Settling false bytes = Goes (Waking 2)
+next after Settling false bytes = Goes (Waking (wake_tries - 1))
 next after (Waking left) true bytes = Floods 0 []
 next after (Waking left) false bytes = woken left (ends_awake bytes)
 next after Calling full bytes = called bytes (bytes_eq bytes (6 ∷ []))

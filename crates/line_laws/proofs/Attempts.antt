@@ -20,6 +20,7 @@ use Rattle.serial_link.specs.declared.talk.TalkItem.TheVariants.{Said, Heard, Qu
 use Rattle.line_laws.specs.Unharmed.{Rested}
 use Rattle.line_laws.specs.Host.{Listens, GathersPages}
 use Rattle.serial_link.specs.Talk.{message}
+use Rattle.wake_retry.specs.Parts.{settled_waits}
 use Rattle.station_sim.specs.Joining.{and_then_some, talks_part}
 use Rattle.station_sim.proofs.OneByOne.{tick_begins}
 use Rattle.line_laws.proofs.Flight.{flight_law}
@@ -149,13 +150,13 @@ module _ (f : Fates) (ok : AreSound f) (frame : List ℕ) (six : length frame �
   attempt_law talk place taken end w v sound calm (inr (inr (s, t, split, still, floods, none, is))) e un =
       let m = talks_part f s t w v (ap (λ x. console_talk f x w) (sym split) ∙ e) in
       let settled = flight_law f ok.mild s w m.0 calm still m.1 in
-      let b = listens_begun f s w m.0 (Still-listens 6 s still) m.1 in
+      let b = listens_begun f s w m.0 (Still-listens settled_waits s still) m.1 in
       absurd (wake_no_flood f ok 3 t m.0 v (record { flight = settled.0; begun = b.0 ∙ calm.begun; rests = settled.1; sound = sound_talk f ok s w m.0 m.1 sound }) floods m.2)
   attempt_law talk place taken end w v sound calm (inl (s, t, rest, awake, split, still, wakes, next)) e un =
       let m = talks_part f s (t ++ rest) w v (ap (λ x. console_talk f x w) (sym split) ∙ e) in
       let m2 = talks_part f t rest m.0 v m.2 in
       let settled = flight_law f ok.mild s w m.0 calm still m.1 in
-      let b = listens_begun f s w m.0 (Still-listens 6 s still) m.1 in
+      let b = listens_begun f s w m.0 (Still-listens settled_waits s still) m.1 in
       let woken = wakes_law f ok 3 t awake m.0 m2.0 (record { flight = settled.0; begun = b.0 ∙ calm.begun; rests = settled.1; sound = sound_talk f ok s w m.0 m.1 sound }) wakes m2.1 in
       elim next [
         | inl a ↦ (let q = asks_end rest place taken end m2.0 v woken.0 a.1 m2.2 un in (q.0, moved m2.0 w v place taken end (woken.1 ∙ b.1) q.1))
@@ -203,13 +204,13 @@ module _ (f : Fates) (ok : AreSound f) (frame : List ℕ) (six : length frame �
   attempt_dry talk place taken w v sound calm (inr (inr (s, t, split, still, floods, none, is))) e un =
       let m = talks_part f s t w v (ap (λ x. console_talk f x w) (sym split) ∙ e) in
       let settled = flight_law f ok.mild s w m.0 calm still m.1 in
-      let b = listens_begun f s w m.0 (Still-listens 6 s still) m.1 in
+      let b = listens_begun f s w m.0 (Still-listens settled_waits s still) m.1 in
       wake_no_flood f ok 3 t m.0 v (record { flight = settled.0; begun = b.0 ∙ calm.begun; rests = settled.1; sound = sound_talk f ok s w m.0 m.1 sound }) floods m.2
   attempt_dry talk place taken w v sound calm (inl (s, t, rest, awake, split, still, wakes, next)) e un =
       let m = talks_part f s (t ++ rest) w v (ap (λ x. console_talk f x w) (sym split) ∙ e) in
       let m2 = talks_part f t rest m.0 v m.2 in
       let settled = flight_law f ok.mild s w m.0 calm still m.1 in
-      let b = listens_begun f s w m.0 (Still-listens 6 s still) m.1 in
+      let b = listens_begun f s w m.0 (Still-listens settled_waits s still) m.1 in
       let woken = wakes_law f ok 3 t awake m.0 m2.0 (record { flight = settled.0; begun = b.0 ∙ calm.begun; rests = settled.1; sound = sound_talk f ok s w m.0 m.1 sound }) wakes m2.1 in
       elim next [
         | inl a ↦ asks_dry rest place taken m2.0 v woken.0 a.1 m2.2 un

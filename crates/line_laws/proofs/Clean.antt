@@ -16,7 +16,7 @@ use Rattle.station_sim.specs.Line.{Line, flies, happens, joins, replied, hears, 
 use Rattle.serial_link.specs.declared.talk.TalkItem.{TalkItem}
 use Rattle.station_sim.specs.Talk.{step, console_talk, waiting}
 use Rattle.station_sim.specs.Calm.{FewWaits}
-use Rattle.wake_retry.specs.Parts.{StillFrom, heard, IsFull, IsShort, Awaits}
+use Rattle.wake_retry.specs.Parts.{StillFrom, heard, IsFull, IsShort, Awaits, answer_waits}
 use Rattle.serial_link.specs.declared.talk.TalkItem.TheVariants.{Said, Heard, Quiet}
 use Rattle.station_sim.specs.Joining.{and_then_some}
 use Rattle.line_laws.proofs.Listening.{bytes_of}
@@ -130,7 +130,7 @@ steady_quiet g d hs s i (Wait ∷ l) f w u r c n e q =
     (l, inr e, sym (same_Some _ u q) ∙ ap (λ o. happens f o (flies w l)) k)
 steady_quiet g d hs s i (Byte x ∷ l) f w u r c n e q = absurd cc
 
-full_hears : (r : ℕ) (t : List TalkItem) → IsFull 3 r t → 1 ≤ length (heard t)
+full_hears : (r : ℕ) (t : List TalkItem) → IsFull answer_waits r t → 1 ≤ length (heard t)
 full_hears r [] s = absurd s
 full_hears r (Said b ends ∷ t) s = absurd s
 full_hears r (Heard b ∷ []) s = omega arith
@@ -165,7 +165,7 @@ module _ (g : List (List ℕ)) (d : Store) (hs : List (List ℕ)) (s : State) (r
   here i n w v c e = subst (λ x. Stayed g d hs s i n w [] x) e (record { console = c ∙ ap (at_state g d hs s) (let z : i ≡ i + 0 = omega arith in z); quiet = omega arith; bytes = refl; begun = refl; dumps = refl })
 
   -- as many bytes as are in flight at least
-  pub steady_full : (t : List TalkItem) (r i : ℕ) (w v : Line) → IsFull 3 r t → w.console ≡ at_state g d hs s i → i + waits_of w.flight < 31 → length (heard t) ≤ length (bytes_of w.flight) → console_talk f t w ≡ Some v → Stayed g d hs s i (waits_of w.flight) w t v
+  pub steady_full : (t : List TalkItem) (r i : ℕ) (w v : Line) → IsFull answer_waits r t → w.console ≡ at_state g d hs s i → i + waits_of w.flight < 31 → length (heard t) ≤ length (bytes_of w.flight) → console_talk f t w ≡ Some v → Stayed g d hs s i (waits_of w.flight) w t v
   steady_full [] r i w v a c n b e = absurd a
   steady_full (Said x ends ∷ t) r i w v a c n b e = absurd a
   steady_full (Heard x ∷ []) r i w v a c n b e =
@@ -257,7 +257,7 @@ flight_joins Page f o w = (_, refl)
 flight_joins Packet f o w = (_, refl)
 
 -- with n bytes to come no answer is shorter
-pub short_none : (f : Fates) (t : List TalkItem) (n k r : ℕ) (w v : Line) → IsShort 3 r t → length (heard t) < n → Ample n k w.flight → k + r ≤ 2 → console_talk f t w ≡ Some v → ⊥
+pub short_none : (f : Fates) (t : List TalkItem) (n k r : ℕ) (w v : Line) → IsShort answer_waits r t → length (heard t) < n → Ample n k w.flight → k + r ≤ 2 → console_talk f t w ≡ Some v → ⊥
 short_none f [] n k r w v a l m b e = omega arith
 short_none f (Said x ends ∷ t) n k r w v a l m b e = a
 short_none f (Heard x ∷ t) zero k r w v a l m b e = omega arith
@@ -279,6 +279,6 @@ short_none f (Quiet ∷ t) (suc n) k r w v a l m b e =
     ]
 
 -- what is awaited comes whole
-pub awaits_full : (f : Fates) (t : List TalkItem) (n : ℕ) (w v : Line) → Awaits 3 n t → FewWaits 2 2 w.flight → n ≤ length (bytes_of w.flight) → console_talk f t w ≡ Some v → IsFull 3 0 t × (length (heard t) ≡ n)
+pub awaits_full : (f : Fates) (t : List TalkItem) (n : ℕ) (w v : Line) → Awaits answer_waits n t → FewWaits 2 2 w.flight → n ≤ length (bytes_of w.flight) → console_talk f t w ≡ Some v → IsFull answer_waits 0 t × (length (heard t) ≡ n)
 awaits_full f t n w v (inl a) few m e = a
 awaits_full f t n w v (inr a) few m e = absurd (short_none f t n 2 0 w v a.0 a.1 (few_ample n 2 w.flight few m) (omega arith) e)

@@ -19,7 +19,7 @@ use Rattle.serial_link.specs.declared.talk.TalkItem.{TalkItem}
 use Rattle.station_sim.specs.Talk.{step, console_talk}
 use Rattle.station_sim.specs.Calm.{FewWaits, IsCalm, mids_count}
 use Rattle.serial_link.specs.declared.talk.TalkItem.TheVariants.{Said, Heard, Quiet}
-use Rattle.wake_retry.specs.Parts.{heard, Awaits}
+use Rattle.wake_retry.specs.Parts.{heard, Awaits, answer_waits, settled_waits}
 use Rattle.line_laws.specs.Host.{Listens, Near}
 use Rattle.console_model.specs.Valid.{IsTidy}
 use Rattle.serial_link.specs.Talk.{message}
@@ -163,7 +163,7 @@ module _ (frame : List ℕ) (good : is_good frame ≡ true) (f : Fates) (ok : Ar
   start_dump g d p true rs c e l z = absurd cc
   start_dump g d p false rs c e l z = subst (Held p 0 g d 0 (0 + length rs)) (sym e) (due_dump rs p 0 g d 0 [] (omega arith))
 
-  pub header_law : (t : List TalkItem) (w u v : Line) → length frame ≡ 6 → (a : Waiting w u) → AreRecords a.history → Awaits 3 7 t → console_talk f (message frame ++ t) u ≡ Some v → v.harmed ≡ u.harmed →
+  pub header_law : (t : List TalkItem) (w u v : Line) → length frame ≡ 6 → (a : Waiting w u) → AreRecords a.history → Awaits answer_waits 7 t → console_talk f (message frame ++ t) u ≡ Some v → v.harmed ≡ u.harmed →
       (heard t ≡ 6 ∷ header_of (plan_after a.history frame)) × ((0 < (plan_after a.history frame).pages) → InDump f a.history (plan_after a.history frame) 0 v)
   header_law t w u v six a records awaits e h =
       let g = a.history in
@@ -241,7 +241,7 @@ module _ (frame : List ℕ) (good : is_good frame ≡ true) (f : Fates) (ok : Ar
   clean_law talk place taken end w v six sound calm (inr (inr (s, t, split, still, floods, none, is))) e h =
       let m = talks_part f s t w v (ap (λ x. console_talk f x w) (sym split) ∙ e) in
       let settled = flight_law f ok.mild s w m.0 calm still m.1 in
-      let b = listens_begun f s w m.0 (Still-listens 6 s still) m.1 in
+      let b = listens_begun f s w m.0 (Still-listens settled_waits s still) m.1 in
       absurd (wake_no_flood f ok 3 t m.0 v (record { flight = settled.0; begun = b.0 ∙ calm.begun; rests = settled.1; sound = sound_talk f ok s w m.0 m.1 sound }) floods m.2)
   clean_law talk place taken end w v six sound calm (inl (s, t, rest, awake, split, still, wakes, next)) e h =
       let m = talks_part f s (t ++ rest) w v (ap (λ x. console_talk f x w) (sym split) ∙ e) in
@@ -250,8 +250,8 @@ module _ (frame : List ℕ) (good : is_good frame ≡ true) (f : Fates) (ok : Ar
       let h2 = goes_harmed f t m.0 m2.0 m2.1 in
       let h3 = goes_harmed f rest m2.0 v m2.2 in
       let settled = flight_law f ok.mild s w m.0 calm still m.1 in
-      let b = listens_begun f s w m.0 (Still-listens 6 s still) m.1 in
-      let y = listens_tidy f s w m.0 (Still-listens 6 s still) sound.valid.tidy m.1 in
+      let b = listens_begun f s w m.0 (Still-listens settled_waits s still) m.1 in
+      let y = listens_tidy f s w m.0 (Still-listens settled_waits s still) sound.valid.tidy m.1 in
       let q = wake_law f ok.mild t awake m.0 m2.0 settled.0 (b.0 ∙ calm.begun) settled.1 y wakes m2.1 (omega (arith, h, h1, h2, h3)) in
       elim next [
         | inl a ↦ asks_clean 5 rest place taken end m.0 m2.0 v six (sound_talk f ok t m.0 m2.0 m2.1 (sound_talk f ok s w m.0 m.1 sound)) q.1 a.1 m2.2 (omega (arith, h, h1, h2, h3))

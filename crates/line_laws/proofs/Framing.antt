@@ -17,7 +17,7 @@ use Rattle.serial_link.specs.declared.talk.TalkItem.{TalkItem}
 use Rattle.station_sim.specs.Talk.{step, console_talk, hearing, waiting}
 use Rattle.station_sim.specs.Calm.{FewWaits, AreMild}
 use Rattle.serial_link.specs.declared.talk.TalkItem.TheVariants.{Said, Heard, Quiet}
-use Rattle.wake_retry.specs.Parts.{heard, IsFull, IsShort}
+use Rattle.wake_retry.specs.Parts.{heard, IsFull, IsShort, answer_waits}
 use Rattle.station_sim.proofs.Calming.{closed_late, few_late}
 use Rattle.line_laws.specs.Host.{Listens}
 use Rattle.station_sim.specs.Joining.{and_then_some}
@@ -32,30 +32,30 @@ quiets (Said b ends ∷ t) = quiets t
 quiets (Heard b ∷ t) = quiets t
 quiets (Quiet ∷ t) = quiets t + 1
 
-short_from : (r : ℕ) (t : List TalkItem) → IsShort 3 r t → 3 ≤ r + quiets t
+short_from : (r : ℕ) (t : List TalkItem) → IsShort answer_waits r t → 3 ≤ r + quiets t
 short_from r [] s = omega arith
 short_from r (Said b ends ∷ t) s = absurd s
 short_from r (Heard b ∷ t) s = omega (arith, short_from 0 t s.1)
 short_from r (Quiet ∷ t) s = omega (arith, short_from (r + 1) t s.1)
 
-pub short_quiets : (t : List TalkItem) → IsShort 3 0 t → 3 ≤ quiets t
+pub short_quiets : (t : List TalkItem) → IsShort answer_waits 0 t → 3 ≤ quiets t
 short_quiets t s = omega (arith, short_from 0 t s)
 
-full_hears : (r : ℕ) (t : List TalkItem) → IsFull 3 r t → 1 ≤ length (heard t)
+full_hears : (r : ℕ) (t : List TalkItem) → IsFull answer_waits r t → 1 ≤ length (heard t)
 full_hears r [] s = absurd s
 full_hears r (Said b ends ∷ t) s = absurd s
 full_hears r (Heard b ∷ []) s = omega arith
 full_hears r (Heard b ∷ i ∷ t) s = omega arith
 full_hears r (Quiet ∷ t) s = full_hears (r + 1) t s.1
 
-full_from : (r : ℕ) (t : List TalkItem) → r ≤ 2 → IsFull 3 r t → length (heard t) ≡ 1 → r + quiets t ≤ 2
+full_from : (r : ℕ) (t : List TalkItem) → r ≤ 2 → IsFull answer_waits r t → length (heard t) ≡ 1 → r + quiets t ≤ 2
 full_from r [] a s l = absurd s
 full_from r (Said b ends ∷ t) a s l = absurd s
 full_from r (Heard b ∷ []) a s l = omega arith
 full_from r (Heard b ∷ i ∷ t) a s l = absurd (omega (arith, full_hears 0 (i ∷ t) s))
 full_from r (Quiet ∷ t) a s l = omega (arith, full_from (r + 1) t (omega (arith, s.0)) s.1 l)
 
-pub full_quiets : (t : List TalkItem) → IsFull 3 0 t → length (heard t) ≡ 1 → quiets t ≤ 2
+pub full_quiets : (t : List TalkItem) → IsFull answer_waits 0 t → length (heard t) ≡ 1 → quiets t ≤ 2
 full_quiets t s l = omega (arith, full_from 0 t (omega arith) s l)
 
 -- what a byte that is heard, and a wait, make of the line

@@ -21,7 +21,7 @@ use Rattle.station_sim.specs.Line.{Line, happens, replied, hears, completes, is_
 use Rattle.serial_link.specs.declared.talk.TalkItem.{TalkItem}
 use Rattle.station_sim.specs.Talk.{console_talk}
 use Rattle.station_sim.specs.Calm.{FewWaits, Rests, AreMild}
-use Rattle.wake_retry.specs.Parts.{heard, Awaits}
+use Rattle.wake_retry.specs.Parts.{heard, Awaits, answer_waits}
 use Rattle.station_sim.proofs.Calming.{closed_late, few_late}
 use Rattle.line_laws.specs.Host.{Listens, Near, Ready}
 use Rattle.serial_link.specs.Talk.{message}
@@ -280,12 +280,12 @@ headed_on g records rises frame f t w u v s k e un =
           );
     }
 
-unheaded_on : (f : Fates) → AreMild f → (t : List TalkItem) (w u v : Line) → Awaits 3 7 t → Unheaded w u → console_talk f t u ≡ Some v → Strayed w v × ((n k : ℕ) → IsHeader (heard t) n k → ⊥)
+unheaded_on : (f : Fates) → AreMild f → (t : List TalkItem) (w u v : Line) → Awaits answer_waits 7 t → Unheaded w u → console_talk f t u ≡ Some v → Strayed w v × ((n k : ℕ) → IsHeader (heard t) n k → ⊥)
 unheaded_on f mild t w u v awaits (inl (got, g, d, hs, i, soon, console, flight, begun, dumps)) e =
     let k = frame_listens [] no_plan 0 0 got g d hs f mild t 0 i u v (awaits_listens 7 t awaits) (record { console = console; soon = soon; few = rw flight tt; closed = rw flight tt; size = rw flight (omega arith) }) e in
     go k awaits
   where
-    go : StillFramed got g d hs i u t v ⊎ Unframed [] no_plan 0 0 0 i u t v → Awaits 3 7 t → Strayed w v × ((n k : ℕ) → IsHeader (heard t) n k → ⊥)
+    go : StillFramed got g d hs i u t v ⊎ Unframed [] no_plan 0 0 0 i u t v → Awaits answer_waits 7 t → Strayed w v × ((n k : ℕ) → IsHeader (heard t) n k → ⊥)
     go (inl q) (inl a) = absurd (omega (arith, a.1, ap length (sym (ap bytes_of flight) ∙ q.bytes), length-append (heard t) (bytes_of v.flight)))
     go (inl q) (inr a) = absurd (omega (arith, q.soon, short_quiets t a.0))
     go (inr q) a = (unframed_strayed w u v t 0 i (omega arith) begun dumps q, λ n j h. omega (arith, q.heard, (header_parts (heard t) n j h).0))
@@ -295,7 +295,7 @@ unheaded_on f mild t w u v awaits (inr (k, size)) e =
     (strayed_on f t w u v s k e, λ n j h. omega (arith, size, (header_parts (heard t) n j h).0, ap length l.bytes, length-append (heard t) (bytes_of v.flight)))
 
 -- the stamp frame and the answer to it
-pub heads_law : (f : Fates) → AreMild f → (frame : List ℕ) (t : List TalkItem) (w u v : Line) → length frame ≡ 6 → Awaiting [] w u → Awaits 3 7 t → console_talk f (message frame ++ t) u ≡ Some v → v.unseen ≡ None →
+pub heads_law : (f : Fates) → AreMild f → (frame : List ℕ) (t : List TalkItem) (w u v : Line) → length frame ≡ 6 → Awaiting [] w u → Awaits answer_waits 7 t → console_talk f (message frame ++ t) u ≡ Some v → v.unseen ≡ None →
     ((g : List (List ℕ)) × Begins g frame w t v) ⊎ (Strayed w v × ((n k : ℕ) → IsHeader (heard t) n k → ⊥))
 heads_law f mild frame t w u v six k awaits e un =
     let m = u.begun ++ frame in

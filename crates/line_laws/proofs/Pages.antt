@@ -13,7 +13,7 @@ use Rattle.station_sim.specs.Line.{Line, counted, says, flies}
 use Rattle.serial_link.specs.declared.talk.TalkItem.{TalkItem}
 use Rattle.station_sim.specs.Talk.{step, console_talk}
 use Rattle.station_sim.specs.Calm.{FewWaits, Rests, AreMild, IsCalm}
-use Rattle.wake_retry.specs.Parts.{Still, heard, IsFull, IsShort, Awaits}
+use Rattle.wake_retry.specs.Parts.{Still, heard, IsFull, IsShort, Awaits, settled_waits, answer_waits}
 use Rattle.serial_link.specs.declared.talk.TalkItem.TheVariants.{Said, Heard, Quiet}
 use Rattle.line_laws.specs.Host.{Listens, Near, Ready, HasSequence, ArePages}
 use Rattle.dmpaft_pump.specs.declared.outcome.Trouble.{Trouble}
@@ -44,20 +44,20 @@ goes_unseen f (Quiet ∷ t) w v e u =
     let q = waiting_is w.flight f w g.0 refl g.1 in
     happens_unseen (tick w.console).kind f (tick w.console) (flies w q.0) (ap (λ x. x.unseen) (sym q.2) ∙ goes_unseen f t g.0 v g.2 u)
 
-full_listens : (r : ℕ) (t : List TalkItem) → IsFull 3 r t → Listens t
+full_listens : (r : ℕ) (t : List TalkItem) → IsFull answer_waits r t → Listens t
 full_listens r [] s = tt
 full_listens r (Said b ends ∷ t) s = s
 full_listens r (Heard b ∷ []) s = tt
 full_listens r (Heard b ∷ i ∷ t) s = full_listens 0 (i ∷ t) s
 full_listens r (Quiet ∷ t) s = full_listens (r + 1) t s.1
 
-short_listens : (r : ℕ) (t : List TalkItem) → IsShort 3 r t → Listens t
+short_listens : (r : ℕ) (t : List TalkItem) → IsShort answer_waits r t → Listens t
 short_listens r [] s = tt
 short_listens r (Said b ends ∷ t) s = s
 short_listens r (Heard b ∷ t) s = short_listens 0 t s.1
 short_listens r (Quiet ∷ t) s = short_listens (r + 1) t s.1
 
-pub awaits_listens : (n : ℕ) (t : List TalkItem) → Awaits 3 n t → Listens t
+pub awaits_listens : (n : ℕ) (t : List TalkItem) → Awaits answer_waits n t → Listens t
 awaits_listens n t (inl a) = full_listens 0 t a.0
 awaits_listens n t (inr a) = short_listens 0 t a.0
 
@@ -102,7 +102,7 @@ near_moved : (h : List (List ℕ)) (p : Plan) (low a b : ℕ) → a ≡ b → (c
 near_moved h p low a b e c n = subst (λ x. Near h p low x c) e n
 
 module _ (h : List (List ℕ)) (p : Plan) (f : Fates) (mild : AreMild f) where
-  pub asked_again : (k j : ℕ) (s : List TalkItem) (w u v : Line) (t : List TalkItem) → AskedFor h p k j w t u → Still 6 s → console_talk f s u ≡ Some v → Ready h p k (j + 1) v × (v.dumps ≡ w.dumps)
+  pub asked_again : (k j : ℕ) (s : List TalkItem) (w u v : Line) (t : List TalkItem) → AskedFor h p k j w t u → Still settled_waits s → console_talk f s u ≡ Some v → Ready h p k (j + 1) v × (v.dumps ≡ w.dumps)
   asked_again k j s w u v t a still e =
       let z = settles h p k (k + j + 1) 6 f s u v (omega arith) still a.near a.calm.waits e in
       (record { flight = z.flight; begun = z.begun ∙ a.begun; near = near_moved h p k (k + j + 1) (k + (j + 1)) (omega arith) v.console z.near; rests = z.rests }, z.dumps ∙ a.dumps)
@@ -138,7 +138,7 @@ module _ (h : List (List ℕ)) (p : Plan) (f : Fates) (mild : AreMild f) where
       in_flight (inr (m, lo, hi, z, r, n, g)) = n
 
   -- the last asking for a page, and the host gives up
-  missed_law : (k j b : ℕ) (talk t rest : List TalkItem) (w v : Line) → j ≤ 3 → talk ≡ Said b true ∷ t ++ rest → Awaits 3 page_size t → rest ≡ [] → Ready h p k j w → console_talk f (talk ++ esc) w ≡ Some v → v.unseen ≡ None → IsCalm v × (v.dumps ≡ w.dumps)
+  missed_law : (k j b : ℕ) (talk t rest : List TalkItem) (w v : Line) → j ≤ 3 → talk ≡ Said b true ∷ t ++ rest → Awaits answer_waits page_size t → rest ≡ [] → Ready h p k j w → console_talk f (talk ++ esc) w ≡ Some v → v.unseen ≡ None → IsCalm v × (v.dumps ≡ w.dumps)
   missed_law k j b talk t rest w v n split awaits none r e u =
       let m = talks_part f (Said b true ∷ t) esc w v (ap (λ x. console_talk f (x ++ esc) w) (let z : Said b true ∷ t ≡ talk = rw (split, none) (sym (append-nil (Said b true ∷ t))) in z) ∙ e) in
       let a = asking h p k j f mild t (awaits_listens page_size t awaits) w m.0 b r n m.1 in

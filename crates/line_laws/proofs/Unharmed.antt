@@ -24,7 +24,7 @@ use Rattle.station_sim.specs.Line.{Line, flies, joins, happens, replied, unanswe
 use Rattle.serial_link.specs.declared.talk.TalkItem.{TalkItem}
 use Rattle.station_sim.specs.Talk.{step, console_talk}
 use Rattle.station_sim.specs.Calm.{FewWaits, Rests, AreMild}
-use Rattle.wake_retry.specs.Parts.{Still, heard, Wakes, Awaits, ends_awake}
+use Rattle.wake_retry.specs.Parts.{Still, heard, Wakes, Awaits, ends_awake, answer_waits, wake_tries}
 use Rattle.serial_link.specs.declared.talk.TalkItem.TheVariants.{Said, Heard, Quiet}
 use Rattle.station_sim.proofs.Calming.{closed_late, few_late}
 use Rattle.line_laws.specs.Host.{Listens, Near}
@@ -153,7 +153,7 @@ whole_of xs a b e l =
     (sym (e ∙ ap (λ x. a ++ x) z ∙ append-nil a), z)
 
 -- one LF and its settling
-woken : (f : Fates) → AreMild f → (s : List TalkItem) (w v : Line) → w.flight ≡ [] → w.begun ≡ [] → Rests w.console.state → IsTidy w.console.state w.console.held → Still 3 s → console_talk f (Said 10 true ∷ s) w ≡ Some v → v.harmed ≡ w.harmed →
+woken : (f : Fates) → AreMild f → (s : List TalkItem) (w v : Line) → w.flight ≡ [] → w.begun ≡ [] → Rests w.console.state → IsTidy w.console.state w.console.held → Still answer_waits s → console_talk f (Said 10 true ∷ s) w ≡ Some v → v.harmed ≡ w.harmed →
     Awake 5 w v × ((w.console.state ≡ Asleep) ⊎ (ends_awake (heard s) ≡ true))
 woken f mild s w v fl bg rests tidy still e h =
     let m = w.begun ++ 10 ∷ [] in
@@ -168,7 +168,7 @@ woken f mild s w v fl bg rests tidy still e h =
       ],
     )
 
-woken_again : (f : Fates) → AreMild f → (n : ℕ) (s : List TalkItem) (w u v : Line) → Awake n w u → Still 3 s → console_talk f (Said 10 true ∷ s) u ≡ Some v → v.harmed ≡ u.harmed → Awake 5 w v × (ends_awake (heard s) ≡ true)
+woken_again : (f : Fates) → AreMild f → (n : ℕ) (s : List TalkItem) (w u v : Line) → Awake n w u → Still answer_waits s → console_talk f (Said 10 true ∷ s) u ≡ Some v → v.harmed ≡ u.harmed → Awake 5 w v × (ends_awake (heard s) ≡ true)
 woken_again f mild n s w u v a still e h =
     let r = woken f mild s u v a.flight a.begun (subst (λ c. Rests c.state) (sym a.console) refl) (subst (λ c. IsTidy c.state c.held) (sym a.console) refl) still e h in
     let k = r.0 in (
@@ -190,7 +190,7 @@ feeds_more (Dump p sent) t x = x
 feeds_more (Looping left) t x = x
 
 -- the wake law: one line feed, or two where the console is asleep
-pub wake_law : (f : Fates) → AreMild f → (t : List TalkItem) (awake : Bool) (w v : Line) → w.flight ≡ [] → w.begun ≡ [] → Rests w.console.state → IsTidy w.console.state w.console.held → Wakes 3 t awake → console_talk f t w ≡ Some v → v.harmed ≡ w.harmed →
+pub wake_law : (f : Fates) → AreMild f → (t : List TalkItem) (awake : Bool) (w v : Line) → w.flight ≡ [] → w.begun ≡ [] → Rests w.console.state → IsTidy w.console.state w.console.held → Wakes wake_tries t awake → console_talk f t w ≡ Some v → v.harmed ≡ w.harmed →
     Wakes (feeds_for w.console.state) t true × Awake 5 w v × (awake ≡ true)
 wake_law f mild t awake w v fl bg r y (s, rest, split, still, inl (x, none, is)) e h =
     let q : Said 10 true ∷ s ≡ t = rw (split, none) (sym (append-nil (Said 10 true ∷ s))) in
@@ -221,7 +221,7 @@ call_by f w g d i =
     let c = at_state g d [] (Command (68 ∷ 77 ∷ 80 ∷ 65 ∷ 70 ∷ 84 ∷ [])) 0 in
     ap (λ o. happens f (at_line o c) (record w { console = c })) read_dump_after
 
-pub call_law : (f : Fates) → AreMild f → (n : ℕ) (t : List TalkItem) (w u v : Line) → Awake n w u → Awaits 3 1 t → console_talk f (message dmpaft ++ t) u ≡ Some v → v.harmed ≡ u.harmed → Waiting w v × (heard t ≡ 6 ∷ [])
+pub call_law : (f : Fates) → AreMild f → (n : ℕ) (t : List TalkItem) (w u v : Line) → Awake n w u → Awaits answer_waits 1 t → console_talk f (message dmpaft ++ t) u ≡ Some v → v.harmed ≡ u.harmed → Waiting w v × (heard t ≡ 6 ∷ [])
 call_law f mild n t w u v a awaits e h =
     let m = u.begun ++ dmpaft in
     let is : m ≡ dmpaft = ap (λ x. x ++ dmpaft) a.begun in
@@ -310,7 +310,7 @@ next_page f w g d i hs p k e =
     let c = at_state g d hs (Dump p k) i in
     ap (λ t. happens f (if t then says Page (page_of g p k) (at_state g d hs (Dump p (k + 1)) 0) else silent (to (ended c) (Command []))) (record w { console = c })) e
 
-pub page_law : (f : Fates) → AreMild f → (g : List (List ℕ)) (p : Plan) (k : ℕ) (t : List TalkItem) (w v : Line) → k < p.pages → InDump f g p k w → Awaits 3 page_size t → console_talk f (Said 6 true ∷ t) w ≡ Some v → v.harmed ≡ w.harmed →
+pub page_law : (f : Fates) → AreMild f → (g : List (List ℕ)) (p : Plan) (k : ℕ) (t : List TalkItem) (w v : Line) → k < p.pages → InDump f g p k w → Awaits answer_waits page_size t → console_talk f (Said 6 true ∷ t) w ≡ Some v → v.harmed ≡ w.harmed →
     (heard t ≡ page_of g p k) × InDump f g p (k + 1) v
 page_law f mild g p k t w v below a awaits e h =
     let m = w.begun ++ 6 ∷ [] in

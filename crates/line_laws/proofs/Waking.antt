@@ -23,7 +23,7 @@ use Rattle.console_model.specs.Valid.{EachFollows}
 use Rattle.console_ring.specs.Picture.{no_plan}
 use Rattle.station_base.specs.CivilMinute.{CivilMinute}
 use Rattle.vantage_frames.specs.Slots.{page_size}
-use Rattle.wake_retry.specs.Parts.{Still, heard, WakeFloods, Wakes, Awaits}
+use Rattle.wake_retry.specs.Parts.{Still, heard, WakeFloods, Wakes, Awaits, answer_waits}
 use Rattle.serial_link.specs.declared.talk.TalkItem.TheVariants.{Said}
 use Rattle.station_sim.proofs.Calming.{closed_late, few_late}
 use Rattle.line_laws.specs.Host.{Listens, Near, NearAt}
@@ -78,7 +78,7 @@ pub near_itself : (c : Console) → Rests c.state → AreRecords c.history → N
 near_itself c r ok = near_own c.state c.idle c.history r ok
 
 -- one LF and its settling
-pub woken : (f : Fates) → AreSound f → (s : List TalkItem) (w v : Line) → Rested w → Still 3 s → console_talk f (Said 10 true ∷ s) w ≡ Some v → Rested v × (v.dumps ≡ w.dumps)
+pub woken : (f : Fates) → AreSound f → (s : List TalkItem) (w v : Line) → Rested w → Still answer_waits s → console_talk f (Said 10 true ∷ s) w ≡ Some v → Rested v × (v.dumps ≡ w.dumps)
 woken f ok s w v r still e =
     let h = w.console.history in
     let p = own_plan w.console.state in
@@ -254,7 +254,7 @@ no_ack_heard f t w u v s k e b is =
 pub unframed_strayed : (w u v : Line) (t : List TalkItem) (n i : ℕ) → n ≤ 4000 → u.begun ≡ [] → u.dumps ≡ w.dumps → Unframed [] no_plan 0 0 n i u t v → Strayed w v
 unframed_strayed w u v t n i a b d k = record { history = []; plan = no_plan; low = 0; high = 0; tame = tame_more [] no_plan 0 0 (n + 1) 5000 v (omega arith) k.tame; begun = k.begun ∙ b; dumps = k.dumps ∙ d }
 
-called_on : (t : List TalkItem) (w u v : Line) (k : Called w u) → IsSound v → Awaits 3 1 t → StillFramed [] k.history k.store k.held 0 u t v ⊎ Unframed [] no_plan 0 0 1 0 u t v → Awaiting [] w v ⊎ (Strayed w v × ¬ (heard t ≡ 6 ∷ []))
+called_on : (t : List TalkItem) (w u v : Line) (k : Called w u) → IsSound v → Awaits answer_waits 1 t → StillFramed [] k.history k.store k.held 0 u t v ⊎ Unframed [] no_plan 0 0 1 0 u t v → Awaiting [] w v ⊎ (Strayed w v × ¬ (heard t ≡ 6 ∷ []))
 called_on t w u v k sound (inl (full, one)) (inl q) = inl (record {
   history = k.history;
   store = k.store;
@@ -273,7 +273,7 @@ called_on t w u v k sound (inr (short, none)) (inl q) = absurd (omega (arith, q.
 called_on t w u v k sound (inr (short, none)) (inr q) = inr (unframed_strayed w u v t 1 0 (omega arith) k.begun k.dumps q, λ is. omega (arith, none, ap length is))
 
 -- DMPAFT and the one byte after it: the console awaits a frame, or no 0x06 was heard
-pub asks_law : (f : Fates) → AreSound f → (t : List TalkItem) (w v : Line) → Rested w → Awaits 3 1 t → console_talk f (message dmpaft ++ t) w ≡ Some v → v.unseen ≡ None →
+pub asks_law : (f : Fates) → AreSound f → (t : List TalkItem) (w v : Line) → Rested w → Awaits answer_waits 1 t → console_talk f (message dmpaft ++ t) w ≡ Some v → v.unseen ≡ None →
     Awaiting [] w v ⊎ (Strayed w v × ¬ (heard t ≡ 6 ∷ []))
 asks_law f ok t w v r awaits e u =
     let m = w.begun ++ dmpaft in

@@ -25,7 +25,7 @@ use Rattle.station_sim.specs.Talk.{console_talk, step, and_then}
 use Rattle.station_sim.specs.Sound.{IsSound, AreSound}
 use Rattle.station_sim.proofs.Sounding.{sound_talk}
 use Rattle.station_sim.specs.Calm.{Rests, IsCalm}
-use Rattle.wake_retry.specs.Parts.{IsFull, heard, Wakes}
+use Rattle.wake_retry.specs.Parts.{IsFull, heard, Wakes, answer_waits, settled_waits}
 use Rattle.serial_link.specs.declared.talk.TalkItem.TheVariants.{Said, Heard, Quiet}
 use Rattle.line_laws.specs.Unharmed.{Rested}
 use Rattle.line_laws.specs.Host.{Listens}
@@ -99,14 +99,14 @@ takes_plain : (left k b : ℕ) (talk : List TalkItem) (bytes : List ℕ) → not
 takes_plain zero k b talk bytes n x = absurd x
 takes_plain (suc left) k b talk bytes n (t, rest, split, awaits, inl (page, none, is)) = plain_said b t rest talk split n (awaits_listens page_size t awaits) (rw none tt)
 takes_plain (suc left) k b talk bytes n (t, rest, split, awaits, inr (page, ahead, (s, more, split2, still, again))) =
-    plain_said b t rest talk split n (awaits_listens page_size t awaits) (subst IsPlain (sym split2) (plain_join s more (plain_listens s (Still-listens 6 s still)) (takes_plain left k (next_said k (heard t)) more bytes (said_next k (heard t)) again)))
+    plain_said b t rest talk split n (awaits_listens page_size t awaits) (subst IsPlain (sym split2) (plain_join s more (plain_listens s (Still-listens settled_waits s still)) (takes_plain left k (next_said k (heard t)) more bytes (said_next k (heard t)) again)))
 
 misses_plain : (left k b : ℕ) (talk : List TalkItem) (trouble : Trouble) → not_lf (signal b) ≡ true → Misses left k b talk trouble → IsPlain talk
 misses_plain zero k b talk trouble n x = absurd x
 misses_plain (suc left) k b talk trouble n (t, rest, split, awaits, page, inl (ahead, none, is)) = plain_said b t rest talk split n (awaits_listens page_size t awaits) (rw none tt)
 misses_plain (suc left) k b talk trouble n (t, rest, split, awaits, page, inr (inl (ahead, last, none, is))) = plain_said b t rest talk split n (awaits_listens page_size t awaits) (rw none tt)
 misses_plain (suc left) k b talk trouble n (t, rest, split, awaits, page, inr (inr (ahead, (s, more, split2, still, again)))) =
-    plain_said b t rest talk split n (awaits_listens page_size t awaits) (subst IsPlain (sym split2) (plain_join s more (plain_listens s (Still-listens 6 s still)) (misses_plain left k (next_said k (heard t)) more trouble (said_next k (heard t)) again)))
+    plain_said b t rest talk split n (awaits_listens page_size t awaits) (subst IsPlain (sym split2) (plain_join s more (plain_listens s (Still-listens settled_waits s still)) (misses_plain left k (next_said k (heard t)) more trouble (said_next k (heard t)) again)))
 
 flood_plain : (q r : ℕ) (t : List TalkItem) → IsFull q r t → IsPlain t
 flood_plain q r [] s = absurd s
@@ -117,9 +117,9 @@ flood_plain q r (Quiet ∷ t) s = flood_plain q (r + 1) t s.1
 
 floods_plain : (left k b : ℕ) (talk : List TalkItem) → not_lf (signal b) ≡ true → AskFloods left k b talk → IsPlain talk
 floods_plain zero k b talk n x = absurd x
-floods_plain (suc left) k b talk n (t, rest, split, awaits, page, ahead, inl flood) = plain_said b t rest talk split n (awaits_listens page_size t awaits) (flood_plain 6 0 rest flood.1.0)
+floods_plain (suc left) k b talk n (t, rest, split, awaits, page, ahead, inl flood) = plain_said b t rest talk split n (awaits_listens page_size t awaits) (flood_plain settled_waits 0 rest flood.1.0)
 floods_plain (suc left) k b talk n (t, rest, split, awaits, page, ahead, inr (s, more, split2, still, again)) =
-    plain_said b t rest talk split n (awaits_listens page_size t awaits) (subst IsPlain (sym split2) (plain_join s more (plain_listens s (Still-listens 6 s still)) (floods_plain left k (next_said k (heard t)) more (said_next k (heard t)) again)))
+    plain_said b t rest talk split n (awaits_listens page_size t awaits) (subst IsPlain (sym split2) (plain_join s more (plain_listens s (Still-listens settled_waits s still)) (floods_plain left k (next_said k (heard t)) more (said_next k (heard t)) again)))
 
 last_plain : (k : ℕ) → IsPlain (last_said k)
 last_plain zero = tt
@@ -203,10 +203,10 @@ module _ (f : Fates) (ok : AreSound f) (left : ℕ → List (List ℕ)) (falls :
   now_wakes zero t awake w v r (none, is) n e u = subst (Now left all) (same_Some w v (ap (λ x. console_talk f x w) (sym none) ∙ e)) n
   now_wakes (suc tries) t awake w v r (s, rest, split, still, inl (x, none, y)) n e u =
       let is : Said 10 true ∷ s ≡ t = rw (split, none) (sym (append-nil (Said 10 true ∷ s))) in
-      now_woken s w v r (Still-listens 3 s still) n (ap (λ x. console_talk f x w) is ∙ e) u
+      now_woken s w v r (Still-listens answer_waits s still) n (ap (λ x. console_talk f x w) is ∙ e) u
   now_wakes (suc tries) t awake w v r (s, rest, split, still, inr (x, again)) n e u =
       let m = talks_part f (Said 10 true ∷ s) rest w v (ap (λ x. console_talk f x w) (sym split) ∙ e) in
-      let a = now_woken s w m.0 r (Still-listens 3 s still) n m.1 (goes_unseen f rest m.0 v m.2 u) in
+      let a = now_woken s w m.0 r (Still-listens answer_waits s still) n m.1 (goes_unseen f rest m.0 v m.2 u) in
       now_wakes tries rest awake m.0 v (woken f ok s w m.0 r still m.1).0 again a m.2 u
 
   -- what is said of a whole message and the listening after it
@@ -251,15 +251,15 @@ module _ (f : Fates) (ok : AreSound f) (left : ℕ → List (List ℕ)) (falls :
   now_attempt frame talk place taken end w v six sound calm (inr (inr (s, t, split, still, floods, none, is))) n e un =
       let m = talks_part f s t w v (ap (λ x. console_talk f x w) (sym split) ∙ e) in
       let settled = flight_law f ok.mild s w m.0 calm still m.1 in
-      let b = listens_begun f s w m.0 (Still-listens 6 s still) m.1 in
+      let b = listens_begun f s w m.0 (Still-listens settled_waits s still) m.1 in
       absurd (wake_no_flood f ok 3 t m.0 v (record { flight = settled.0; begun = b.0 ∙ calm.begun; rests = settled.1; sound = sound_talk f ok s w m.0 m.1 sound }) floods m.2)
   now_attempt frame talk place taken end w v six sound calm (inl (s, t, rest, awake, split, still, wakes, next)) n e un =
       let m = talks_part f s (t ++ rest) w v (ap (λ x. console_talk f x w) (sym split) ∙ e) in
       let m2 = talks_part f t rest m.0 v m.2 in
       let settled = flight_law f ok.mild s w m.0 calm still m.1 in
-      let b = listens_begun f s w m.0 (Still-listens 6 s still) m.1 in
+      let b = listens_begun f s w m.0 (Still-listens settled_waits s still) m.1 in
       let r : Rested m.0 = record { flight = settled.0; begun = b.0 ∙ calm.begun; rests = settled.1; sound = sound_talk f ok s w m.0 m.1 sound } in
-      let n1 = now_listens f left falls all rises s w m.0 (Still-listens 6 s still) n m.1 in
+      let n1 = now_listens f left falls all rises s w m.0 (Still-listens settled_waits s still) n m.1 in
       let n2 = now_wakes 3 t awake m.0 m2.0 r wakes n1 m2.1 (goes_unseen f rest m2.0 v m2.2 un) in
       let r2 = (wakes_law f ok 3 t awake m.0 m2.0 r wakes m2.1).0 in
       elim next [

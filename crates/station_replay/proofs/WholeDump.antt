@@ -20,7 +20,7 @@ use Rattle.console_model.specs.Hear.{ended}
 use Rattle.console_model.specs.Line.{says as replies, silent, to}
 use Rattle.console_model.specs.Reading.{read_line}
 use Rattle.console_model.specs.Spelling.{plan_after, header_of}
-use Rattle.wake_retry.specs.Parts.{heard, IsFull, Awaits}
+use Rattle.wake_retry.specs.Parts.{heard, IsFull, Awaits, answer_waits}
 use Rattle.dmpaft_driver.specs.Attempt.{Takes, Pages, Attempt, End}
 use Rattle.dmpaft_pump.specs.Command.{dmpaft}
 use Rattle.dmpaft_pump.specs.Batch.{batches, records_in}
@@ -75,11 +75,11 @@ heard_of : (bs : List ℕ) → heard (hearing_of bs) ≡ bs
 heard_of [] = refl
 heard_of (b ∷ bs) = ap (λ xs. b ∷ xs) (heard_of bs)
 
-full_of : (b : ℕ) (bs : List ℕ) → IsFull 3 0 (hearing_of (b ∷ bs))
+full_of : (b : ℕ) (bs : List ℕ) → IsFull answer_waits 0 (hearing_of (b ∷ bs))
 full_of b [] = tt
 full_of b (c ∷ bs) = full_of c bs
 
-awaits_of : (n : ℕ) (bs : List ℕ) → length bs ≡ suc n → Awaits 3 (suc n) (hearing_of bs)
+awaits_of : (n : ℕ) (bs : List ℕ) → length bs ≡ suc n → Awaits answer_waits (suc n) (hearing_of bs)
 awaits_of n [] e = absurd (omega (arith, e))
 awaits_of n (b ∷ bs) e = inl (full_of b bs, ap length (heard_of (b ∷ bs)) ∙ e)
 

@@ -6,6 +6,7 @@ use Rattle.serial_link.specs.Talk.{message}
 use Rattle.wake_retry.specs.Parts.{heard, StillFrom, IsFull, IsShort, Wakes, WakeFloods}
 use Rattle.wake_retry.specs.Bounds.{said, IsBounded, BoundsSettling, BoundsWake, BoundsAnswer}
 use Rattle.wake_retry.proofs.Endings.{heard_both}
+use Rattle.wake_retry.specs.Parts.{answer_waits, flood_size}
 
 said_both : (s t : List TalkItem) → length (said (s ++ t)) ≡ length (said s) + length (said t)
 said_both [] t = omega arith
@@ -46,7 +47,7 @@ message_bounded bytes = record { hears = omega (arith, message_heard bytes); say
 pub said_first : (h k b : ℕ) (t : List TalkItem) → IsBounded h k t → IsBounded h (k + 1) (Said b true ∷ t)
 said_first h k b t x = record { hears = x.hears; says = omega (arith, x.says) }
 
-still_from : (q r n : ℕ) (t : List TalkItem) → StillFrom q r n t → (n + length (heard t) < 65536) × (length (said t) ≡ 0)
+still_from : (q r n : ℕ) (t : List TalkItem) → StillFrom q r n t → (n + length (heard t) < flood_size) × (length (said t) ≡ 0)
 still_from q r n [] k = (omega (arith, k.1), refl)
 still_from q r n (Said b ends ∷ t) k = absurd k
 still_from q r n (Heard b ∷ t) k = let z = still_from q 0 (n + 1) t k.1 in (omega (arith, z.0), z.1)
@@ -76,24 +77,24 @@ bounds_answer quiets n t (inl (full, size)) = record { hears = omega (arith, siz
 bounds_answer quiets n t (inr (short, few)) = record { hears = omega (arith, few); says = omega (arith, short_silent quiets 0 t short) }
 
 -- a try of a wake before others
-try_first : (left : ℕ) (talk s rest : List TalkItem) → talk ≡ Said 10 true ∷ s ++ rest → IsBounded 65536 0 s → IsBounded (65536 * left) left rest → IsBounded (65536 * suc left) (suc left) talk
+try_first : (left : ℕ) (talk s rest : List TalkItem) → talk ≡ Said 10 true ∷ s ++ rest → IsBounded flood_size 0 s → IsBounded (flood_size * left) left rest → IsBounded (flood_size * suc left) (suc left) talk
 try_first left talk s rest is settled others =
-    let both = said_first (65536 + 65536 * left) (0 + left) 10 (s ++ rest) (bounded_joins 65536 0 (65536 * left) left s rest settled others) in
-    subst (λ (x : List TalkItem). IsBounded (65536 * suc left) (suc left) x) (sym is)
-    (bounded_within (65536 + 65536 * left) (0 + left + 1) (65536 * suc left) (suc left) (Said 10 true ∷ s ++ rest) (omega arith) (omega arith) both)
+    let both = said_first (flood_size + flood_size * left) (0 + left) 10 (s ++ rest) (bounded_joins flood_size 0 (flood_size * left) left s rest settled others) in
+    subst (λ (x : List TalkItem). IsBounded (flood_size * suc left) (suc left) x) (sym is)
+    (bounded_within (flood_size + flood_size * left) (0 + left + 1) (flood_size * suc left) (suc left) (Said 10 true ∷ s ++ rest) (omega arith) (omega arith) both)
 
-none_left : (left : ℕ) (rest : List TalkItem) → rest ≡ [] → IsBounded (65536 * left) left rest
-none_left left rest none = subst (λ (x : List TalkItem). IsBounded (65536 * left) left x) (sym none) (record { hears = omega arith; says = omega arith })
+none_left : (left : ℕ) (rest : List TalkItem) → rest ≡ [] → IsBounded (flood_size * left) left rest
+none_left left rest none = subst (λ (x : List TalkItem). IsBounded (flood_size * left) left x) (sym none) (record { hears = omega arith; says = omega arith })
 
-wakes : (tries : ℕ) (t : List TalkItem) (awake : Bool) → Wakes tries t awake → IsBounded (65536 * tries) tries t
+wakes : (tries : ℕ) (t : List TalkItem) (awake : Bool) → Wakes tries t awake → IsBounded (flood_size * tries) tries t
 wakes zero t awake k = none_left zero t k.0
-wakes (suc left) t awake (s, rest, is, still, inl (answered, none, e)) = try_first left t s rest is ((bounds_settling 3).still s still) (none_left left rest none)
-wakes (suc left) t awake (s, rest, is, still, inr (other, more)) = try_first left t s rest is ((bounds_settling 3).still s still) (wakes left rest awake more)
+wakes (suc left) t awake (s, rest, is, still, inl (answered, none, e)) = try_first left t s rest is ((bounds_settling answer_waits).still s still) (none_left left rest none)
+wakes (suc left) t awake (s, rest, is, still, inr (other, more)) = try_first left t s rest is ((bounds_settling answer_waits).still s still) (wakes left rest awake more)
 
-wake_floods : (tries : ℕ) (t : List TalkItem) → WakeFloods tries t → IsBounded (65536 * tries) tries t
+wake_floods : (tries : ℕ) (t : List TalkItem) → WakeFloods tries t → IsBounded (flood_size * tries) tries t
 wake_floods zero t k = absurd k
-wake_floods (suc left) t (s, rest, is, inl (flood, none)) = try_first left t s rest is ((bounds_settling 3).floods s flood) (none_left left rest none)
-wake_floods (suc left) t (s, rest, is, inr (still, other, more)) = try_first left t s rest is ((bounds_settling 3).still s still) (wake_floods left rest more)
+wake_floods (suc left) t (s, rest, is, inl (flood, none)) = try_first left t s rest is ((bounds_settling answer_waits).floods s flood) (none_left left rest none)
+wake_floods (suc left) t (s, rest, is, inr (still, other, more)) = try_first left t s rest is ((bounds_settling answer_waits).still s still) (wake_floods left rest more)
 
 pub bounds_wake : (tries : ℕ) → BoundsWake tries
 bounds_wake tries = record { ends = wakes tries; floods = wake_floods tries }

@@ -5,6 +5,7 @@ use Rattle.serial_link.specs.declared.talk.TalkItem.{TalkItem}
 use Rattle.serial_link.specs.declared.talk.TalkItem.TheVariants.{Said, Heard, Quiet}
 use Rattle.wake_retry.specs.Parts.{heard, IsFull, IsShort, FallsShort, Awaits, StillFrom, Still, Flooding, Wakes, WakeFloods, ends_awake, IsCutOff}
 use Rattle.wake_retry.specs.OneEnd.{HasOneFront, NeverBoth, Comes, EndsAnswer, EndsSettling, EndsWake}
+use Rattle.wake_retry.specs.Parts.{answer_waits, flood_size}
 
 -- of two fronts of one talk one is a front of the other
 pub either_front : (s t a b : List TalkItem) → s ++ a ≡ t ++ b → ((u : List TalkItem) × (t ≡ s ++ u)) ⊎ ((u : List TalkItem) × (s ≡ t ++ u))
@@ -101,29 +102,29 @@ comes_or_short q n some s t a b k m e = elim (either_front s t a b e) [
 pub cut_answer : (q n : ℕ) → 0 < q → (t : List TalkItem) → IsCutOff (FallsShort q n) t → ¬ Awaits q n t
 cut_answer q n some t k m = k.1 (awaits_on q n t k.0 some m (inr k.2))
 
-still_short : (q r n : ℕ) (t : List TalkItem) → StillFrom q r n t → IsShort q r t × (n + length (heard t) < 65536)
+still_short : (q r n : ℕ) (t : List TalkItem) → StillFrom q r n t → IsShort q r t × (n + length (heard t) < flood_size)
 still_short q r n [] k = (k.0, omega (arith, k.1))
 still_short q r n (Said b ends ∷ t) k = absurd k
 still_short q r n (Heard b ∷ t) k = let m = still_short q 0 (n + 1) t k.1 in ((k.0, m.0), omega (arith, m.1))
 still_short q r n (Quiet ∷ t) k = let m = still_short q (r + 1) n t k.1 in ((k.0, m.0), m.1)
 
 -- a settling that is still falls short of 65,536 bytes
-pub still_falls_short : (q : ℕ) (t : List TalkItem) → Still q t → FallsShort q 65536 t
+pub still_falls_short : (q : ℕ) (t : List TalkItem) → Still q t → FallsShort q flood_size t
 still_falls_short q t k = let m = still_short q 0 0 t k in (m.0, omega (arith, m.1))
 
 -- a talk has one settling at most in front
 pub one_still : (q : ℕ) → 0 < q → HasOneFront (Still q)
-one_still q some s t a b k m e = one_answer q 65536 some s t a b (inr (still_falls_short q s k)) (inr (still_falls_short q t m)) e
+one_still q some s t a b k m e = one_answer q flood_size some s t a b (inr (still_falls_short q s k)) (inr (still_falls_short q t m)) e
 
 pub one_flood : (q : ℕ) → 0 < q → HasOneFront (Flooding q)
-one_flood q some s t a b k m e = one_answer q 65536 some s t a b (inl k) (inl m) e
+one_flood q some s t a b k m e = one_answer q flood_size some s t a b (inl k) (inl m) e
 
 pub still_or_flood : (q : ℕ) → 0 < q → NeverBoth (Still q) (Flooding q)
-still_or_flood q some s t a b k m e = comes_or_short q 65536 some t s b a m (still_falls_short q s k) (sym e)
+still_or_flood q some s t a b k m e = comes_or_short q flood_size some t s b a m (still_falls_short q s k) (sym e)
 
 cut_settling : (q : ℕ) → 0 < q → (t : List TalkItem) → IsCutOff (Still q) t → (¬ Still q t) × (¬ Flooding q t)
 cut_settling q some t k =
-    let cut = cut_answer q 65536 some t (k.0, k.1, still_falls_short q (t ++ k.0) k.2) in
+    let cut = cut_answer q flood_size some t (k.0, k.1, still_falls_short q (t ++ k.0) k.2) in
     (λ m. cut (inr (still_falls_short q t m)), λ m. cut (inl m))
 
 pub ends_answer : (q n : ℕ) → 0 < q → EndsAnswer q n
@@ -160,7 +161,7 @@ one_wake zero x y a b v w k m e =
     let same : x ≡ y = k.0 ∙ sym m.0 in
     (same, append_cancel_left x a b (e ∙ ap (λ (z : List TalkItem). z ++ b) (sym same)), k.1 ∙ sym m.1)
 one_wake (suc left) x y a b v w (s, r1, f, still, how) (t, r2, g, still2, how2) e =
-    let first = one_still 3 (omega arith) s t (r1 ++ a) (r2 ++ b) still still2 (behind_first (Said 10 true) x y s t r1 r2 a b f g e) in
+    let first = one_still answer_waits (omega arith) s t (r1 ++ a) (r2 ++ b) still still2 (behind_first (Said 10 true) x y s t r1 r2 a b f g e) in
     elim how [
       | inl k ↦ elim how2 [
         | inl m ↦
@@ -182,9 +183,9 @@ flood_or_wake zero x y a b w k m e = k
 flood_or_wake (suc left) x y a b w (s, r1, f, how) (t, r2, g, still2, how2) e =
     let d = behind_first (Said 10 true) x y s t r1 r2 a b f g e in
     elim how [
-      | inl k ↦ still_or_flood 3 (omega arith) t s (r2 ++ b) (r1 ++ a) still2 k.0 (sym d)
+      | inl k ↦ still_or_flood answer_waits (omega arith) t s (r2 ++ b) (r1 ++ a) still2 k.0 (sym d)
       | inr k ↦
-          let first = one_still 3 (omega arith) s t (r1 ++ a) (r2 ++ b) k.0 still2 d in
+          let first = one_still answer_waits (omega arith) s t (r1 ++ a) (r2 ++ b) k.0 still2 d in
           elim how2 [
             | inl m ↦ not_both _ m.0 (same_awake s t false first.0 k.1)
             | inr m ↦ flood_or_wake left r1 r2 a b w k.2 m.1 first.1
@@ -199,15 +200,15 @@ one_wake_flood (suc left) x y a b (s, r1, f, how) (t, r2, g, how2) e =
     elim how [
       | inl k ↦ elim how2 [
         | inl m ↦
-            let first = one_flood 3 (omega arith) s t (r1 ++ a) (r2 ++ b) k.0 m.0 d in
+            let first = one_flood answer_waits (omega arith) s t (r1 ++ a) (r2 ++ b) k.0 m.0 d in
             let none : r1 ≡ r2 = k.1 ∙ sym m.1 in
             (whole_again (Said 10 true) x y s t r1 r2 f g first.0 none, append_cancel_left r1 a b (first.1 ∙ ap (λ (z : List TalkItem). z ++ b) (sym none)))
-        | inr m ↦ absurd (still_or_flood 3 (omega arith) t s (r2 ++ b) (r1 ++ a) m.0 k.0 (sym d))
+        | inr m ↦ absurd (still_or_flood answer_waits (omega arith) t s (r2 ++ b) (r1 ++ a) m.0 k.0 (sym d))
       ]
       | inr k ↦ elim how2 [
-        | inl m ↦ absurd (still_or_flood 3 (omega arith) s t (r1 ++ a) (r2 ++ b) k.0 m.0 d)
+        | inl m ↦ absurd (still_or_flood answer_waits (omega arith) s t (r1 ++ a) (r2 ++ b) k.0 m.0 d)
         | inr m ↦
-            let first = one_still 3 (omega arith) s t (r1 ++ a) (r2 ++ b) k.0 m.0 d in
+            let first = one_still answer_waits (omega arith) s t (r1 ++ a) (r2 ++ b) k.0 m.0 d in
             let more = one_wake_flood left r1 r2 a b k.2 m.2 first.1 in
             (whole_again (Said 10 true) x y s t r1 r2 f g first.0 more.0, more.1)
       ]

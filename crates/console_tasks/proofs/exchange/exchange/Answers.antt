@@ -1,5 +1,5 @@
 use Rattle.std.proofs.Common.{◌≡◌, length, take, refl, sym, subst, arith, length-take, Err}
-use Rattle.wake_retry.specs.Parts.{FallsShort, IsCutOff}
+use Rattle.wake_retry.specs.Parts.{FallsShort, IsCutOff, answer_waits}
 use Rattle.wake_retry.specs.Asking.{Answered}
 use Rattle.serial_link.proofs.Joining.{talks_as}
 use Rattle.console_tasks.specs.declared.end.TaskEnd.TheVariants as task_end
@@ -39,7 +39,7 @@ returns-in-LinkFault g c =
     talks_as (Replies said (length c.args.answer.now) c.ask.new.buf (Err task_end.LinkFault)) c.in-LinkFault.ensures
     (λ e. refl) (λ e. absurd (want_no_fault _ e refl))
     (λ t k judge more. asking_cut said (length c.args.answer.now) judge more t
-    (subst (λ n. IsCutOff (Answered said (FallsShort 3 n)) t) size k))
+    (subst (λ n. IsCutOff (Answered said (FallsShort answer_waits n)) t) size k))
 
 pub returns-in-OutOfMemory : goal.returns-in-OutOfMemory
 returns-in-OutOfMemory g c =
@@ -48,4 +48,4 @@ returns-in-OutOfMemory g c =
     talks_as (Replies said (length c.args.answer.now) c.ask.new.buf (Err task_end.OutOfMemory)) c.in-OutOfMemory.ensures
     (λ e. absurd (want_no_fault _ refl e)) (λ e. refl)
     (λ t k judge more. asking_cut said (length c.args.answer.now) judge more t
-    (subst (λ n. IsCutOff (Answered said (FallsShort 3 n)) t) size k))
+    (subst (λ n. IsCutOff (Answered said (FallsShort answer_waits n)) t) size k))
