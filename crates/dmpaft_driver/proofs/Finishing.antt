@@ -25,6 +25,7 @@ use Rattle.dmpaft_pump.proofs.Judging.{no_page, not_whole}
 use Rattle.dmpaft_pump.proofs.Replies.{no_header_is}
 use Rattle.dmpaft_driver.proofs.Rest.{Listens}
 use Rattle.dmpaft_pump.proofs.Walking.{said_in, heard_in}
+use Rattle.dmpaft_pump.specs.Pump.{most_askings}
 
 -- a part hears a message's rest, or hears and is not at its end
 abbrev pub Fine : State → Type 0
@@ -143,7 +144,7 @@ module _ (a : Option CivilMinute) where
 
   from_onward : (more place : ℕ) (taken : List (List ℕ)) → Finishes (begun a (onward more place taken)) place taken
   from_onward zero place taken = acking place taken
-  from_onward (suc more) place taken = asking more place taken 3 6
+  from_onward (suc more) place taken = asking more place taken (most_askings - 1) 6
 
   pub finishes : (s : State) → Fine s → Mild s → (place : ℕ) (taken : List (List ℕ)) → HasTaken s place taken → Finishes s place taken
   finishes (Saying p i l) fine mild place taken h =

@@ -6,6 +6,7 @@ use Rattle.wake_retry.specs.Parts.{heard}
 use Rattle.wake_retry.proofs.Endings.{heard-append}
 use Rattle.dmpaft_driver.specs.Attempt.{Takes, Pages, Heads, Requests, End}
 use Rattle.dmpaft_pump.specs.Command.{dmpaft}
+use Rattle.dmpaft_pump.specs.Pump.{most_askings}
 use Rattle.dmpaft_driver.specs.OneAttempt.{StandIn, TakenWereHeard}
 
 -- they stand behind more
@@ -38,8 +39,8 @@ stand_next talk t rest page more taken e y f h =
 
 pages_heard : (left k : ℕ) (talk : List TalkItem) (taken : List (List ℕ)) (end : End) → Pages left k talk taken end → StandIn taken (heard talk)
 pages_heard zero k talk taken end x = stand_none taken (heard talk) x.1
-pages_heard (suc left) k talk taken end (inl (t, rest, page, more, e, takes, f, inl x)) = stand_next talk t rest page more taken e (takes_heard 4 k 6 t page takes) f (pages_heard left (k + 1) rest more end x)
-pages_heard (suc left) k talk taken end (inl (t, rest, page, more, e, takes, f, inr x)) = stand_next talk t rest page more taken e (takes_heard 4 k 6 t page takes) f (stand_none more (heard rest) x.1)
+pages_heard (suc left) k talk taken end (inl (t, rest, page, more, e, takes, f, inl x)) = stand_next talk t rest page more taken e (takes_heard most_askings k 6 t page takes) f (pages_heard left (k + 1) rest more end x)
+pages_heard (suc left) k talk taken end (inl (t, rest, page, more, e, takes, f, inr x)) = stand_next talk t rest page more taken e (takes_heard most_askings k 6 t page takes) f (stand_none more (heard rest) x.1)
 pages_heard (suc left) k talk taken end (inr (inl (t, trouble, e, misses, none, is))) = stand_none taken (heard talk) none
 pages_heard (suc left) k talk taken end (inr (inr (floods, none, is))) = stand_none taken (heard talk) none
 

@@ -11,6 +11,7 @@ use Rattle.dmpaft_pump.specs.declared.outcome.Trouble.TheVariants.{Asleep, NoAck
 use Rattle.dmpaft_pump.specs.Header.{IsHeader, IsNoHeader, first_of}
 use Rattle.dmpaft_driver.specs.Attempt.{Pages, Heads, Requests, Attempt, End, esc, last_said}
 use Rattle.dmpaft_pump.specs.Command.{dmpaft}
+use Rattle.dmpaft_pump.specs.Pump.{most_askings}
 use Rattle.dmpaft_driver.proofs.NoHeader.{no_header}
 use Rattle.dmpaft_driver.proofs.Troubles.{one_header, one_trouble}
 use Rattle.dmpaft_driver.proofs.Askings.{Came, begins_saying, one_askings}
@@ -31,12 +32,12 @@ last_next k = ap last_said (add-one k)
 pub pages_say : (left k : ℕ) (talk : List TalkItem) (taken : List (List ℕ)) (end : End) → Pages left (k + 1) talk taken end → (rest : List TalkItem) × (talk ≡ Said 6 true ∷ rest)
 pages_say zero k talk taken end x = ([], x.0 ∙ last_next k)
 pages_say (suc left) k talk taken end (inl (t, rest, bytes, more, e, takes, is, how)) =
-    let b = begins_saying 4 (k + 1) 6 t (Came.Page bytes) takes in
+    let b = begins_saying most_askings (k + 1) 6 t (Came.Page bytes) takes in
     (b.0 ++ rest, e ∙ ap (λ (x : List TalkItem). x ++ rest) b.1)
 pages_say (suc left) k talk taken end (inr (inl (t, trouble, e, misses, is, how))) =
-    let b = begins_saying 4 (k + 1) 6 t (Came.Missed trouble) misses in
+    let b = begins_saying most_askings (k + 1) 6 t (Came.Missed trouble) misses in
     (b.0 ++ esc, e ∙ ap (λ (x : List TalkItem). x ++ esc) b.1)
-pages_say (suc left) k talk taken end (inr (inr (floods, is, how))) = begins_saying 4 (k + 1) 6 talk Came.Floods floods
+pages_say (suc left) k talk taken end (inr (inr (floods, is, how))) = begins_saying most_askings (k + 1) 6 talk Came.Floods floods
 
 pages_some : (left k : ℕ) (talk : List TalkItem) (taken : List (List ℕ)) (end : End) → talk ≡ [] → Pages left (k + 1) talk taken end → ⊥
 pages_some left k talk taken end none x = let s = pages_say left k talk taken end x in let e : [] ≡ Said 6 true ∷ s.0 = sym none ∙ s.1 in cc
@@ -106,7 +107,7 @@ pages_go zero k p x y a A B e f g h i = record {
   refused = λ is none. (let c : End.Whole ≡ End.Refused = sym h.2 ∙ is in cc);
 }
 pages_go (suc left) k p x y a A B e f (inl (t1, r1, by1, m1, e1, takes1, is1, how1)) (inl (t2, r2, by2, m2, e2, takes2, is2, how2)) i =
-    let o = one_askings 4 k 6 t1 t2 (r1 ++ a) r2 (Came.Page by1) (Came.Page by2) takes1 takes2 (behind_two x y t1 r1 t2 r2 a e1 e2 i) in
+    let o = one_askings most_askings k 6 t1 t2 (r1 ++ a) r2 (Came.Page by1) (Came.Page by2) takes1 takes2 (behind_two x y t1 r1 t2 r2 a e1 e2 i) in
     let same = same_page by1 by2 o.0 in
     elim how1 [
       | inl g ↦ elim how2 [
@@ -135,20 +136,20 @@ pages_go (suc left) k p x y a A B e f (inl (t1, r1, by1, m1, e1, takes1, is1, ho
       ]
     ]
 pages_go (suc left) k p x y a A B e f (inl (t1, r1, by1, m1, e1, takes1, is1, how1)) (inr (inl (t2, u2, e2, misses2, is2, end2))) i =
-    absurd (page_not_missed by1 u2 (one_askings 4 k 6 t1 t2 (r1 ++ a) esc (Came.Page by1) (Came.Missed u2) takes1 misses2 (behind_two x y t1 r1 t2 esc a e1 e2 i)).0)
+    absurd (page_not_missed by1 u2 (one_askings most_askings k 6 t1 t2 (r1 ++ a) esc (Came.Page by1) (Came.Missed u2) takes1 misses2 (behind_two x y t1 r1 t2 esc a e1 e2 i)).0)
 pages_go (suc left) k p x y a A B e f (inl (t1, r1, by1, m1, e1, takes1, is1, how1)) (inr (inr (floods2, is2, end2))) i =
-    absurd (page_not_flood by1 (one_askings 4 k 6 t1 y (r1 ++ a) [] (Came.Page by1) Came.Floods takes1 floods2 (behind_two x y t1 r1 y [] a e1 (sym (append-nil y)) i)).0)
+    absurd (page_not_flood by1 (one_askings most_askings k 6 t1 y (r1 ++ a) [] (Came.Page by1) Came.Floods takes1 floods2 (behind_two x y t1 r1 y [] a e1 (sym (append-nil y)) i)).0)
 pages_go (suc left) k p x y a A B e f (inr (inl (t1, u1, e1, misses1, is1, end1))) (inl (t2, r2, by2, m2, e2, takes2, is2, how2)) i =
-    absurd (page_not_missed by2 u1 (sym (one_askings 4 k 6 t1 t2 (esc ++ a) r2 (Came.Missed u1) (Came.Page by2) misses1 takes2 (behind_two x y t1 esc t2 r2 a e1 e2 i)).0))
+    absurd (page_not_missed by2 u1 (sym (one_askings most_askings k 6 t1 t2 (esc ++ a) r2 (Came.Missed u1) (Came.Page by2) misses1 takes2 (behind_two x y t1 esc t2 r2 a e1 e2 i)).0))
 pages_go (suc left) k p x y a A B e f (inr (inl (t1, u1, e1, misses1, is1, end1))) (inr (inl (t2, u2, e2, misses2, is2, end2))) i =
-    let o = one_askings 4 k 6 t1 t2 (esc ++ a) esc (Came.Missed u1) (Came.Missed u2) misses1 misses2 (behind_two x y t1 esc t2 esc a e1 e2 i) in
+    let o = one_askings most_askings k 6 t1 t2 (esc ++ a) esc (Came.Missed u1) (Came.Missed u2) misses1 misses2 (behind_two x y t1 esc t2 esc a e1 e2 i) in
     no_pages p p A B e f a is1 is2 (end1 ∙ ap (λ z. End.Failed z) (same_trouble u1 u2 o.0) ∙ sym end2) (λ is. failed_not_refused u2 (sym end2 ∙ is))
 pages_go (suc left) k p x y a A B e f (inr (inl (t1, u1, e1, misses1, is1, end1))) (inr (inr (floods2, is2, end2))) i =
-    absurd (missed_not_flood u1 (one_askings 4 k 6 t1 y (esc ++ a) [] (Came.Missed u1) Came.Floods misses1 floods2 (behind_two x y t1 esc y [] a e1 (sym (append-nil y)) i)).0)
+    absurd (missed_not_flood u1 (one_askings most_askings k 6 t1 y (esc ++ a) [] (Came.Missed u1) Came.Floods misses1 floods2 (behind_two x y t1 esc y [] a e1 (sym (append-nil y)) i)).0)
 pages_go (suc left) k p x y a A B e f (inr (inr (floods1, is1, end1))) (inl (t2, r2, by2, m2, e2, takes2, is2, how2)) i =
-    absurd (page_not_flood by2 (sym (one_askings 4 k 6 x t2 a r2 Came.Floods (Came.Page by2) floods1 takes2 (i ∙ e2)).0))
+    absurd (page_not_flood by2 (sym (one_askings most_askings k 6 x t2 a r2 Came.Floods (Came.Page by2) floods1 takes2 (i ∙ e2)).0))
 pages_go (suc left) k p x y a A B e f (inr (inr (floods1, is1, end1))) (inr (inl (t2, u2, e2, misses2, is2, end2))) i =
-    absurd (missed_not_flood u2 (sym (one_askings 4 k 6 x t2 a esc Came.Floods (Came.Missed u2) floods1 misses2 (i ∙ e2)).0))
+    absurd (missed_not_flood u2 (sym (one_askings most_askings k 6 x t2 a esc Came.Floods (Came.Missed u2) floods1 misses2 (i ∙ e2)).0))
 pages_go (suc left) k p x y a A B e f (inr (inr (floods1, is1, end1))) (inr (inr (floods2, is2, end2))) i =
     no_pages p p A B e f a is1 is2 (end1 ∙ sym end2) (λ is. flooded_not_refused (sym end2 ∙ is))
 

@@ -1,5 +1,5 @@
 -- What is left of an attempt from each of its parts on, and how one part of it leads to the next.
-use Rattle.std.proofs.Common.{◌≡◌, ℕ, zero, suc, ◌+◌, ◌<◌, ◌⊎◌, Bool, true, false, List, [], ◌∷◌, ◌++◌, length, length-append, refl, sym, ◌∙◌, ap, subst, inl, inr, arith, append_assoc, append-nil, Option}
+use Rattle.std.proofs.Common.{◌≡◌, ℕ, zero, suc, ◌+◌, ◌<◌, ◌⊎◌, Bool, true, false, List, [], ◌∷◌, ◌++◌, length, length-append, refl, sym, ◌∙◌, ap, subst, inl, inr, arith, append_assoc, append-nil, Option, ◌-◌}
 use Rattle.std.specs.Prelude.{slice_index, bytes_eq}
 use Rattle.std.proofs.lemmas.Slice.Eq.{bytes_eq-Decides}
 use Rattle.station_base.specs.CivilMinute.{CivilMinute}
@@ -20,6 +20,7 @@ use Rattle.dmpaft_pump.specs.Reply.{Reply, Header, NoHeader, reply_of}
 use Rattle.dmpaft_pump.specs.Pump.{Part, Settling, Waking, Calling, Heading, Asking, Resettling, Acking, GivingUp, Next, Goes, Keeps, Empty, Floods, words, quiets, most, batch_of, onward, batched, woken, called, headed, asked_again, judged, next}
 use Rattle.dmpaft_pump.proofs.Hears.{HearsFrom, hears_still, flood_hears, hears_flood, hears_awaits}
 use Rattle.dmpaft_pump.proofs.Replies.{Replies, reply_is}
+use Rattle.dmpaft_pump.specs.Pump.{most_askings}
 
 -- after a page: so many more from page k on, or its batch is refused
 abbrev pub Later : ℕ → ℕ → List TalkItem → List (List ℕ) → End → Type 0
@@ -86,7 +87,7 @@ pages_onward W a zero at taken later page t place all end e f x =
     (x.0 ∙ ap last_said k, e, f ∙ ap (λ (y : List (List ℕ)). (taken ++ page ∷ []) ++ y) x.1 ∙ append-nil (taken ++ page ∷ []), x.2)
 pages_onward W a (suc more) at taken later page t place all end e f x =
     let k : length taken + 1 ≡ length (taken ++ page ∷ []) = omega (arith, length-append taken (page ∷ [])) in
-    (e, later, f, subst (λ n. AskRest more n 3 6 t later end) k x)
+    (e, later, f, subst (λ n. AskRest more n (most_askings - 1) 6 t later end) k x)
 
 pub onward_pages : (W : Likeness) (a : Option CivilMinute) (more at : ℕ) (taken : List (List ℕ)) (page : List ℕ) (t : List TalkItem) (place : ℕ) (all : List (List ℕ)) (end : End)
     → Rest W a (onward more at (taken ++ page ∷ [])) t place all end
@@ -96,7 +97,7 @@ onward_pages W a zero at taken page t place all end x =
     (x.1, [], x.2 ∙ sym (append-nil (taken ++ page ∷ [])), inl (x.0 ∙ sym (ap last_said k), refl, x.3))
 onward_pages W a (suc more) at taken page t place all end x =
     let k : length taken + 1 ≡ length (taken ++ page ∷ []) = omega (arith, length-append taken (page ∷ [])) in
-    (x.0, x.1, x.2, inl (subst (λ n. AskRest more n 3 6 t x.1 end) (sym k) x.3))
+    (x.0, x.1, x.2, inl (subst (λ n. AskRest more n (most_askings - 1) 6 t x.1 end) (sym k) x.3))
 
 pub hears_flooding : (q : ℕ) (u : List TalkItem) → HearsFrom q flood_size 0 0 u true → Flooding q u
 hears_flooding q u h = let y = hears_flood q flood_size 0 0 u h in (y.0, omega (arith, y.1))

@@ -4,7 +4,7 @@ use Rattle.station_base.specs.CivilMinute.{CivilMinute}
 use Rattle.vantage_frames.specs.StampFrame.{stamp_frame_of}
 use Rattle.vantage_frames.specs.Header.{most_pages}
 use Rattle.vantage_frames.specs.Slots.{page_size}
-use Rattle.wake_retry.specs.Parts.{flood_size, answer_waits, settled_waits}
+use Rattle.wake_retry.specs.Parts.{flood_size, answer_waits, settled_waits, wake_tries}
 use Rattle.dmpaft_pump.specs.declared.phase.Phase.{Phase}
 use Rattle.dmpaft_pump.specs.declared.phase.Phase.TheVariants as phase
 use Rattle.dmpaft_pump.specs.Command.{dmpaft}
@@ -109,13 +109,17 @@ span_of (phase.Resettling more left said) = 500000
 span_of phase.Acking = 2000
 span_of (phase.GivingUp trouble) = 2000
 
--- so many steps may follow it at most; a page with its askings and settlings takes fewer than 1,600,000
+-- a page with its askings and settlings takes fewer steps than this
+abbrev pub page_steps : ℕ
+page_steps = 1600000
+
+-- so many steps may follow it at most
 abbrev pub rest_of : Phase → ℕ
-rest_of phase.Settling = 822304000
-rest_of (phase.Waking left) = 820804000 + 500000 * left
-rest_of phase.Calling = 820802000
-rest_of phase.Heading = 820800000
-rest_of (phase.Asking more left said) = 1600000 * more + 502000 * left + 2001
-rest_of (phase.Resettling more left said) = 1600000 * more + 502000 * left + 4001
+rest_of phase.Settling = most_pages * page_steps + 4000 + 500000 * wake_tries
+rest_of (phase.Waking left) = most_pages * page_steps + 4000 + 500000 * left
+rest_of phase.Calling = most_pages * page_steps + 2000
+rest_of phase.Heading = most_pages * page_steps
+rest_of (phase.Asking more left said) = page_steps * more + 502000 * left + 2001
+rest_of (phase.Resettling more left said) = page_steps * more + 502000 * left + 4001
 rest_of phase.Acking = 0
 rest_of (phase.GivingUp trouble) = 0

@@ -22,6 +22,10 @@ use Rattle.dmpaft_pump.specs.Page.{is_page_for, is_ahead, next_said}
 use Rattle.dmpaft_pump.specs.Command.{dmpaft}
 use Rattle.dmpaft_pump.specs.Reply.{Reply, reply_of}
 
+-- how often a page is asked for at most (this project's profile)
+abbrev pub most_askings : ℕ
+most_askings = 4
+
 -- A part of an attempt: what is said, and then heard. `left` is how many more tries or askings there may be, `more`
 -- how many pages come after this one, `place` that of the header, `taken` the pages taken so far, and `b` the byte
 -- that asks.
@@ -101,7 +105,7 @@ batch_of after place taken page = rising (newest_of after place taken) (slots (n
 -- after a page whose batch, if any, is kept: the next one is asked for, or the last one is acknowledged
 abbrev pub onward : ℕ → ℕ → List (List ℕ) → Part
 onward zero place taken = Acking place taken
-onward (suc more) place taken = Asking more place taken 3 6
+onward (suc more) place taken = Asking more place taken (most_askings - 1) 6
 
 -- after a page: its batch goes to the keeper, if there is one
 abbrev pub batched : ℕ → ℕ → List (List ℕ) → List ℕ → List (List ℕ) → Next
@@ -122,7 +126,7 @@ called bytes false = Goes (GivingUp 0 [] (NoAck (first_of bytes)))
 -- after the stamp frame, by what its answer is read as
 abbrev pub headed : Reply → Next
 headed (Reply.Header zero place) = Empty place
-headed (Reply.Header (suc more) place) = Goes (Asking more place [] 3 6)
+headed (Reply.Header (suc more) place) = Goes (Asking more place [] (most_askings - 1) 6)
 headed (Reply.NoHeader trouble) = Goes (GivingUp 0 [] trouble)
 
 -- after an asking that brought no page: one more, by this byte, or the attempt fails

@@ -19,7 +19,7 @@ use Rattle.dmpaft_pump.specs.declared.action.Action.TheVariants as action
 use Rattle.dmpaft_pump.specs.Keeper.{Handed, kept_all, last_kept}
 use Rattle.dmpaft_pump.specs.Batch.{slots, newest, skipped, batches, answered, all_skipped, EndsGiving}
 use Rattle.dmpaft_pump.specs.Phases.{part_of, quiets_of, most_of, words_of, span_of, rest_of, settles, Fits, Speaks}
-use Rattle.dmpaft_pump.specs.Phases.{Hears}
+use Rattle.dmpaft_pump.specs.Phases.{Hears, page_steps}
 use Rattle.dmpaft_pump.specs.Pump.{words as words_in}
 use Rattle.dmpaft_pump.specs.Pump.{Part, State, Hearing, Keeping, Over, begun, most, newest_of, next_place, batch_of}
 
@@ -206,7 +206,7 @@ Tells after s (action.Ended end) = (place : ℕ) × (taken : List (List ℕ)) ×
 abbrev pub left_at : Stage → ℕ → ℕ → ℕ
 left_at (stage.Saying phase) count run = rest_of phase + span_of phase
 left_at (stage.Hearing phase) count run = rest_of phase + 7 * (most_of phase - count) + (quiets_of phase - run)
-left_at (stage.Keeping more) count run = 1600000 * more + 2001
+left_at (stage.Keeping more) count run = page_steps * more + 2001
 left_at (stage.Ended end) count run = 0
 
 -- so many steps are left at most

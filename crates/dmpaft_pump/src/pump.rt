@@ -70,6 +70,7 @@ impl Pump {
     ghost use Rattle.dmpaft_pump.specs.declared.outcome.Tally.{Tally};
     ghost use Rattle.dmpaft_pump.specs.declared.pump_end.PumpEnd.{PumpEnd};
     ghost use Rattle.dmpaft_pump.specs.Phases.{part_of, most_of, words_of, span_of, rest_of, Fits, Speaks, Hears};
+    ghost use Rattle.dmpaft_pump.specs.Phases.{page_steps};
     ghost use Rattle.dmpaft_pump.specs.Shown.{Shows, Counts, Ready, Tallied, all_kept, room_of, no_tally};
     ghost use Rattle.dmpaft_pump.specs.Shown.{answer_of, Gathered, IsSized, Allows, Tells, left_of, said_at};
     ghost use Rattle.dmpaft_pump.specs.Shown.{keeps_at, end_at};
@@ -385,7 +386,7 @@ impl Pump {
             (bytes : List ℕ) (b : ℕ)
             → Ready start after place taken (phase.Asking more left b) true bytes self.old
             → Shows start after (at after (next after (part.Asking more place taken left b) true bytes)) self.new }
-        ensures left { left_of self.new ≤ 1600000 * more + 502000 * left + 2001 }
+        ensures left { left_of self.new ≤ page_steps * more + 502000 * left + 2001 }
     {
         match judge_page(self.number, &self.answer) {
             Judged::This(page) => {
@@ -423,7 +424,7 @@ impl Pump {
             → Counts start after place (taken ++ page ∷ []) (all_kept after place taken) self.old
             → self.old.batch ≡ batch_of after place taken page → length taken + more < most_pages
             → Shows start after (at after (batched more place taken page (batch_of after place taken page))) self.new }
-        ensures left { left_of self.new ≤ 1600000 * more + 2001 }
+        ensures left { left_of self.new ≤ page_steps * more + 2001 }
     {
         if self.batch.is_empty() {
             self.go_on(more);
@@ -437,7 +438,7 @@ impl Pump {
         ensures shows { (start : Tally) (after : Option CivilMinute) (place : ℕ) (taken : List (List ℕ))
             → Counts start after place taken (all_kept after place taken) self.old → length taken + more ≤ most_pages
             → Shows start after (begun after (onward more place taken)) self.new }
-        ensures left { left_of self.new < 1600000 * more + 2001 }
+        ensures left { left_of self.new < page_steps * more + 2001 }
     {
         if more == 0 {
             self.begin(Phase::Acking);
@@ -455,7 +456,7 @@ impl Pump {
         ensures shows { (start : Tally) (after : Option CivilMinute) (place : ℕ) (taken : List (List ℕ))
             → Counts start after place taken (all_kept after place taken) self.old → length taken + more < most_pages
             → Shows start after (at after (asked_again more place taken left said)) self.new }
-        ensures left { left_of self.new ≤ 1600000 * more + 502000 * left + 2001 }
+        ensures left { left_of self.new ≤ page_steps * more + 502000 * left + 2001 }
     {
         if left == 0 {
             self.begin(Phase::GivingUp(Trouble::PageLost { page: self.number }));

@@ -33,6 +33,7 @@ use Rattle.station_sim.proofs.Sounding.{records_front, sound_talk, console_joins
 use Rattle.console_model.specs.Laws.{records_of}
 use Rattle.line_laws.proofs.Headers.{IsSmall, plan_small, header_length, header_pages, header_made, page_is_good}
 use Rattle.dmpaft_pump.specs.Page.{is_page_for, has_sequence}
+use Rattle.dmpaft_pump.specs.Pump.{most_askings}
 use Rattle.station_sim.specs.Joining.{and_then_some, talks_part}
 use Rattle.line_laws.proofs.Flight.{flight_law}
 use Rattle.line_laws.proofs.Listening.{listens, bytes_of, Closed, closed_empty}
@@ -152,11 +153,11 @@ module _ (frame : List ℕ) (good : is_good frame ≡ true) (f : Fates) (ok : Ar
       let m = talks_part f t rest w v (ap (λ x. console_talk f x w) (sym split) ∙ e) in
       let h1 = goes_harmed f t w m.0 m.1 in
       let h2 = goes_harmed f rest m.0 v m.2 in
-      pages_clean g p left (k + 1) rest more end m.0 v (omega arith) again (λ z. takes_clean g p 4 k t bytes w m.0 (omega arith) takes (a (omega arith)) m.1 (omega (arith, h, h1, h2))) m.2 (omega (arith, h, h1, h2))
+      pages_clean g p left (k + 1) rest more end m.0 v (omega arith) again (λ z. takes_clean g p most_askings k t bytes w m.0 (omega arith) takes (a (omega arith)) m.1 (omega (arith, h, h1, h2))) m.2 (omega (arith, h, h1, h2))
   pages_clean g p (suc left) k talk taken end w v n (inl (t, rest, bytes, more, split, takes, is, inr (none, no_more, refused))) a e h = inr refused
-  pages_clean g p (suc left) k talk taken end w v n (inr (inr (floods, none, is))) a e h = absurd (flood_clean g p 4 k talk w v (omega arith) floods (a (omega arith)) e h)
+  pages_clean g p (suc left) k talk taken end w v n (inr (inr (floods, none, is))) a e h = absurd (flood_clean g p most_askings k talk w v (omega arith) floods (a (omega arith)) e h)
   pages_clean g p (suc left) k talk taken end w v n (inr (inl (t, trouble, split, misses, none, failed))) a e h =
-      absurd (misses_clean g p 4 k t trouble w v (omega arith) misses (a (omega arith)) (ap (λ x. console_talk f x w) (sym split) ∙ e) h)
+      absurd (misses_clean g p most_askings k t trouble w v (omega arith) misses (a (omega arith)) (ap (λ x. console_talk f x w) (sym split) ∙ e) h)
 
   -- the header comes, and the console is in the dump of its plan
   start_dump : (g : List (List ℕ)) (d : Store) (p : Plan) (t : Bool) (rs : List (List ℕ)) (c : Console) → c ≡ due_all rs (at_state g d [] (if t then Command [] else Dump p 0) 0) → length rs ≤ 64 → t ≡ false → Held p 0 g d 0 (0 + length rs) c

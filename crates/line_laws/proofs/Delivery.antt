@@ -1,5 +1,5 @@
 -- What is delivered, and what of it is unseen.
-use Rattle.std.proofs.Common.{◌≡◌, ◌*◌, ℕ, zero, suc, ◌+◌, ◌≤◌, ◌%◌, if◌then◌else◌, Bool, true, false, ◌&&◌, not, List, [], ◌∷◌, ◌++◌, length, take, drop, replicate, Option, Some, None, refl, sym, ◌∙◌, ap, arith, length-append, length-drop, length-take}
+use Rattle.std.proofs.Common.{◌≡◌, ◌*◌, ℕ, zero, suc, ◌+◌, ◌≤◌, ◌%◌, if◌then◌else◌, Bool, true, false, ◌&&◌, not, List, [], ◌∷◌, ◌++◌, length, take, drop, replicate, Option, Some, None, refl, sym, ◌∙◌, ap, arith, length-append, length-drop, length-take, ◌-◌}
 use Rattle.std.specs.Prelude.{bytes_eq, nat_lt, slice_get}
 use Rattle.std.proofs.lemmas.List.{length-replicate}
 use Rattle.std.proofs.lemmas.Slice.Eq.{bytes_eq-Decides}
@@ -12,6 +12,7 @@ use Rattle.crc_ccitt.specs.Check.{is_good}
 use Rattle.vantage_frames.specs.Slots.{page_size}
 use Rattle.console_ring.specs.History.{ring_pages}
 use Rattle.console_model.specs.declared.reply.ReplyKind.TheVariants.{Page}
+use Rattle.dmpaft_pump.specs.Pump.{most_askings}
 use Rattle.station_sim.specs.declared.part.Part.{Part}
 use Rattle.schedule_file.specs.declared.fate.Fate.{Fate}
 use Rattle.station_sim.specs.Delivery.{delivered, masked, late, waits, all_bytes}
@@ -91,5 +92,5 @@ unfolding page_of
 page_sequence h p k n e = e
 
 -- numbers that are near and agree modulo 256 are the same
-pub near_same : (k j m : ℕ) → j ≤ 3 → k ≤ m + 1 → m + 1 ≤ k + j + 1 → m % 256 ≡ k % 256 → m ≡ k
+pub near_same : (k j m : ℕ) → j ≤ most_askings - 1 → k ≤ m + 1 → m + 1 ≤ k + j + 1 → m % 256 ≡ k % 256 → m ≡ k
 near_same k j m a b c e = omega arith

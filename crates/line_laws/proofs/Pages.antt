@@ -1,5 +1,5 @@
 -- The pages of one attempt.
-use Rattle.std.proofs.Common.{◌≡◌, ℕ, zero, suc, ◌+◌, ◌<◌, ◌≤◌, ◌==◌, ◌%◌, Bool, true, false, ◌&&◌, inl, inr, List, [], ◌∷◌, ◌++◌, length, Some, None, refl, sym, ◌∙◌, ap, subst, arith, append_assoc, append-nil}
+use Rattle.std.proofs.Common.{◌≡◌, ℕ, zero, suc, ◌+◌, ◌<◌, ◌≤◌, ◌==◌, ◌%◌, Bool, true, false, ◌&&◌, inl, inr, List, [], ◌∷◌, ◌++◌, length, Some, None, refl, sym, ◌∙◌, ap, subst, arith, append_assoc, append-nil, ◌-◌}
 use Rattle.std.proofs.lemmas.Option.{same_Some}
 use Rattle.console_ring.specs.declared.plan.Plan.{Plan}
 use Rattle.console_model.specs.Console.{Console}
@@ -19,6 +19,7 @@ use Rattle.line_laws.specs.Host.{Listens, Near, Ready, HasSequence, ArePages}
 use Rattle.dmpaft_pump.specs.declared.outcome.Trouble.{Trouble}
 use Rattle.dmpaft_driver.specs.Attempt.{last_said, AskFloods, Takes, Misses, Pages, End, esc}
 use Rattle.dmpaft_pump.specs.Page.{is_page_for, has_sequence, next_said}
+use Rattle.dmpaft_pump.specs.Pump.{most_askings}
 use Rattle.station_sim.specs.Joining.{and_then_some, talks_part}
 use Rattle.line_laws.proofs.Listening.{bytes_of, listens}
 use Rattle.line_laws.proofs.Places.{InFlight, AskedFor, asking, said, After, count_is, near_brief, pending_at_most}
@@ -107,7 +108,7 @@ module _ (h : List (List ℕ)) (p : Plan) (f : Fates) (mild : AreMild f) where
       let z = settles h p k (k + j + 1) 6 f s u v (omega arith) still a.near a.calm.waits e in
       (record { flight = z.flight; begun = z.begun ∙ a.begun; near = near_moved h p k (k + j + 1) (k + (j + 1)) (omega arith) v.console z.near; rests = z.rests }, z.dumps ∙ a.dumps)
 
-  pub takes_law : (left k j b : ℕ) (talk : List TalkItem) (bytes : List ℕ) (w v : Line) → left + j ≡ 4 → Takes left k b talk bytes → Ready h p k j w → console_talk f talk w ≡ Some v → v.unseen ≡ None →
+  pub takes_law : (left k j b : ℕ) (talk : List TalkItem) (bytes : List ℕ) (w v : Line) → left + j ≡ most_askings → Takes left k b talk bytes → Ready h p k j w → console_talk f talk w ≡ Some v → v.unseen ≡ None →
       (bytes ≡ page_of h p k) × Ready h p (k + 1) 0 v × (v.dumps ≡ w.dumps)
   takes_law zero k j b talk bytes w v n x r e u = absurd x
   takes_law (suc left) k j b talk bytes w v n (t, rest, split, awaits, inl (page, none, is)) r e u =
@@ -138,7 +139,7 @@ module _ (h : List (List ℕ)) (p : Plan) (f : Fates) (mild : AreMild f) where
       in_flight (inr (m, lo, hi, z, r, n, g)) = n
 
   -- the last asking for a page, and the host gives up
-  missed_law : (k j b : ℕ) (talk t rest : List TalkItem) (w v : Line) → j ≤ 3 → talk ≡ Said b true ∷ t ++ rest → Awaits answer_waits page_size t → rest ≡ [] → Ready h p k j w → console_talk f (talk ++ esc) w ≡ Some v → v.unseen ≡ None → IsCalm v × (v.dumps ≡ w.dumps)
+  missed_law : (k j b : ℕ) (talk t rest : List TalkItem) (w v : Line) → j ≤ most_askings - 1 → talk ≡ Said b true ∷ t ++ rest → Awaits answer_waits page_size t → rest ≡ [] → Ready h p k j w → console_talk f (talk ++ esc) w ≡ Some v → v.unseen ≡ None → IsCalm v × (v.dumps ≡ w.dumps)
   missed_law k j b talk t rest w v n split awaits none r e u =
       let m = talks_part f (Said b true ∷ t) esc w v (ap (λ x. console_talk f (x ++ esc) w) (let z : Said b true ∷ t ≡ talk = rw (split, none) (sym (append-nil (Said b true ∷ t))) in z) ∙ e) in
       let a = asking h p k j f mild t (awaits_listens page_size t awaits) w m.0 b r n m.1 in
@@ -147,7 +148,7 @@ module _ (h : List (List ℕ)) (p : Plan) (f : Fates) (mild : AreMild f) where
       (subst IsCalm is (tame_calm h p k (k + j + 1 + 1) (page_size + page_size) (says f 27 true m.0) (omega arith) q.2 q.0), ap (λ x. x.dumps) (sym is) ∙ q.1 ∙ a.dumps)
 
   -- the pages are missed, and the host gives up
-  pub misses_law : (left k j b : ℕ) (talk : List TalkItem) (trouble : Trouble) (w v : Line) → left + j ≡ 4 → Misses left k b talk trouble → Ready h p k j w → console_talk f (talk ++ esc) w ≡ Some v → v.unseen ≡ None → IsCalm v × (v.dumps ≡ w.dumps)
+  pub misses_law : (left k j b : ℕ) (talk : List TalkItem) (trouble : Trouble) (w v : Line) → left + j ≡ most_askings → Misses left k b talk trouble → Ready h p k j w → console_talk f (talk ++ esc) w ≡ Some v → v.unseen ≡ None → IsCalm v × (v.dumps ≡ w.dumps)
   misses_law zero k j b talk trouble w v n x r e u = absurd x
   misses_law (suc left) k j b talk trouble w v n (t, rest, split, awaits, page, inl (ahead, none, is)) r e u = missed_law k j b talk t rest w v (omega arith) split awaits none r e u
   misses_law (suc left) k j b talk trouble w v n (t, rest, split, awaits, page, inr (inl (ahead, last, none, is))) r e u = missed_law k j b talk t rest w v (omega arith) split awaits none r e u
@@ -159,7 +160,7 @@ module _ (h : List (List ℕ)) (p : Plan) (f : Fates) (mild : AreMild f) where
       let q = misses_law left k (j + 1) (next_said k (heard t)) more trouble m2.0 v (omega arith) again c.0 m2.2 u in
       (q.0, q.1 ∙ c.1)
 
-  ask_no_flood : (left k j b : ℕ) (talk : List TalkItem) (w v : Line) → left + j ≡ 4 → AskFloods left k b talk → Ready h p k j w → console_talk f talk w ≡ Some v → ⊥
+  ask_no_flood : (left k j b : ℕ) (talk : List TalkItem) (w v : Line) → left + j ≡ most_askings → AskFloods left k b talk → Ready h p k j w → console_talk f talk w ≡ Some v → ⊥
   ask_no_flood zero k j b talk w v n x r e = x
   ask_no_flood (suc left) k j b talk w v n (t, rest, split, awaits, page, ahead, inl flood) r e =
       let m = talks_part f (Said b true ∷ t) rest w v (ap (λ x. console_talk f x w) (sym split) ∙ e) in
@@ -201,16 +202,16 @@ module _ (h : List (List ℕ)) (p : Plan) (f : Fates) (mild : AreMild f) where
       record { calm = q.0; dumps = q.1; pages = rw none tt; count = rw none (omega arith); whole = λ z. rw none (omega arith) }
   pages_law (suc left) k talk taken end w v n (inl (t, rest, bytes, more, split, takes, is, inl again)) r e u =
       let m = talks_part f t rest w v (ap (λ x. console_talk f x w) (sym split) ∙ e) in
-      let a = takes_law 4 k 0 6 t bytes w m.0 refl takes r m.1 (goes_unseen f rest m.0 v m.2 u) in
+      let a = takes_law most_askings k 0 6 t bytes w m.0 refl takes r m.1 (goes_unseen f rest m.0 v m.2 u) in
       let q = pages_law left (k + 1) rest more end m.0 v (omega arith) again a.1 m.2 u in
       record { calm = q.calm; dumps = q.dumps ∙ a.2; pages = rw is (a.0, q.pages); count = rw is (omega (arith, q.count)); whole = λ z. rw is (omega (arith, q.whole z)) }
   pages_law (suc left) k talk taken end w v n (inl (t, rest, bytes, more, split, takes, is, inr (none, no_more, refused))) r e u =
       let e' : console_talk f t w ≡ Some v = ap (λ x. console_talk f x w) (let z : t ≡ talk = rw (split, none) (sym (append-nil t)) in z) ∙ e in
-      let a = takes_law 4 k 0 6 t bytes w v refl takes r e' u in
+      let a = takes_law most_askings k 0 6 t bytes w v refl takes r e' u in
       record { calm = ready_calm (k + 1) 0 v a.1; dumps = a.2; pages = rw (is, no_more) (a.0, tt); count = rw (is, no_more) (omega arith); whole = λ z. absurd cc }
-  pages_law (suc left) k talk taken end w v n (inr (inr (floods, none, is))) r e u = absurd (ask_no_flood 4 k 0 6 talk w v refl floods r e)
+  pages_law (suc left) k talk taken end w v n (inr (inr (floods, none, is))) r e u = absurd (ask_no_flood most_askings k 0 6 talk w v refl floods r e)
   pages_law (suc left) k talk taken end w v n (inr (inl (t, trouble, split, misses, none, failed))) r e u =
-      let q = misses_law 4 k 0 6 t trouble w v refl misses r (ap (λ x. console_talk f x w) (sym split) ∙ e) u in
+      let q = misses_law most_askings k 0 6 t trouble w v refl misses r (ap (λ x. console_talk f x w) (sym split) ∙ e) u in
       record { calm = q.0; dumps = q.1; pages = rw none tt; count = rw none (omega arith); whole = λ z. absurd cc }
 
   -- no settling between two askings floods
@@ -218,8 +219,8 @@ module _ (h : List (List ℕ)) (p : Plan) (f : Fates) (mild : AreMild f) where
   pages_dry zero k talk taken w v n (split, none, is) r e u = absurd cc
   pages_dry (suc left) k talk taken w v n (inl (t, rest, bytes, more, split, takes, is, inl again)) r e u =
       let m = talks_part f t rest w v (ap (λ x. console_talk f x w) (sym split) ∙ e) in
-      let a = takes_law 4 k 0 6 t bytes w m.0 refl takes r m.1 (goes_unseen f rest m.0 v m.2 u) in
+      let a = takes_law most_askings k 0 6 t bytes w m.0 refl takes r m.1 (goes_unseen f rest m.0 v m.2 u) in
       pages_dry left (k + 1) rest more m.0 v (omega arith) again a.1 m.2 u
   pages_dry (suc left) k talk taken w v n (inl (t, rest, bytes, more, split, takes, is, inr (none, no_more, refused))) r e u = absurd cc
-  pages_dry (suc left) k talk taken w v n (inr (inr (floods, none, is))) r e u = ask_no_flood 4 k 0 6 talk w v refl floods r e
+  pages_dry (suc left) k talk taken w v n (inr (inr (floods, none, is))) r e u = ask_no_flood most_askings k 0 6 talk w v refl floods r e
   pages_dry (suc left) k talk taken w v n (inr (inl (t, trouble, split, misses, none, failed))) r e u = absurd cc

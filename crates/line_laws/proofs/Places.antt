@@ -1,5 +1,5 @@
 -- Where a console stands while pages are asked for.
-use Rattle.std.proofs.Common.{◌≡◌, ℕ, ◌+◌, ◌≤◌, ◌%◌, true, ◌⊎◌, inl, inr, List, [], ◌∷◌, ◌++◌, length, Some, None, refl, sym, ◌∙◌, ap, subst, arith, append-nil, length-append}
+use Rattle.std.proofs.Common.{◌≡◌, ℕ, ◌+◌, ◌≤◌, ◌%◌, true, ◌⊎◌, inl, inr, List, [], ◌∷◌, ◌++◌, length, Some, None, refl, sym, ◌∙◌, ap, subst, arith, append-nil, length-append, ◌-◌}
 use Rattle.console_ring.specs.declared.plan.Plan.{Plan}
 use Rattle.console_model.specs.Console.{State, Console, Outcome}
 use Rattle.console_ring.specs.Picture.{page_of}
@@ -18,6 +18,7 @@ use Rattle.serial_link.specs.declared.talk.TalkItem.{TalkItem}
 use Rattle.station_sim.specs.Talk.{console_talk}
 use Rattle.serial_link.specs.declared.talk.TalkItem.TheVariants.{Said}
 use Rattle.wake_retry.specs.Parts.{heard}
+use Rattle.dmpaft_pump.specs.Pump.{most_askings}
 use Rattle.station_sim.proofs.Calming.{closed_late, few_late}
 use Rattle.line_laws.specs.Host.{Listens, Near, NearAt, Ready, HasSequence}
 use Rattle.line_laws.proofs.Listening.{bytes_of, Closed, closed_empty, happens-nothing, listens}
@@ -156,7 +157,7 @@ module _ (h : List (List ℕ)) (p : Plan) (k j : ℕ) (f : Fates) (mild : AreMil
   bytes_at_most u (inl n) = omega arith
   bytes_at_most u (inr (m, lo, hi, z, r, n, g)) = n
 
-  took : (u v : Line) → j ≤ 3 → InFlight h p k (k + j) u → Closed u.flight → u.begun ≡ [] → console_talk f t u ≡ Some v → v.unseen ≡ None → bytes_of u.flight ≡ heard t ++ bytes_of v.flight →
+  took : (u v : Line) → j ≤ most_askings - 1 → InFlight h p k (k + j) u → Closed u.flight → u.begun ≡ [] → console_talk f t u ≡ Some v → v.unseen ≡ None → bytes_of u.flight ≡ heard t ++ bytes_of v.flight →
       length (heard t) ≡ page_size → is_good (heard t) ≡ true → HasSequence (k % 256) (heard t) → (heard t ≡ page_of h p k) × Ready h p (k + 1) 0 v
   took u v few (inl n) c b e un by l good s = absurd (omega (arith, ap length by, length-append (heard t) (bytes_of v.flight)))
   took u v few (inr (m, lo, hi, z, r, n, g)) c b e un by l good s =
@@ -174,7 +175,7 @@ module _ (h : List (List ℕ)) (p : Plan) (k j : ℕ) (f : Fates) (mild : AreMil
         },
       )
 
-  pub asking : (w v : Line) (b : ℕ) → Ready h p k j w → j ≤ 3 → console_talk f (Said b true ∷ t) w ≡ Some v → AskedFor h p k j w t v
+  pub asking : (w v : Line) (b : ℕ) → Ready h p k j w → j ≤ most_askings - 1 → console_talk f (Said b true ∷ t) w ≡ Some v → AskedFor h p k j w t v
   asking w v b ready few e =
       let a = said h p k (k + j) f mild b w ready.flight ready.begun ready.near ready.rests in
       let l = listens h p k (k + j + 1) f t (says f b true w) v quiet a.near e in

@@ -33,6 +33,7 @@ use Rattle.line_laws.specs.Records.{Now}
 use Rattle.serial_link.specs.Talk.{message}
 use Rattle.dmpaft_pump.specs.Page.{is_page_before, next_said}
 use Rattle.console_model.specs.Valid.{EachFollows}
+use Rattle.dmpaft_pump.specs.Pump.{most_askings}
 use Rattle.line_laws.proofs.Asked.{at_state}
 use Rattle.station_sim.specs.Joining.{and_then_some, talks_part}
 use Rattle.line_laws.proofs.Framing.{hearing_is, waiting_is}
@@ -127,10 +128,10 @@ last_plain (suc k) = (refl, refl, tt)
 
 pages_plain : (left k : ℕ) (talk : List TalkItem) (taken : List (List ℕ)) (end : End) → Pages left k talk taken end → IsPlain talk
 pages_plain zero k talk taken end (split, none, is) = subst IsPlain (sym split) (last_plain k)
-pages_plain (suc left) k talk taken end (inl (t, rest, bytes, more, split, takes, is, inl again)) = subst IsPlain (sym split) (plain_join t rest (takes_plain 4 k 6 t bytes refl takes) (pages_plain left (k + 1) rest more end again))
-pages_plain (suc left) k talk taken end (inl (t, rest, bytes, more, split, takes, is, inr (none, no_more, refused))) = subst IsPlain (sym split) (plain_join t rest (takes_plain 4 k 6 t bytes refl takes) (rw none tt))
-pages_plain (suc left) k talk taken end (inr (inl (t, trouble, split, misses, none, failed))) = subst IsPlain (sym split) (plain_join t esc (misses_plain 4 k 6 t trouble refl misses) (refl, refl, tt))
-pages_plain (suc left) k talk taken end (inr (inr (floods, none, is))) = floods_plain 4 k 6 talk refl floods
+pages_plain (suc left) k talk taken end (inl (t, rest, bytes, more, split, takes, is, inl again)) = subst IsPlain (sym split) (plain_join t rest (takes_plain most_askings k 6 t bytes refl takes) (pages_plain left (k + 1) rest more end again))
+pages_plain (suc left) k talk taken end (inl (t, rest, bytes, more, split, takes, is, inr (none, no_more, refused))) = subst IsPlain (sym split) (plain_join t rest (takes_plain most_askings k 6 t bytes refl takes) (rw none tt))
+pages_plain (suc left) k talk taken end (inr (inl (t, trouble, split, misses, none, failed))) = subst IsPlain (sym split) (plain_join t esc (misses_plain most_askings k 6 t trouble refl misses) (refl, refl, tt))
+pages_plain (suc left) k talk taken end (inr (inr (floods, none, is))) = floods_plain most_askings k 6 talk refl floods
 
 -- one LF, to a console that rests
 lf_unclear : (s : State) (g : List (List ℕ)) (d : Store) (hs : List (List ℕ)) (i : ℕ) → Rests s → Unclear (10 ∷ []) (at_state g d hs s i)

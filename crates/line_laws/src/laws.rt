@@ -1,4 +1,5 @@
-ghost use Rattle.std.specs.Prelude.{ℕ, ◌≡◌, ◌≤◌, ◌<◌, ◌+◌, ◌⊎◌, ◌∷◌, ◌++◌, [], Bool, List, Option, length, true, None};
+ghost use Rattle.std.specs.Prelude.{ℕ, ◌≡◌, ◌≤◌, ◌<◌, ◌+◌, ◌-◌, ◌⊎◌, ◌∷◌, ◌++◌, [], Bool, List, Option, length, true};
+ghost use Rattle.std.specs.Prelude.{None};
 ghost use Rattle.console_ring.specs.declared.plan.Plan.{Plan};
 ghost use Rattle.serial_link.specs.declared.talk.TalkItem.{TalkItem};
 ghost use Rattle.serial_link.specs.Talk.{message};
@@ -20,6 +21,7 @@ ghost use Rattle.schedule_file.specs.declared.fates.Fates as lists;
 ghost use Rattle.schedule_file.specs.Lists.{fates_of, left_in};
 ghost use Rattle.console_model.specs.Valid.{EachFollows};
 ghost use Rattle.wake_retry.specs.Parts.{settled_waits, answer_waits, wake_tries};
+ghost use Rattle.dmpaft_pump.specs.Pump.{most_askings};
 ghost use Rattle.line_laws.specs.Gathers.{IsStamp, Gives};
 ghost use Rattle.line_laws.specs.Records.{Now};
 ghost use Rattle.line_laws.specs.Unharmed.{Rested, Awake, Waiting, InDump, BeginsDump, feeds_for};
@@ -36,7 +38,8 @@ pub fn six_waits()
 /// it and three ahead.
 pub fn position()
     ensures { (h : List (List ℕ)) (p : Plan) (k j : ℕ) (f : Fates) → AreMild f → (t : List TalkItem) → Listens t
-        → (w v : Line) (b : ℕ) → Ready h p k j w → j ≤ 3 → ConsoleTalk f (TalkItem.Said b true ∷ t) w v → Position h p k j f t v }
+        → (w v : Line) (b : ℕ) → Ready h p k j w → j ≤ most_askings - 1
+        → ConsoleTalk f (TalkItem.Said b true ∷ t) w v → Position h p k j f t v }
 {}
 
 /// One attempt from a calm line in which no delivery is unseen: the line is calm again, at most one dump began, and the pages taken
@@ -74,15 +77,18 @@ pub fn an_attempt_without_harm()
 /// A wake of a line at rest, no delivery being harmed. LF CR answers the first line feed, or the second where the console was
 /// asleep. The console is then in Command with an empty line. No wake floods, harmed or not.
 pub fn a_wake_without_harm()
-    ensures awake { (f : Fates) → AreSound f → (t : List TalkItem) (awake : Bool) (w v : Line) → Rested w → Wakes wake_tries t awake → ConsoleTalk f t w v
+    ensures awake { (f : Fates) → AreSound f → (t : List TalkItem) (awake : Bool) (w v : Line) → Rested w
+        → Wakes wake_tries t awake → ConsoleTalk f t w v
         → v.harmed ≡ w.harmed → Wakes (feeds_for w.console.state) t true × Awake 5 w v × (awake ≡ true) }
-    ensures quiet { (f : Fates) → AreSound f → (t : List TalkItem) (w v : Line) → Rested w → ConsoleTalk f t w v → ¬ (WakeFloods wake_tries t) }
+    ensures quiet { (f : Fates) → AreSound f → (t : List TalkItem) (w v : Line) → Rested w → ConsoleTalk f t w v
+        → ¬ (WakeFloods wake_tries t) }
 {}
 
 /// A stamp frame to a console that awaits it, no delivery harmed, is answered by 0x06 and the header of its plan, and where that has pages
 /// the console is in its dump.
 pub fn a_header_without_harm()
-    ensures { (f : Fates) → AreSound f → (after : Option CivilMinute) (t : List TalkItem) (w u v : Line) (a : Waiting w u) → IsSound u → Awaits answer_waits 7 t
+    ensures { (f : Fates) → AreSound f → (after : Option CivilMinute) (t : List TalkItem) (w u v : Line) (a : Waiting w u)
+        → IsSound u → Awaits answer_waits 7 t
         → ConsoleTalk f (message (stamp_frame_of after) ++ t) u v → v.harmed ≡ u.harmed
         → BeginsDump f a.history (plan_after a.history (stamp_frame_of after)) t v }
 {}
@@ -90,7 +96,8 @@ pub fn a_header_without_harm()
 /// Each page comes at its first asking where no delivery is harmed, and the console stays in the dump.
 pub fn a_page_without_harm()
     ensures { (f : Fates) → AreMild f → (g : List (List ℕ)) (p : Plan) (k : ℕ) (t : List TalkItem) (w v : Line) → k < p.pages → InDump f g p k w
-        → Awaits answer_waits page_size t → ConsoleTalk f (TalkItem.Said 6 true ∷ t) w v → v.harmed ≡ w.harmed → (heard t ≡ page_of g p k) × InDump f g p (k + 1) v }
+        → Awaits answer_waits page_size t → ConsoleTalk f (TalkItem.Said 6 true ∷ t) w v → v.harmed ≡ w.harmed
+        → (heard t ≡ page_of g p k) × InDump f g p (k + 1) v }
 {}
 
 /// The records of a round fall due in the order in which they are listed.

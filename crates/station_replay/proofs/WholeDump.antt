@@ -29,6 +29,7 @@ use Rattle.dmpaft_pump.specs.Page.{is_page_for, has_sequence}
 use Rattle.dmpaft_driver.proofs.Bounding.{frame_long}
 use Rattle.crc_ccitt.specs.Check.{is_good}
 use Rattle.console_ring.specs.History.{ring_size}
+use Rattle.dmpaft_pump.specs.Pump.{most_askings}
 use Rattle.schedule_file.specs.Fates.{Fates}
 use Rattle.station_sim.specs.Delivery.{delivered, all_bytes, late}
 use Rattle.station_sim.specs.Line.{Line, flies, happens, replied, unanswered, hears, counted, sends, says, is_harmed, earlier}
@@ -217,7 +218,7 @@ module _ (h : List (List ℕ)) (records : AreRecords h) (d : Store) (p : Plan) w
       let t = Said 6 true ∷ hearing_of bytes in
       let next = all_paged left (k + 1) (flies x []) (omega (arith, sum)) some (paged k w less a) in
       let same : heard (hearing_of bytes) ≡ bytes = heard_of bytes in
-      let takes : Takes 4 k 6 (Said 6 true ∷ hearing_of (page_of h p k)) (page_of h p k) = (
+      let takes : Takes most_askings k 6 (Said 6 true ∷ hearing_of (page_of h p k)) (page_of h p k) = (
         hearing_of bytes,
         [],
         ap (λ xs. Said 6 true ∷ xs) (sym (append-nil (hearing_of bytes))),

@@ -18,19 +18,19 @@ use Rattle.dmpaft_driver.specs.Bounds.{most_heard, most_said}
 
 -- so many attempts
 abbrev AreAttempts : ℕ → List TalkItem → Type 0
-AreAttempts count talk = IsBounded (101669940 * count) (2069 * count) talk
+AreAttempts count talk = IsBounded (most_heard * count) (most_said * count) talk
 
-one_attempt : (last : Option CivilMinute) (t : Tried) → IsTried last t → IsBounded 101669940 2069 t.said
+one_attempt : (last : Option CivilMinute) (t : Tried) → IsTried last t → IsBounded most_heard most_said t.said
 one_attempt last t h = attempts_are_bounded last t.said t.place t.taken t.end h
 
 none_after : (count : ℕ) → AreAttempts count []
 none_after count = record { hears = omega arith; says = omega arith }
 
 -- one attempt before others
-one_before : (count : ℕ) (s t : List TalkItem) → IsBounded 101669940 2069 s → AreAttempts count t → (more : ℕ) → count + 1 ≤ more → AreAttempts more (s ++ t)
+one_before : (count : ℕ) (s t : List TalkItem) → IsBounded most_heard most_said s → AreAttempts count t → (more : ℕ) → count + 1 ≤ more → AreAttempts more (s ++ t)
 one_before count s t one others more few =
-    bounded_within (101669940 + 101669940 * count) (2069 + 2069 * count) (101669940 * more) (2069 * more) (s ++ t) (omega (arith, few)) (omega (arith, few))
-    (bounded_joins 101669940 2069 (101669940 * count) (2069 * count) s t one others)
+    bounded_within (most_heard + most_heard * count) (most_said + most_said * count) (most_heard * more) (most_said * more) (s ++ t) (omega (arith, few)) (omega (arith, few))
+    (bounded_joins most_heard most_said (most_heard * count) (most_said * count) s t one others)
 
 -- the attempts of a round from here, so many being made and so many left
 attempts_bounded : (made left : ℕ) (last : Option CivilMinute) (tries : List Tried) (end : RoundEnd) → made + left ≡ most_attempts → Attempts made last tries end → AreAttempts left (all_said tries)

@@ -16,7 +16,7 @@ pub record IsBounded (most_heard most_said : ℕ) (talk : List TalkItem) : Type 
   pub hears : length (heard talk) ≤ most_heard
   pub says : length (said talk) ≤ most_said
 
--- a settling hears 65,536 bytes at most, still or flooded, and says none
+-- a settling hears a flood at most, still or flooded, and says nothing
 pub record BoundsSettling (quiets : ℕ) : Type 0 where
   pub still : (t : List TalkItem) → Still quiets t → IsBounded flood_size 0 t
   pub floods : (t : List TalkItem) → Flooding quiets t → IsBounded flood_size 0 t
