@@ -28,7 +28,7 @@ use Rattle.round_play.specs.Opening.{limits_of}
 use Rattle.round_play.specs.Played.{Host}
 use Rattle.round_play.specs.Playing.{IsOver, IsUnderWay, MayGoOn}
 use Rattle.schedule_replay.specs.Replayed.{TookPart}
-use Rattle.schedule_replay.specs.Replaying.{Course, IsNext, OpenedAhead, StandsAt, StandsBy}
+use Rattle.schedule_replay.specs.Replaying.{Course, IsNext, OpenedAhead, StandsAt, StandsBy, left_of}
 use Rattle.round_play.specs.Resting.{GoesOn}
 use Rattle.schedule_replay.specs.Running.{After, IsCut}
 use Rattle.schedule_replay.specs.SoFar.{SoFar}
@@ -37,7 +37,7 @@ use Rattle.schedule_steps.specs.Steps.{step_of, steps_for}
 use Rattle.schedule_replay.specs.Telling.{Telling}
 use Rattle.schedule_replay.specs.Told.{TellsFront, TellsRun}
 use Rattle.schedule_steps.specs.Stops.{stop_set}
-use Rattle.schedule_replay.specs.Turns.{BreaksRun, CutsRun, EndsRun, Moves, TurnsTo}
+use Rattle.schedule_replay.specs.Turns.{BreaksRun, CutsRun, EndsRun, IsOneTurn, Moves, TurnsTo}
 use Rattle.schedule_replay.proofs.Ahead.{is_opened}
 use Rattle.schedule_replay.proofs.Looping.{IsReady, begun_too, few_rounds, has_run_room, may_take_next, ready, round_broken, round_cut, round_more, so_far_more, step_cut, steps_more, steps_parts, steps_split}
 use Rattle.schedule_replay.proofs.RoundLaws.{can_open, may_play, opened_rounds, opened_rows}
@@ -224,18 +224,19 @@ pub left_some : (o : Option Session) (session : Session) → o ≡ Some session 
 left_some o session is = ap left_to_open is
 
 -- a recovery leaves one turn fewer
-pub recovered_left : (steps : List code_step.Step) (p p' taken taken' : ℕ) (o o' : Option Playing) (session session' : Option Session) → o ≡ None → o' ≡ None → p' ≡ p → taken' ≡ taken → session ≡ None → is_some session' ≡ true → left_by o' p' steps taken' session' < left_by o p steps taken session
-recovered_left steps p p' taken taken' o o' session session' none none' same same_taken closed goes =
-    let old = left_none o p steps taken session none in
-    let new = left_none o' p' steps taken' session' none' in
-    let e : left_in p' (drop taken' steps) ≡ left_in p (drop taken steps) = ap (λ (z : ℕ). left_in z (drop taken' steps)) same ∙ ap (λ (z : ℕ). left_in p (drop z steps)) same_taken in
-    let one : left_to_open session ≡ 1 = ap left_to_open closed in
-    omega (arith, old, new, e, one, left_open session' goes)
+pub recovered_left : (steps : List code_step.Step) (old new : ReplayRun) → new ≡ record old { run = new.run; turns = new.turns } → old.playing ≡ None → old.run.session ≡ None → is_some new.run.session ≡ true → left_of steps new < left_of steps old
+recovered_left steps old new stays none closed goes =
+    let was = left_none old.playing old.settings.period steps old.taken old.run.session none in
+    let now = left_none new.playing new.settings.period steps new.taken new.run.session (ap (λ (r : ReplayRun). r.playing) stays ∙ none) in
+    let same : left_in new.settings.period (drop new.taken steps) ≡ left_in old.settings.period (drop old.taken steps) = ap (λ (r : ReplayRun). left_in r.settings.period (drop r.taken steps)) stays in
+    let one : left_to_open old.run.session ≡ 1 = ap left_to_open closed in
+    omega (arith, was, now, same, one, left_open new.run.session goes)
 
-pub recovered_moves : (o o' : Option Playing) (session session' : Option Session) (taken taken' : ℕ) → o ≡ None → o' ≡ None → taken' ≡ taken → session ≡ None → is_some session' ≡ true → Moves o o' (is_some session) (is_some session') taken taken'
-recovered_moves o o' session session' taken taken' none none' same closed goes =
-    subst (λ (z : Option Playing). Moves z o' (is_some session) (is_some session') taken taken') (sym none)
-    (subst (λ (z : Option Playing). Moves None z (is_some session) (is_some session') taken taken') (sym none') (inr (same, ap is_some closed, goes)))
+pub recovered_moves : (old new : ReplayRun) → new ≡ record old { run = new.run; turns = new.turns } → old.playing ≡ None → old.run.session ≡ None → is_some new.run.session ≡ true → IsOneTurn old new
+recovered_moves old new stays none closed goes =
+    let same : new.taken ≡ old.taken = ap (λ (r : ReplayRun). r.taken) stays in
+    subst (λ (z : Option Playing). Moves z new.playing (is_some old.run.session) (is_some new.run.session) old.taken new.taken) (sym none)
+    (subst (λ (z : Option Playing). Moves None z (is_some old.run.session) (is_some new.run.session) old.taken new.taken) (sym (ap (λ (r : ReplayRun). r.playing) stays ∙ none)) (inr (same, ap is_some closed, goes)))
 
 -- a round was begun, and took a turn
 pub begun_moves : (o q : Option Playing) (playing : Playing) (was_open then_open is_open : Bool) (taken taken' : ℕ) → o ≡ None → was_open ≡ true → Moves (Some playing) q then_open is_open taken taken' → Moves o q was_open is_open taken taken'

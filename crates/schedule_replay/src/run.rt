@@ -146,8 +146,7 @@ impl Run {
         ensures written { OnOk result ((rows : List Row) → book.StandsFor (book_of session.now) rows
             → self.new.written ≡ length rows) }
         ensures disk { IsOnlyRead disk.old disk.new }
-        ensures session { self.new.session ≡ self.old.session }
-        ensures rounds { self.new.rounds ≡ self.old.rounds }
+        ensures others { self.new ≡ record self.old { written = self.new.written } }
         ensures cause { Cause (T.telling.faults teller.old) (T.telling.faults teller.new)
             (result ≡ Err Cut.WriteFault) }
         ensures still { result ≢ Err Cut.WriteFault → T.telling.faults teller.new ≡ T.telling.faults teller.old }

@@ -162,13 +162,16 @@ impl ReplayRun {
         ensures turns_to { (c : Course) (items : List Item) → StandsWith None c items self.old line.old disk.old
             → IsNext c.steps self.old.taken step.now
             → TurnsTo T.telling result c self.old.settings items line.new disk.new self.new teller.old teller.new }
-        ensures settings { self.new.settings ≡ self.old.settings }
+        ensures others { self.new ≡ record self.old {
+          run = self.new.run;
+          taken = self.new.taken;
+          turns = self.new.turns;
+        } }
         ensures turns { result ≡ ReplayTurn.More → self.new.turns ≡ self.old.turns + 1 }
         ensures left { result ≡ ReplayTurn.More → (steps : List code_step.Step) → IsNext steps self.old.taken step.now
             → left_of steps self.new < left_of steps self.old }
         ensures taken { result ≡ ReplayTurn.More → self.new.taken ≡ self.old.taken + 1 }
         ensures says_or_stores { result ≡ ReplayTurn.More → SaysOrStores line.old disk.old line.new disk.new }
-        ensures playing { self.new.playing ≡ None }
         ensures not_ended { result ≢ ReplayTurn.Ended }
         ensures write_fault { Cause (T.telling.faults teller.old) (T.telling.faults teller.new)
             (result ≡ ReplayTurn.WriteFault) }
@@ -199,11 +202,9 @@ impl ReplayRun {
             → StandsWith None c items self.old line disk.old
             → OpensNext (steps_for self.old.settings.period (drop self.old.taken c.steps))
             → TurnsTo T.telling result c self.old.settings items line disk.new self.new teller.old teller.new }
-        ensures settings { self.new.settings ≡ self.old.settings }
+        ensures others { self.new ≡ record self.old { run = self.new.run; turns = self.new.turns } }
         ensures turns { result ≡ ReplayTurn.More → self.new.turns ≡ self.old.turns + 1 }
-        ensures taken { self.new.taken ≡ self.old.taken }
         ensures is_open { result ≡ ReplayTurn.More → is_some self.new.run.session ≡ true }
-        ensures playing { self.new.playing ≡ None }
         ensures not_ended { result ≢ ReplayTurn.Ended }
         ensures write_fault { Cause (T.telling.faults teller.old) (T.telling.faults teller.new)
             (result ≡ ReplayTurn.WriteFault) }
@@ -321,12 +322,11 @@ impl ReplayRun {
             → StandsWith None c items self.old line disk.old
             → length c.steps ≤ self.old.taken
             → TurnsTo T.telling result c self.old.settings items line disk.new self.new teller.old teller.new }
-        ensures settings { self.new.settings ≡ self.old.settings }
+        ensures others { self.new ≡ record self.old { run = self.new.run; turns = self.new.turns } }
         ensures turns { result ≡ ReplayTurn.More → self.new.turns ≡ self.old.turns + 1 }
         ensures left { result ≡ ReplayTurn.More → (steps : List code_step.Step)
             → left_of steps self.new < left_of steps self.old }
         ensures one_turn { result ≡ ReplayTurn.More → IsOneTurn self.old self.new }
-        ensures playing { self.new.playing ≡ None }
         ensures ends_open { result ≡ ReplayTurn.Ended → is_some self.old.run.session ≡ true }
         ensures write_fault { Cause (T.telling.faults teller.old) (T.telling.faults teller.new)
             (result ≡ ReplayTurn.WriteFault) }

@@ -1,6 +1,7 @@
-use Rattle.std.proofs.Common.{◌≡◌, ◌+◌, ℕ, None, Err, [], ◌∷◌, subst, ◌∙◌, rules}
+use Rattle.std.proofs.Common.{◌≡◌, ◌+◌, ℕ, None, Err, [], ◌∷◌, ap, subst, ◌∙◌, rules}
 use Rattle.station_replay.specs.Replay.{Item, cut_short, opening, recovered}
 use Rattle.schedule_steps.specs.Stops.{stop_of}
+use Rattle.schedule_replay.specs.declared.run.Run.{Run}
 use Rattle.schedule_replay.specs.Telling.{TellsAll}
 use Rattle.schedule_replay.proofs.RunLaws.{closed_stage, does_open, does_plainly, does_stop, holds_closed, on_err, on_ok, open_cut, opens_none, opens_some, told_all, told_front, told_less}
 use Rattle.schedule_replay.proofs.run.Run.open.Goals as goal
@@ -55,7 +56,7 @@ returns-in_ok-tell_opening-in-Ok-Some-clause-ok g c openings s h =
       record {
         rests = read.rests _ _ x.1.0;
         session = read.goes_on _ _ _ x.1.1;
-        rounds = c.tell_opening.ensures.rounds ∙ h.rounds;
+        rounds = ap (λ (r : Run). r.rounds) c.tell_opening.ensures.others ∙ h.rounds;
         written = c.in_ok-tell_opening-in-Ok-Some.ensures.written s.archive.rows x.1.1.stands.stands_for;
       },
       subst (λ (n : ℕ). g.T.Teller.telling.tells old (Item.Opened s.archive.rows n ∷ []) new) h.written (c.in_ok-tell_opening-in-Ok-Some.ensures.tells c.args.settings.now s.archive.rows x.1.1),

@@ -1,5 +1,6 @@
-use Rattle.std.proofs.Common.{◌≡◌, ℕ, Err, None, [], ◌∷◌, subst, ◌∙◌, rules}
+use Rattle.std.proofs.Common.{◌≡◌, ℕ, Err, None, [], ◌∷◌, ap, subst, ◌∙◌, rules}
 use Rattle.station_replay.specs.Replay.{Item}
+use Rattle.schedule_replay.specs.declared.run.Run.{Run}
 use Rattle.schedule_replay.specs.Telling.{TellsAll}
 use Rattle.schedule_replay.proofs.RunLaws.{closed_by, may_tell, opens_front, opens_told, readies_closed, told_front}
 use Rattle.schedule_replay.proofs.run.Run.ready.Goals as goal
@@ -28,6 +29,6 @@ returns-clause-ok g c openings s h =
     let closed = closed_by s.is_open c.args.settings.now s.archive.rows c.args.self.now.session c.args.disk.now h.session none in
     let read = c.tell_opening.ensures.disk in (
       readies_closed openings c.args.settings.now s c.tell_opening.new.self c.in-Ok.session c.tell_opening.new.disk closed (read.rests _ _ x.0) (read.goes_on _ _ _ x.1)
-          (c.tell_opening.ensures.rounds ∙ h.rounds) (c.in_ok-tell_opening.ensures.written s.archive.rows x.1.stands.stands_for) (c.tell_opening.ensures.session ∙ c.take.ensures.after),
+          (ap (λ (r : Run). r.rounds) c.tell_opening.ensures.others ∙ h.rounds) (c.in_ok-tell_opening.ensures.written s.archive.rows x.1.stands.stands_for) (ap (λ (r : Run). r.session) c.tell_opening.ensures.others ∙ c.take.ensures.after),
       opens_told g.T.Teller.telling s old new closed (subst (λ (n : ℕ). g.T.Teller.telling.tells old (Item.Opened s.archive.rows n ∷ []) new) h.written (c.in_ok-tell_opening.ensures.tells c.args.settings.now s.archive.rows x.1)),
     )

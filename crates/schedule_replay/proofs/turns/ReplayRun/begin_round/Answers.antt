@@ -1,10 +1,11 @@
-use Rattle.std.proofs.Common.{◌≡◌, List, None, Some, inl, refl, length, sym, subst, ap, arith, rules}
+use Rattle.std.proofs.Common.{◌≡◌, List, None, Some, inl, refl, length, sym, subst, ap, ◌∙◌, arith, rules}
 use Rattle.std.specs.Prelude.{is_some}
 use Rattle.station_replay.specs.Replay.{Item, start}
 use Rattle.station_replay.specs.Schedule.{records}
 use Rattle.schedule_file.specs.declared.schedule.step.Step.TheVariants as code
 use Rattle.schedule_replay.specs.Standing.{round_step}
 use Rattle.schedule_steps.specs.Steps.{steps_for}
+use Rattle.schedule_replay.specs.declared.turns.ReplayRun.{ReplayRun}
 use Rattle.schedule_replay.specs.Turns.{CutsRun}
 use Rattle.schedule_replay.proofs.Looping.{ready}
 use Rattle.schedule_replay.proofs.RoundLaws.{moments_left}
@@ -28,18 +29,15 @@ returns-in_default-clause-turns_to g c k items p n =
 pub returns-in_default-clause-left : goal.returns-in_default-clause-left
 returns-in_default-clause-left g c more steps n =
     let none : c.args.self.now.run.session ≡ None = search rules in
-    let e = c.recover.ensures in
-    recovered_left steps c.args.self.now.settings.period c.recover.new.self.settings.period c.args.self.now.taken c.recover.new.self.taken c.args.self.now.playing c.recover.new.self.playing c.args.self.now.run.session c.recover.new.self.run.session
-    c.requires.none e.playing (ap (λ s. s.period) e.settings) e.taken none (e.is_open more)
+    recovered_left steps c.args.self.now c.recover.new.self c.recover.ensures.others c.requires.none none (c.recover.ensures.is_open more)
 
 pub returns-in_default-clause-one_turn : goal.returns-in_default-clause-one_turn
 returns-in_default-clause-one_turn g c more =
     let none : c.args.self.now.run.session ≡ None = search rules in
-    let e = c.recover.ensures in
-    recovered_moves c.args.self.now.playing c.recover.new.self.playing c.args.self.now.run.session c.recover.new.self.run.session c.args.self.now.taken c.recover.new.self.taken c.requires.none e.playing e.taken none (e.is_open more)
+    recovered_moves c.args.self.now c.recover.new.self c.recover.ensures.others c.requires.none none (c.recover.ensures.is_open more)
 
 pub returns-in_default-clause-one_call : goal.returns-in_default-clause-one_call
-returns-in_default-clause-one_call g c more some = absurd (none_plays c.recover.new.self.playing c.recover.ensures.playing some)
+returns-in_default-clause-one_call g c more some = absurd (none_plays c.recover.new.self.playing (ap (λ (r : ReplayRun). r.playing) c.recover.ensures.others ∙ c.requires.none) some)
 
 pub begin_play-requires-clause-goes : goal.begin_play-requires-clause-goes
 begin_play-requires-clause-goes g c =

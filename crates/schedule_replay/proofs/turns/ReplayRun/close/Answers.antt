@@ -1,4 +1,4 @@
-use Rattle.std.proofs.Common.{◌≡◌, ◌+◌, ◌++◌, List, None, Some, sym, subst, ap, rules}
+use Rattle.std.proofs.Common.{◌≡◌, ◌+◌, ◌++◌, List, None, Some, sym, subst, rules}
 use Rattle.station_replay.specs.Replay.{Item, first, start}
 use Rattle.station_replay.specs.Schedule.{IsSchedule, Step}
 use Rattle.schedule_steps.specs.Steps.{steps_for}
@@ -23,15 +23,12 @@ returns-in_default-clause-turns_to g c k items line p end =
 pub returns-in_default-clause-left : goal.returns-in_default-clause-left
 returns-in_default-clause-left g c more steps =
     let none : c.args.self.now.run.session ≡ None = search rules in
-    let e = c.recover.ensures in
-    recovered_left steps c.args.self.now.settings.period c.recover.new.self.settings.period c.args.self.now.taken c.recover.new.self.taken c.args.self.now.playing c.recover.new.self.playing c.args.self.now.run.session c.recover.new.self.run.session
-    c.requires.none e.playing (ap (λ s. s.period) e.settings) e.taken none (e.is_open more)
+    recovered_left steps c.args.self.now c.recover.new.self c.recover.ensures.others c.requires.none none (c.recover.ensures.is_open more)
 
 pub returns-in_default-clause-one_turn : goal.returns-in_default-clause-one_turn
 returns-in_default-clause-one_turn g c more =
     let none : c.args.self.now.run.session ≡ None = search rules in
-    let e = c.recover.ensures in
-    recovered_moves c.args.self.now.playing c.recover.new.self.playing c.args.self.now.run.session c.recover.new.self.run.session c.args.self.now.taken c.recover.new.self.taken c.requires.none e.playing e.taken none (e.is_open more)
+    recovered_moves c.args.self.now c.recover.new.self c.recover.ensures.others c.requires.none none (c.recover.ensures.is_open more)
 
 pub ended-requires : goal.ended-requires
 ended-requires g c =
