@@ -33,9 +33,7 @@ impl Fates {
         requires free { entry_of number self.old.host.entries ≡ None }
         ensures ok { OnOk result (self.new.host.entries ≡ with_entry self.old.host.entries number fate) }
         ensures err { OnErr result (self.new.host.entries ≡ self.old.host.entries) }
-        ensures replies { self.new.replies.entries ≡ self.old.replies.entries }
-        ensures lates { self.new.lates.entries ≡ self.old.lates.entries }
-        ensures mids { self.new.mids.items ≡ self.old.mids.items }
+        ensures others { self.new ≡ record self.old { host = self.new.host } }
     {
         self.host.insert(number, fate)?;
         Ok(())
@@ -47,9 +45,7 @@ impl Fates {
         requires free { entry_of number self.old.replies.entries ≡ None }
         ensures ok { OnOk result (self.new.replies.entries ≡ with_entry self.old.replies.entries number fate) }
         ensures err { OnErr result (self.new.replies.entries ≡ self.old.replies.entries) }
-        ensures host { self.new.host.entries ≡ self.old.host.entries }
-        ensures lates { self.new.lates.entries ≡ self.old.lates.entries }
-        ensures mids { self.new.mids.items ≡ self.old.mids.items }
+        ensures others { self.new ≡ record self.old { replies = self.new.replies } }
     {
         self.replies.insert(number, fate)?;
         Ok(())
@@ -64,9 +60,7 @@ impl Fates {
         ensures ok { OnOk result (lates_seen self.new.lates.entries
             ≡ with_entry (lates_seen self.old.lates.entries) number (record { waits = waits; place = place })) }
         ensures err { OnErr result (self.new.lates.entries ≡ self.old.lates.entries) }
-        ensures host { self.new.host.entries ≡ self.old.host.entries }
-        ensures replies { self.new.replies.entries ≡ self.old.replies.entries }
-        ensures mids { self.new.mids.items ≡ self.old.mids.items }
+        ensures others { self.new ≡ record self.old { lates = self.new.lates } }
     {
         self.lates.insert(number, Late { waits, place })?;
         Ok(())

@@ -64,8 +64,7 @@ impl<'a, R> FileDisk<'a, R> {
 
     // Counts a fault where the call failed.
     fn answer(&mut self, done: io::Result<()>) -> Disked
-        ensures moment { self.new.moment ≡ self.old.moment }
-        ensures looks { self.new.looks ≡ self.old.looks }
+        ensures others { self.new ≡ record self.old { faults = self.new.faults } }
         ensures fault { Cause self.old.faults self.new.faults (result ≡ Disked.Failed) }
         ensures unless_failed { result ≢ Disked.Failed → self.new.faults ≡ self.old.faults }
         ensures exact { (result ≡ Disked.Failed) ↔ IsErr done }
