@@ -31,7 +31,7 @@ CASE = re.compile(r'^(?:\w+ [^:]*=(?:$| )|  \w+ :|    (?:else )?if |    else )')
 
 # Definitions with a case for each command, of which a reader needs the one.
 BY_COMMAND = (Name('station_top', 'Run', 'performs'), Name('station_top', 'Run', 'Promises'),
-              Name('command_words', 'Command', 'command_of'), Name('command_words', 'Command', 'CommandLine'))
+              Name('command_words', 'Command', 'command_of_words'), Name('command_words', 'Command', 'CommandLine'))
 
 
 class Command(NamedTuple):

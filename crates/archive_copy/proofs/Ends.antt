@@ -5,14 +5,14 @@ use Rattle.station_base.specs.declared.row.Row.{Row}
 use Rattle.packed_rows.specs.Rows.{RowsOf, holds, rows_of}
 use Rattle.archive_copy.specs.declared.end.CopyEnd.{CopyEnd}
 use Rattle.archive_copy.specs.declared.end.CopyEnd.TheVariants.{Done, FromNotArchive, FromDamaged, Full, ToNotArchive, ToOldVersion, ToDamaged, NotPrefix, FromFault, ToFault, OutOfMemory}
-use Rattle.archive_copy.specs.Adding.{IsOfAdding, Moves, batches, next_rows, to_add}
+use Rattle.archive_copy.specs.Adding.{IsOfAdding, CopyMoves, batch_count, next_rows, to_add}
 use Rattle.gated_log.specs.Start.{MovedToWrite}
 use Rattle.archive_copy.specs.Calls.{is_from_fault, is_to_fault}
 use Rattle.archive_copy.specs.Opening.{IsOfFrom, IsOfTo}
-use Rattle.archive_copy.specs.Answers.{Answers, CanBeAddedTo, CanBeCopied, OnFromDamaged, RefusesFrom, RefusesTo}
+use Rattle.archive_copy.specs.Answers.{CopyAnswers, CanBeAddedTo, CanBeCopied, OnFromDamaged, RefusesFrom, RefusesTo}
 
 -- where the first file refuses
-pub from_answers : (end : CopyEnd) (from to : List ℕ) → RefusesFrom end from → Answers end from to
+pub from_answers : (end : CopyEnd) (from to : List ℕ) → RefusesFrom end from → CopyAnswers end from to
 from_answers (FromNotArchive bytes) from to is = is
 from_answers (FromDamaged place) from to is = is
 from_answers (Full n) from to is = is
@@ -26,7 +26,7 @@ from_answers (NotPrefix n) from to is = absurd is
 from_answers ToFault from to is = absurd is
 
 -- where the second file refuses
-pub to_answers : (end : CopyEnd) (from to : List ℕ) (theirs : List Row) → CanBeCopied from theirs → RefusesTo end to → Answers end from to
+pub to_answers : (end : CopyEnd) (from to : List ℕ) (theirs : List Row) → CanBeCopied from theirs → RefusesTo end to → CopyAnswers end from to
 to_answers (ToNotArchive bytes) from to theirs can is = (theirs, can, is)
 to_answers ToOldVersion from to theirs can is = (theirs, can, is)
 to_answers (ToDamaged place) from to theirs can is = (theirs, can, is)
@@ -41,7 +41,7 @@ to_answers (NotPrefix n) from to theirs can is = absurd is
 
 -- where rows were added, and none of them was out of order
 pub adding_answers : (end : CopyEnd) (from to : List ℕ) (theirs mine : List Row) (count : ℕ) → IsOfAdding end count → count ≡ length theirs → (end ≡ FromDamaged 0 → ⊥)
-    → CanBeCopied from theirs → CanBeAddedTo to mine → IsFrontOf mine theirs → Answers end from to
+    → CanBeCopied from theirs → CanBeAddedTo to mine → IsFrontOf mine theirs → CopyAnswers end from to
 adding_answers (Done n) from to theirs mine count is all ordered can may front = (theirs, mine, can, may, (front, is ∙ all))
 adding_answers (FromDamaged place) from to theirs mine count is all ordered can may front = absurd (ordered (ap FromDamaged is))
 adding_answers FromFault from to theirs mine count is all ordered can may front = tt
@@ -115,7 +115,7 @@ no_from_fault (NotPrefix n) is = absurd is
 no_from_fault FromFault is = absurd is
 
 -- neither says how far the moment came
-pub from_moves : (end : CopyEnd) (old new : ℕ) (to : List ℕ) → IsOfFrom end → Moves end old new to
+pub from_moves : (end : CopyEnd) (old new : ℕ) (to : List ℕ) → IsOfFrom end → CopyMoves end old new to
 from_moves (FromNotArchive bytes) old new to is = tt
 from_moves (FromDamaged place) old new to is = tt
 from_moves (Full n) old new to is = tt
@@ -128,7 +128,7 @@ from_moves (ToDamaged place) old new to is = tt
 from_moves (NotPrefix n) old new to is = absurd is
 from_moves ToFault old new to is = tt
 
-pub to_moves : (end : CopyEnd) (old new : ℕ) (to : List ℕ) → IsOfTo end → Moves end old new to
+pub to_moves : (end : CopyEnd) (old new : ℕ) (to : List ℕ) → IsOfTo end → CopyMoves end old new to
 to_moves (FromNotArchive bytes) old new to is = tt
 to_moves (FromDamaged place) old new to is = tt
 to_moves (Full n) old new to is = tt
@@ -143,9 +143,9 @@ to_moves ToFault old new to is = tt
 
 -- an adding that was done took four changes for each batch
 pub adding_moves : (end : CopyEnd) (old opened new count : ℕ) (to : List ℕ) (mine : List Row) → IsOfAdding end count → rows_of to ≡ holds mine → MovedToWrite old opened to
-    → (end ≡ Done count → new ≡ opened + 4 * batches (count - length mine)) → Moves end old new to
+    → (end ≡ Done count → new ≡ opened + 4 * batch_count (count - length mine)) → CopyMoves end old new to
 adding_moves (Done n) old opened new count to mine is has moved on =
-    (mine, opened, has, moved, on (ap Done is) ∙ ap (λ (k : ℕ). opened + 4 * batches (k - length mine)) (sym is))
+    (mine, opened, has, moved, on (ap Done is) ∙ ap (λ (k : ℕ). opened + 4 * batch_count (k - length mine)) (sym is))
 adding_moves (FromDamaged place) old opened new count to mine is has moved on = tt
 adding_moves FromFault old opened new count to mine is has moved on = tt
 adding_moves ToFault old opened new count to mine is has moved on = tt

@@ -8,8 +8,8 @@ use Rattle.std.proofs.lemmas.Option.{slice_get_within, get_or_from_slice_get}
 use Rattle.station_base.specs.CivilMinute.{CivilMinute}
 use Rattle.station_base.specs.declared.row.Row.{Row}
 use Rattle.causes.specs.Lists.{IsFrontOf}
-use Rattle.packed_rows.specs.Rising.{exceeds, rise, last_after, last_stamp}
-use Rattle.archive_copy.specs.Adding.{batches}
+use Rattle.packed_rows.specs.Rising.{stamp_exceeds, rows_rise, last_stamp_after, last_row_stamp}
+use Rattle.archive_copy.specs.Adding.{batch_count}
 use Rattle.packed_rows.proofs.RowLaws.{rise_front, rise_behind}
 
 -- one more of the next rows
@@ -25,13 +25,13 @@ up_to_five rows k is =
     sym (take-take k 5 rows (omega (arith, is))) ∙ take_all k (take 5 rows) (omega (arith, is, length-take 5 rows))
 
 -- where a row does not rise above the one before, the rows do not
-pub breaks : (last : Option CivilMinute) (xs : List Row) (row : Row) (ys : List Row) → exceeds (last_after last xs) row.stamp ≡ false → rise last (xs ++ row ∷ ys) ≡ false
-breaks last [] row ys is = and_left (exceeds last row.stamp) (rise (Some row.stamp) ys) is
-breaks last (x ∷ xs) row ys is = and_right (exceeds last x.stamp) (rise (Some x.stamp) (xs ++ row ∷ ys)) (breaks (Some x.stamp) xs row ys is)
+pub breaks : (last : Option CivilMinute) (xs : List Row) (row : Row) (ys : List Row) → stamp_exceeds (last_stamp_after last xs) row.stamp ≡ false → rows_rise last (xs ++ row ∷ ys) ≡ false
+breaks last [] row ys is = and_left (stamp_exceeds last row.stamp) (rows_rise (Some row.stamp) ys) is
+breaks last (x ∷ xs) row ys is = and_right (stamp_exceeds last x.stamp) (rows_rise (Some x.stamp) (xs ++ row ∷ ys)) (breaks (Some x.stamp) xs row ys is)
 
 -- so five of the next rows do not rise, one of which does not
 pub breaks_batch : (last : Option CivilMinute) (rows : List Row) (at k : ℕ) (row : Row) → k < 5 → slice_get rows (at + k) ≡ Some row
-    → exceeds (last_after last (take k (drop at rows))) row.stamp ≡ false → rise last (take 5 (drop at rows)) ≡ false
+    → stamp_exceeds (last_stamp_after last (take k (drop at rows))) row.stamp ≡ false → rows_rise last (take 5 (drop at rows)) ≡ false
 breaks_batch last rows at k row few is wrong =
     let xs = take k (drop at rows) in let ys = take (4 - k) (drop (k + 1) (drop at rows)) in
     let five : 5 ≡ k + 1 + (4 - k) = omega (arith, few) in
@@ -39,20 +39,20 @@ breaks_batch last rows at k row few is wrong =
     ap (λ (n : ℕ). take n (drop at rows)) five ∙ take-add (k + 1) (4 - k) (drop at rows)
     ∙ ap (λ (zs : List Row). zs ++ take (4 - k) (drop (k + 1) (drop at rows))) (next_row rows at k row is)
     ∙ append_assoc (take k (drop at rows)) (row ∷ []) (take (4 - k) (drop (k + 1) (drop at rows))) in
-    ap (rise last) parts ∙ breaks last xs row ys wrong
+    ap (rows_rise last) parts ∙ breaks last xs row ys wrong
 
 -- a row that exceeds the last stamp rises
-pub one_rises : (last also : Option CivilMinute) (row : Row) → last ≡ also → exceeds last row.stamp ≡ true → rise also (row ∷ []) ≡ true
+pub one_rises : (last also : Option CivilMinute) (row : Row) → last ≡ also → stamp_exceeds last row.stamp ≡ true → rows_rise also (row ∷ []) ≡ true
 one_rises last also row is rises =
-    ap (λ (b : Bool). b && true) (ap (λ (o : Option CivilMinute). exceeds o row.stamp) (sym is) ∙ rises)
+    ap (λ (b : Bool). b && true) (ap (λ (o : Option CivilMinute). stamp_exceeds o row.stamp) (sym is) ∙ rises)
 
 -- of rows that rise the next ones rise behind those before
-pub next_rise : (rows : List Row) (at k : ℕ) → rise None rows ≡ true → rise (last_stamp (take at rows)) (take k (drop at rows)) ≡ true
+pub next_rise : (rows : List Row) (at k : ℕ) → rows_rise None rows ≡ true → rows_rise (last_row_stamp (take at rows)) (take k (drop at rows)) ≡ true
 next_rise rows at k up =
     let parts : rows ≡ take at rows ++ drop at rows = sym (take-append-drop at rows) in
-    let behind = rise_behind None (take at rows) (drop at rows) (ap (rise None) (sym parts) ∙ up) in
-    rise_front (last_stamp (take at rows)) (take k (drop at rows)) (drop k (drop at rows))
-    (ap (rise (last_stamp (take at rows))) (take-append-drop k (drop at rows)) ∙ behind)
+    let behind = rise_behind None (take at rows) (drop at rows) (ap (rows_rise None) (sym parts) ∙ up) in
+    rise_front (last_row_stamp (take at rows)) (take k (drop at rows)) (drop k (drop at rows))
+    (ap (rows_rise (last_row_stamp (take at rows))) (take-append-drop k (drop at rows)) ∙ behind)
 
 -- rows with the next ones behind them, and then more of the next ones
 pub more_next : (mine theirs : List Row) (at k : ℕ) → length mine ≤ at
@@ -81,7 +81,7 @@ front_next mine theirs at front le =
     ∙ ap (take at) (front_rest mine theirs front)
 
 -- a batch less is to come
-pub batch_less : (k : ℕ) → 0 < k → batches k ≡ 1 + batches (k - min 5 k)
+pub batch_less : (k : ℕ) → 0 < k → batch_count k ≡ 1 + batch_count (k - min 5 k)
 batch_less k pos = omega arith
 
 -- some of the next rows, and then more of them

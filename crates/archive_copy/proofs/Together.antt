@@ -9,7 +9,7 @@ use Rattle.gated_log.specs.Calls.{any_failed, changes, last_length, Looked, Reco
 use Rattle.gated_log.proofs.CallsMade.{any_join, no_changes}
 use Rattle.station_base.specs.declared.row.Row.{Row}
 use Rattle.gated_log.specs.Layout.{slot_size}
-use Rattle.archive_copy.specs.Calls.{AddsBatches, changes_for, failed_answer, OnlyReads, rows_in, slots_end, ToCalls}
+use Rattle.archive_copy.specs.Calls.{AddsBatches, copy_changes, failed_answer, OnlyReads, rows_of_batches, slots_end, ToCalls}
 use Rattle.archive_copy.proofs.Changes.{are_for, are_take, changes_join, fit_more, fits_join, up_fits, up_kept}
 
 reach : (slots len : ℕ) → (0 < slots → slot_size * (slots + 1) ≤ len) → slots_end slots ≤ len
@@ -31,7 +31,7 @@ module _ {D : Type 0} (medium : Medium D) (d : D) where
     fails = any_join calls.calls looked.calls ∙ ap (λ (t : Bool). t || any_failed looked.calls) calls.fails ∙ looked.fails;
   }
 
-  none_added : (n : ℕ) (mine : List Row) (a : Disked) → up_to (take n (changes_for mine [])) a ≡ []
+  none_added : (n : ℕ) (mine : List Row) (a : Disked) → up_to (take n (copy_changes mine [])) a ≡ []
   none_added zero mine a = refl
   none_added (suc n) mine a = refl
 
@@ -97,9 +97,9 @@ module _ {D : Type 0} (medium : Medium D) (d : D) where
       → medium.moment f ≡ medium.moment e → RecoveryCalls medium d e (medium.moment e - medium.moment d) slots false → Looked medium (slots_end slots) false e f
       → AddsBatches medium mine failed next f g → ((rows : List Row) → next rows → are mine rows) → ToCalls medium failed are d g
   calls_added mine are next e f g slots failed le same calls looked adds on =
-      let n = medium.moment g - medium.moment f in let cs = take (medium.moment g - medium.moment f) (changes_for mine adds.batches) in
-      let ups = up_to (take (medium.moment g - medium.moment f) (changes_for mine adds.batches)) (failed_answer failed) in
-      let ok = are_take n (changes_for mine adds.batches) (are_for mine adds.batches) in
+      let n = medium.moment g - medium.moment f in let cs = take (medium.moment g - medium.moment f) (copy_changes mine adds.batches) in
+      let ups = up_to (take (medium.moment g - medium.moment f) (copy_changes mine adds.batches)) (failed_answer failed) in
+      let ok = are_take n (copy_changes mine adds.batches) (are_for mine adds.batches) in
       let place : medium.moment g - medium.moment f ≡ medium.moment g - (medium.moment d + (medium.moment e - medium.moment d)) = omega (arith, le, same, adds.begun) in
       record {
         calls = calls.calls ++ (looked.calls ++ ups);
@@ -114,8 +114,8 @@ module _ {D : Type 0} (medium : Medium D) (d : D) where
             ∙ ap (λ (xs : List DiskCall). xs ++ changes (looked.calls ++ ups)) calls.changes_are
             ∙ ap (λ (xs : List DiskCall). up_to (take (medium.moment e - medium.moment d) recovery_changes) calls.answer ++ xs)
             (changes_join looked.calls ups ∙ ap (λ (xs : List DiskCall). xs ++ changes ups) (no_changes (slots_end slots) looked.calls looked.within)
-            ∙ up_kept cs (failed_answer failed) ok ∙ ap (λ (k : ℕ). up_to (take k (changes_for mine adds.batches)) (failed_answer failed)) place);
-        rows_are = λ some. on (rows_in adds.batches) adds.rows_are;
+            ∙ up_kept cs (failed_answer failed) ok ∙ ap (λ (k : ℕ). up_to (take k (copy_changes mine adds.batches)) (failed_answer failed)) place);
+        rows_are = λ some. on (rows_of_batches adds.batches) adds.rows_are;
         fits = fits_join 0 calls.calls (looked.calls ++ ups) calls.fits
             (fits_join (last_length 0 calls.calls) looked.calls ups
             (fit_more (slots_end slots) (last_length 0 calls.calls) looked.calls (reach slots (last_length 0 calls.calls) calls.reach) looked.within)

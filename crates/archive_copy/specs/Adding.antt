@@ -11,8 +11,8 @@ use Rattle.archive_copy.specs.declared.end.CopyEnd.TheVariants.{Done, FromDamage
 use Rattle.archive_copy.specs.declared.end.CopyEnd.TheVariants.{FromFault, ToFault, OutOfMemory}
 
 -- how many batches so many rows are: five each, and the last with what is left
-abbrev pub batches : ℕ → ℕ
-batches rows = (rows + 4) / 5
+abbrev pub batch_count : ℕ → ℕ
+batch_count rows = (rows + 4) / 5
 
 -- the image has these rows, and then none or more of the next ones, in order and none skipped
 abbrev pub HasSome : List Row → List Row → List ℕ → Type 0
@@ -49,9 +49,9 @@ IsOfAdding other count = ⊥
 
 -- How far the moment comes: a recovery makes three changes where it makes the file anew, and else one; each batch takes
 -- four. (A copy that stops says less.)
-abbrev pub Moves : CopyEnd → ℕ → ℕ → List ℕ → Type 0
-Moves (Done n) old new to =
+abbrev pub CopyMoves : CopyEnd → ℕ → ℕ → List ℕ → Type 0
+CopyMoves (Done n) old new to =
     (mine : List Row) × (opened : ℕ) × (rows_of to ≡ holds mine) × MovedToWrite old opened to
-    × (new ≡ opened + 4 * batches (n - length mine))
-Moves (NotPrefix n) old new to = MovedToWrite old new to
-Moves other old new to = Unit {0}
+    × (new ≡ opened + 4 * batch_count (n - length mine))
+CopyMoves (NotPrefix n) old new to = MovedToWrite old new to
+CopyMoves other old new to = Unit {0}

@@ -42,30 +42,30 @@ RefusesTo OutOfMemory to = Unit {0}
 RefusesTo other to = ⊥
 
 -- so many rows were to be had, and those of the one archive are the first of them; or row n of it is the first unlike
-abbrev pub EndsWith : CopyEnd → List Row → List Row → Type 0
-EndsWith (Done n) mine theirs = IsFrontOf mine theirs × (n ≡ length theirs)
-EndsWith (NotPrefix n) mine theirs = IsFirstUnlike mine theirs n
-EndsWith FromFault mine theirs = Unit {0}
-EndsWith ToFault mine theirs = Unit {0}
-EndsWith OutOfMemory mine theirs = Unit {0}
-EndsWith other mine theirs = ⊥
+abbrev pub CopyEndsWith : CopyEnd → List Row → List Row → Type 0
+CopyEndsWith (Done n) mine theirs = IsFrontOf mine theirs × (n ≡ length theirs)
+CopyEndsWith (NotPrefix n) mine theirs = IsFirstUnlike mine theirs n
+CopyEndsWith FromFault mine theirs = Unit {0}
+CopyEndsWith ToFault mine theirs = Unit {0}
+CopyEndsWith OutOfMemory mine theirs = Unit {0}
+CopyEndsWith other mine theirs = ⊥
 
 -- Why a copy ended so, in this order: the first file refuses, it has too many rows, the second file refuses, or what
 -- its rows are. A fault, or want of memory, says nothing of the files.
-abbrev pub Answers : CopyEnd → List ℕ → List ℕ → Type 0
-Answers (FromNotArchive bytes) from to = RefusesFrom (FromNotArchive bytes) from
-Answers (FromDamaged place) from to = RefusesFrom (FromDamaged place) from
-Answers (Full n) from to = RefusesFrom (Full n) from
-Answers (ToNotArchive bytes) from to = (theirs : List Row) × CanBeCopied from theirs × RefusesTo (ToNotArchive bytes) to
-Answers ToOldVersion from to = (theirs : List Row) × CanBeCopied from theirs × RefusesTo ToOldVersion to
-Answers (ToDamaged place) from to = (theirs : List Row) × CanBeCopied from theirs × RefusesTo (ToDamaged place) to
-Answers (NotPrefix n) from to =
-    (theirs mine : List Row) × CanBeCopied from theirs × CanBeAddedTo to mine × EndsWith (NotPrefix n) mine theirs
-Answers (Done n) from to =
-    (theirs mine : List Row) × CanBeCopied from theirs × CanBeAddedTo to mine × EndsWith (Done n) mine theirs
-Answers FromFault from to = Unit {0}
-Answers ToFault from to = Unit {0}
-Answers OutOfMemory from to = Unit {0}
+abbrev pub CopyAnswers : CopyEnd → List ℕ → List ℕ → Type 0
+CopyAnswers (FromNotArchive bytes) from to = RefusesFrom (FromNotArchive bytes) from
+CopyAnswers (FromDamaged place) from to = RefusesFrom (FromDamaged place) from
+CopyAnswers (Full n) from to = RefusesFrom (Full n) from
+CopyAnswers (ToNotArchive bytes) from to = (theirs : List Row) × CanBeCopied from theirs × RefusesTo (ToNotArchive bytes) to
+CopyAnswers ToOldVersion from to = (theirs : List Row) × CanBeCopied from theirs × RefusesTo ToOldVersion to
+CopyAnswers (ToDamaged place) from to = (theirs : List Row) × CanBeCopied from theirs × RefusesTo (ToDamaged place) to
+CopyAnswers (NotPrefix n) from to =
+    (theirs mine : List Row) × CanBeCopied from theirs × CanBeAddedTo to mine × CopyEndsWith (NotPrefix n) mine theirs
+CopyAnswers (Done n) from to =
+    (theirs mine : List Row) × CanBeCopied from theirs × CanBeAddedTo to mine × CopyEndsWith (Done n) mine theirs
+CopyAnswers FromFault from to = Unit {0}
+CopyAnswers ToFault from to = Unit {0}
+CopyAnswers OutOfMemory from to = Unit {0}
 
 -- the clause of a refusal of the file to copy from, which comes before the other disk is called
 abbrev pub OnFromRefused : CopyEnd → Type 0 → Type 0

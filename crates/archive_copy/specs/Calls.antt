@@ -46,9 +46,9 @@ to_failed compared.ToFault = true
 to_failed other = false
 
 -- a call failed as a batch was read
-abbrev pub read_failed : BatchRead → Bool
-read_failed read.Fault = true
-read_failed other = false
+abbrev pub batch_read_failed : BatchRead → Bool
+batch_read_failed read.Fault = true
+batch_read_failed other = false
 
 -- how many slots an archive has that was opened
 abbrev pub slots_opened : Result Book CopyEnd → ℕ
@@ -84,19 +84,19 @@ add_failed batch_end.Fault = true
 add_failed other = false
 
 -- the changes for the rows of a batch behind others: those of one append
-abbrev pub batch_changes : List Row → List Row → List (Disked → DiskCall)
-batch_changes old new =
+abbrev pub copy_batch_changes : List Row → List Row → List (Disked → DiskCall)
+copy_batch_changes old new =
     four_changes (slot_size * (slot_total old + 1)) (slot_size * (slot_total (old ++ new) - slot_total old))
 
 -- the changes for batches behind some rows, one after another
-abbrev pub changes_for : List Row → List (List Row) → List (Disked → DiskCall)
-changes_for mine [] = []
-changes_for mine (batch ∷ more) = batch_changes mine batch ++ changes_for (mine ++ batch) more
+abbrev pub copy_changes : List Row → List (List Row) → List (Disked → DiskCall)
+copy_changes mine [] = []
+copy_changes mine (batch ∷ more) = copy_batch_changes mine batch ++ copy_changes (mine ++ batch) more
 
 -- the rows of batches
-abbrev pub rows_in : List (List Row) → List Row
-rows_in [] = []
-rows_in (batch ∷ more) = batch ++ rows_in more
+abbrev pub rows_of_batches : List (List Row) → List Row
+rows_of_batches [] = []
+rows_of_batches (batch ∷ more) = batch ++ rows_of_batches more
 
 -- each batch has five rows, and the last one one to five
 abbrev pub AreBatches : List (List Row) → Type 0
@@ -112,10 +112,10 @@ pub record AddsBatches {D : Type 0} (medium : Medium D) (mine : List Row) (faile
   pub sizes : AreBatches batches
   pub begun : medium.moment old ≤ medium.moment new
   pub by : medium.went old
-      (up_to (take (medium.moment new - medium.moment old) (changes_for mine batches)) (failed_answer failed)) new
+      (up_to (take (medium.moment new - medium.moment old) (copy_changes mine batches)) (failed_answer failed)) new
   pub fails : any_failed
-      (up_to (take (medium.moment new - medium.moment old) (changes_for mine batches)) (failed_answer failed)) ≡ failed
-  pub rows_are : are (rows_in batches)
+      (up_to (take (medium.moment new - medium.moment old) (copy_changes mine batches)) (failed_answer failed)) ≡ failed
+  pub rows_are : are (rows_of_batches batches)
 
 -- The calls on the disk to copy to. The changes are those of a recovery, and then those for batches behind the rows
 -- that it found, each in order and up to the first that failed. The rows are as is said where a batch was begun. Each
@@ -131,7 +131,7 @@ pub record ToCalls {D : Type 0} (medium : Medium D) (failed : Bool) (are : List 
   pub sizes : AreBatches batches
   pub begun : medium.moment old + opening ≤ medium.moment new
   pub changes_are : changes calls ≡ up_to (take opening recovery_changes) opened ++ up_to
-      (take (medium.moment new - (medium.moment old + opening)) (changes_for mine batches)) (failed_answer failed)
-  pub rows_are : 0 < length batches → are mine (rows_in batches)
+      (take (medium.moment new - (medium.moment old + opening)) (copy_changes mine batches)) (failed_answer failed)
+  pub rows_are : 0 < length batches → are mine (rows_of_batches batches)
   pub fits : reads_fit 0 calls
   pub fails : any_failed calls ≡ failed

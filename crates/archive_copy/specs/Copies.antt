@@ -2,13 +2,13 @@
 use Rattle.std.specs.Prelude.{◌≡◌, ℕ, List}
 use Rattle.causes.specs.Lists.{IsFrontOf}
 use Rattle.causes.specs.Told.{WhereTold}
-use Rattle.disk_model.specs.Disk.{Begins, Faults, LeavesOnly, Stays}
+use Rattle.disk_model.specs.Disk.{BeginsChanges, Faults, LeavesOnly, Stays}
 use Rattle.disk_model.specs.Medium.{Medium}
 use Rattle.station_base.specs.declared.row.Row.{Row}
 use Rattle.packed_rows.specs.Rows.{holds, rows_of}
 use Rattle.weather_book.specs.Stands.{NowHasRows}
-use Rattle.archive_copy.specs.Adding.{HasSome, Moves, next_rows, to_add}
-use Rattle.archive_copy.specs.Answers.{Answers, IsCopied, OnFromDamaged, OnFromRefused}
+use Rattle.archive_copy.specs.Adding.{HasSome, CopyMoves, next_rows, to_add}
+use Rattle.archive_copy.specs.Answers.{CopyAnswers, IsCopied, OnFromDamaged, OnFromRefused}
 use Rattle.archive_copy.specs.Calls.{OnlyReads, ToCalls, is_from_fault, is_to_fault}
 use Rattle.archive_copy.specs.declared.end.CopyEnd.{CopyEnd}
 use Rattle.archive_copy.specs.declared.end.CopyEnd.TheVariants.{Done, FromFault, ToFault}
@@ -29,15 +29,15 @@ LeavesNext one other end from to to' = WhereTold (one.seen from) (λ theirs. Whe
 -- A copy of the archive on the one disk to the other one ended so.
 pub record Copies {D E : Type 0} (one : Medium D) (other : Medium E) (end : CopyEnd) (from : D) (to : E)
     (from' : D) (to' : E) : Type 0 where
-  pub answers : WhereTold (one.seen from) (λ theirs. WhereTold (other.seen to) (Answers end theirs))
+  pub answers : WhereTold (one.seen from) (λ theirs. WhereTold (other.seen to) (CopyAnswers end theirs))
   pub from_stays : Stays one from from'
   pub from_fault : Faults one from from' (end ≡ FromFault)
   pub to_fault : Faults other to to' (end ≡ ToFault)
-  pub begun : Begins other 838867 to to'
+  pub begun : BeginsChanges other 838867 to to'
   pub from_went : OnlyReads one (is_from_fault end) from from'
   pub to_went : AddsNext one other end from to to'
   pub moved : WhereTold (one.seen from) (λ _. WhereTold (other.seen to)
-      (Moves end (other.moment to) (other.moment to')))
+      (CopyMoves end (other.moment to) (other.moment to')))
   pub untouched : OnFromRefused end (to' ≡ to)
   pub undamaged : OnFromDamaged end (WhereTold (one.seen from) (λ _. WhereTold (other.seen to) (λ _. to' ≡ to)))
   pub images : LeavesNext one other end from to to'

@@ -1,16 +1,16 @@
 ghost use Rattle.std.specs.Prelude.{ℕ, ◌≡◌, ◌≢◌, ◌≤◌, ◌+◌, ◌-◌, ◌*◌, ◌++◌, false, List, drop, length, take};
 ghost use Rattle.causes.specs.Lists.{IsFrontOf};
 ghost use Rattle.causes.specs.Told.{WhereTold};
-ghost use Rattle.disk_model.specs.Disk.{Begins, Faults, LeavesOnly, MayBegin, Stays};
+ghost use Rattle.disk_model.specs.Disk.{BeginsChanges, Faults, LeavesOnly, MayBegin, Stays};
 ghost use Rattle.gated_log.specs.Calls.{Looked, up_to};
 ghost use Rattle.station_base.specs.declared.row.Row.{Row};
 ghost use Rattle.packed_rows.specs.Adding.{AreLimited, ArePrintable};
-ghost use Rattle.weather_book.specs.Book.{StandsFor, is_stale, last_of, len_of, most_of};
+ghost use Rattle.weather_book.specs.Book.{BookStandsFor, book_is_stale, last_stamp_of, len_of, most_rows_of};
 ghost use Rattle.packed_rows.specs.Rows.{slot_total};
-ghost use Rattle.packed_rows.specs.Rising.{RowsRise};
+ghost use Rattle.packed_rows.specs.Rising.{RowsRiseAfter};
 ghost use Rattle.weather_book.specs.Stands.{StandsOn, StandsToReadOn};
-ghost use Rattle.archive_copy.specs.Adding.{HasOldOrAll, HasSome, IsOfAdding, MovedBy, batches};
-ghost use Rattle.archive_copy.specs.Calls.{AddsBatches, add_failed, batch_changes, is_from_fault, is_to_fault, failed_answer, slots_end};
+ghost use Rattle.archive_copy.specs.Adding.{HasOldOrAll, HasSome, IsOfAdding, MovedBy, batch_count};
+ghost use Rattle.archive_copy.specs.Calls.{AddsBatches, add_failed, copy_batch_changes, is_from_fault, is_to_fault, failed_answer, slots_end};
 
 use crate::CopyEnd;
 use crate::batch::{BatchRead, next_batch};
@@ -36,19 +36,21 @@ pub fn add_batch<E: Disk>(mine: &mut Book, to: &mut E, rows: &[Row]) -> BatchEnd
     requires room { MayBegin E.medium 4 to.old }
     requires some { 1 ≤ length rows.now }
     requires few { length rows.now ≤ 5 }
-    requires rising { RowsRise (last_of mine.old) rows.now }
+    requires rising { RowsRiseAfter (last_stamp_of mine.old) rows.now }
     requires printable { ArePrintable rows.now }
     requires limited { AreLimited rows.now }
-    requires fresh { is_stale mine.old ≡ false }
-    requires fits { len_of mine.old + length rows.now ≤ most_of mine.old }
+    requires fresh { book_is_stale mine.old ≡ false }
+    requires fits { len_of mine.old + length rows.now ≤ most_rows_of mine.old }
     ensures cause { Faults E.medium to.old to.new (result ≡ BatchEnd.Fault) }
     ensures moved { MovedBy result (E.medium.moment to.old) (E.medium.moment to.new) }
-    ensures went { (old : List Row) → StandsFor mine.old old
-        → E.medium.went to.old (up_to (take (E.medium.moment to.new - E.medium.moment to.old) (batch_changes old rows.now))
+    ensures went { (old : List Row) → BookStandsFor mine.old old
+        → E.medium.went to.old
+        (up_to (take (E.medium.moment to.new - E.medium.moment to.old) (copy_batch_changes old rows.now))
         (failed_answer (add_failed result))) to.new }
-    ensures rows { result ≡ BatchEnd.Done → (old : List Row) → StandsFor mine.old old → StandsFor mine.new (old ++ rows.now) }
-    ensures fresh { result ≡ BatchEnd.Done → is_stale mine.new ≡ false }
-    ensures most { result ≡ BatchEnd.Done → most_of mine.new ≡ most_of mine.old }
+    ensures rows { result ≡ BatchEnd.Done → (old : List Row) → BookStandsFor mine.old old
+        → BookStandsFor mine.new (old ++ rows.now) }
+    ensures fresh { result ≡ BatchEnd.Done → book_is_stale mine.new ≡ false }
+    ensures most { result ≡ BatchEnd.Done → most_rows_of mine.new ≡ most_rows_of mine.old }
     ensures len { result ≡ BatchEnd.Done → len_of mine.new ≡ len_of mine.old + length rows.now }
     ensures images { (old : List Row) → StandsOn E.medium mine.old to.old old
         → LeavesOnly E.medium (HasOldOrAll old rows.now) to.old to.new }
@@ -72,9 +74,9 @@ pub fn add_missing<D: Disk, E: Disk>(
     mine: &mut Book,
     to: &mut E,
 ) -> CopyEnd
-    requires room { MayBegin E.medium (4 * batches (len_of theirs.now - len_of mine.old)) to.old }
-    requires fresh { is_stale mine.old ≡ false }
-    requires most { most_of mine.old ≡ 1048576 }
+    requires room { MayBegin E.medium (4 * batch_count (len_of theirs.now - len_of mine.old)) to.old }
+    requires fresh { book_is_stale mine.old ≡ false }
+    requires most { most_rows_of mine.old ≡ 1048576 }
     requires few { len_of theirs.now ≤ 1048576 }
     requires no_more { len_of mine.old ≤ len_of theirs.now }
     ensures kind { IsOfAdding result (len_of theirs.now) }
@@ -84,15 +86,15 @@ pub fn add_missing<D: Disk, E: Disk>(
     ensures stays { Stays D.medium from.old from.new }
     ensures from_cause { Faults D.medium from.old from.new (result ≡ CopyEnd.FromFault) }
     ensures to_cause { Faults E.medium to.old to.new (result ≡ CopyEnd.ToFault) }
-    ensures from_went { (rows : List Row) → StandsFor theirs.now rows
+    ensures from_went { (rows : List Row) → BookStandsFor theirs.now rows
         → Looked D.medium (slots_end (slot_total rows)) (is_from_fault result) from.old from.new }
-    ensures to_went { (mine_rows : List Row) → StandsFor mine.old mine_rows
+    ensures to_went { (mine_rows : List Row) → BookStandsFor mine.old mine_rows
         → AddsBatches E.medium mine_rows (is_to_fault result) (λ next. (theirs_rows : List Row)
         → StandsToReadOn D.medium theirs.now from.old theirs_rows → WhereTold (D.medium.seen from.old) (λ _.
         IsFrontOf next (drop (length mine_rows) theirs_rows))) to.old to.new }
-    ensures begun { Begins E.medium (4 * batches (len_of theirs.now - len_of mine.old)) to.old to.new }
+    ensures begun { BeginsChanges E.medium (4 * batch_count (len_of theirs.now - len_of mine.old)) to.old to.new }
     ensures moved { result ≡ CopyEnd.Done (len_of theirs.now)
-        → E.medium.moment to.new ≡ E.medium.moment to.old + 4 * batches (len_of theirs.now - len_of mine.old) }
+        → E.medium.moment to.new ≡ E.medium.moment to.old + 4 * batch_count (len_of theirs.now - len_of mine.old) }
     ensures images { (theirs_rows mine_rows : List Row) → StandsToReadOn D.medium theirs.now from.old theirs_rows
         → StandsOn E.medium mine.old to.old mine_rows → WhereTold (D.medium.seen from.old) (λ _.
         LeavesOnly E.medium (HasSome mine_rows (drop (length mine_rows) theirs_rows)) to.old to.new) }

@@ -4,11 +4,11 @@ ghost use Rattle.disk_model.specs.Disk.{Faults, Stays};
 ghost use Rattle.gated_log.specs.Calls.{Looked};
 ghost use Rattle.station_base.specs.declared.row.Row.{Row};
 ghost use Rattle.packed_rows.specs.Adding.{AreLimited, ArePrintable};
-ghost use Rattle.weather_book.specs.Book.{StandsFor, len_of};
+ghost use Rattle.weather_book.specs.Book.{BookStandsFor, len_of};
 ghost use Rattle.packed_rows.specs.Rows.{slot_total};
-ghost use Rattle.packed_rows.specs.Rising.{exceeds, rise, RowsRise};
+ghost use Rattle.packed_rows.specs.Rising.{stamp_exceeds, rows_rise, RowsRiseAfter};
 ghost use Rattle.weather_book.specs.Stands.{StandsToReadOn};
-ghost use Rattle.archive_copy.specs.Calls.{read_failed, slots_end};
+ghost use Rattle.archive_copy.specs.Calls.{batch_read_failed, slots_end};
 ghost use Rattle.archive_copy.specs.Reading.{IsAhead};
 
 use crate::limits::BATCH;
@@ -31,7 +31,7 @@ pub enum BatchRead {
 
 // Whether the stamp exceeds the one before, if there is one.
 pub fn exceeds(last: Option<Stamp>, stamp: Stamp) -> bool
-    ensures { result ≡ exceeds last stamp }
+    ensures { result ≡ stamp_exceeds last stamp }
 {
     last.is_none_or(|last| last < stamp)
 }
@@ -50,18 +50,18 @@ pub fn next_batch<D: Disk>(
     ensures ready { result ≡ BatchRead.Ready → (rows : List Row) → StandsToReadOn D.medium theirs.now from.old rows
         → WhereTold (D.medium.seen from.old) (λ _. batch.new.items ≡ take 5 (drop reader.old.at rows)) }
     ensures count { result ≡ BatchRead.Ready → length batch.new.items ≡ min 5 (len_of theirs.now - reader.old.at) }
-    ensures rising { result ≡ BatchRead.Ready → RowsRise last batch.new.items }
+    ensures rising { result ≡ BatchRead.Ready → RowsRiseAfter last batch.new.items }
     ensures out_of_order { result ≡ BatchRead.OutOfOrder → (rows : List Row)
         → StandsToReadOn D.medium theirs.now from.old rows
-        → WhereTold (D.medium.seen from.old) (λ _. rise last (take 5 (drop reader.old.at rows)) ≡ false) }
+        → WhereTold (D.medium.seen from.old) (λ _. rows_rise last (take 5 (drop reader.old.at rows)) ≡ false) }
     ensures printable { ArePrintable batch.new.items }
     ensures limited { AreLimited batch.new.items }
     ensures at { result ≡ BatchRead.Ready → reader.new.at ≡ reader.old.at + length batch.new.items }
     ensures ahead { IsAhead D.medium theirs.now from.new reader.new }
     ensures stays { Stays D.medium from.old from.new }
     ensures cause { Faults D.medium from.old from.new (result ≡ BatchRead.Fault) }
-    ensures went { (rows : List Row) → StandsFor theirs.now rows
-        → Looked D.medium (slots_end (slot_total rows)) (read_failed result) from.old from.new }
+    ensures went { (rows : List Row) → BookStandsFor theirs.now rows
+        → Looked D.medium (slots_end (slot_total rows)) (batch_read_failed result) from.old from.new }
 {
     let end = theirs.len().min(reader.at() + BATCH as u64);
     let mut last = last;

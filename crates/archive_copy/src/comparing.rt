@@ -4,7 +4,7 @@ ghost use Rattle.causes.specs.Told.{WhereTold};
 ghost use Rattle.disk_model.specs.Disk.{Faults, Stays};
 ghost use Rattle.gated_log.specs.Calls.{Looked};
 ghost use Rattle.station_base.specs.declared.row.Row.{Row};
-ghost use Rattle.weather_book.specs.Book.{StandsFor, len_of};
+ghost use Rattle.weather_book.specs.Book.{BookStandsFor, len_of};
 ghost use Rattle.packed_rows.specs.Rows.{slot_total};
 ghost use Rattle.weather_book.specs.Stands.{StandsToReadOn};
 ghost use Rattle.archive_copy.specs.Calls.{from_failed, slots_end, to_failed};
@@ -75,9 +75,9 @@ pub fn compare<D: Disk, E: Disk>(theirs: &Book, from: &mut D, mine: &Book, to: &
     ensures to_stays { Stays E.medium to.old to.new }
     ensures from_cause { Faults D.medium from.old from.new (result ≡ Compared.FromFault) }
     ensures to_cause { Faults E.medium to.old to.new (result ≡ Compared.ToFault) }
-    ensures from_went { (rows : List Row) → StandsFor theirs.now rows
+    ensures from_went { (rows : List Row) → BookStandsFor theirs.now rows
         → Looked D.medium (slots_end (slot_total rows)) (from_failed result) from.old from.new }
-    ensures to_went { (rows : List Row) → StandsFor mine.now rows
+    ensures to_went { (rows : List Row) → BookStandsFor mine.now rows
         → Looked E.medium (slots_end (slot_total rows)) (to_failed result) to.old to.new }
 {
     let both = theirs.len().min(mine.len());

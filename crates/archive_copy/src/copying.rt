@@ -1,8 +1,8 @@
 ghost use Rattle.std.specs.Prelude.{ℕ, ◌≡◌};
 ghost use Rattle.causes.specs.Told.{WhereTold};
-ghost use Rattle.disk_model.specs.Disk.{Begins, Faults, MayBegin, Stays};
-ghost use Rattle.archive_copy.specs.Adding.{Moves};
-ghost use Rattle.archive_copy.specs.Answers.{Answers, IsCopied, OnFromDamaged, OnFromRefused};
+ghost use Rattle.disk_model.specs.Disk.{BeginsChanges, Faults, MayBegin, Stays};
+ghost use Rattle.archive_copy.specs.Adding.{CopyMoves};
+ghost use Rattle.archive_copy.specs.Answers.{CopyAnswers, IsCopied, OnFromDamaged, OnFromRefused};
 ghost use Rattle.archive_copy.specs.Calls.{OnlyReads, is_from_fault};
 ghost use Rattle.archive_copy.specs.Copies.{AddsNext, LeavesNext};
 
@@ -20,17 +20,19 @@ use std::alloc::Global;
 /// memory of two books.
 pub fn copy<D: Disk, E: Disk>(alloc: Global, from: &mut D, to: &mut E) -> CopyEnd
     requires { MayBegin E.medium 838867 to.old }
-    ensures answers { WhereTold (D.medium.seen from.old) (λ theirs. WhereTold (E.medium.seen to.old) (Answers result theirs)) }
+    ensures answers { WhereTold (D.medium.seen from.old)
+        (λ theirs. WhereTold (E.medium.seen to.old) (CopyAnswers result theirs)) }
     ensures from_stays { Stays D.medium from.old from.new }
     ensures from_fault { Faults D.medium from.old from.new (result ≡ CopyEnd.FromFault) }
     ensures to_fault { Faults E.medium to.old to.new (result ≡ CopyEnd.ToFault) }
-    ensures begun { Begins E.medium 838867 to.old to.new }
+    ensures begun { BeginsChanges E.medium 838867 to.old to.new }
     ensures from_went { OnlyReads D.medium (is_from_fault result) from.old from.new }
     ensures to_went { AddsNext D.medium E.medium result from.old to.old to.new }
     ensures moved { WhereTold (D.medium.seen from.old) (λ _. WhereTold (E.medium.seen to.old)
-        (Moves result (E.medium.moment to.old) (E.medium.moment to.new))) }
+        (CopyMoves result (E.medium.moment to.old) (E.medium.moment to.new))) }
     ensures untouched { OnFromRefused result (to.new ≡ to.old) }
-    ensures undamaged { OnFromDamaged result (WhereTold (D.medium.seen from.old) (λ _. WhereTold (E.medium.seen to.old) (λ _.
+    ensures undamaged { OnFromDamaged result
+        (WhereTold (D.medium.seen from.old) (λ _. WhereTold (E.medium.seen to.old) (λ _.
         to.new ≡ to.old))) }
 
     // Where each image at its start has some rows, each image since then has these, and then none or more of the next rows of

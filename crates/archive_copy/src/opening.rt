@@ -1,10 +1,10 @@
 ghost use Rattle.std.specs.Prelude.{◌≡◌, ◌≤◌, ◌-◌, false, IfErr, IfOk, Err, List};
 ghost use Rattle.causes.specs.Told.{WhereTold, map_told};
-ghost use Rattle.disk_model.specs.Disk.{Begins, Faults, LeavesOnly, MayBegin, Stays};
+ghost use Rattle.disk_model.specs.Disk.{BeginsChanges, Faults, LeavesOnly, MayBegin, Stays};
 ghost use Rattle.gated_log.specs.Calls.{RecoveryCalls};
 ghost use Rattle.gated_log.specs.Start.{MovedToWrite, remade};
 ghost use Rattle.station_base.specs.declared.row.Row.{Row};
-ghost use Rattle.weather_book.specs.Book.{is_stale, len_of, most_of};
+ghost use Rattle.weather_book.specs.Book.{book_is_stale, len_of, most_rows_of};
 ghost use Rattle.weather_book.specs.Stands.{HasRows, NowHasRows, ReadsRows, StandsOn, StandsToReadOn};
 ghost use Rattle.archive_copy.specs.Calls.{from_opened_failed, slots_opened, to_opened_failed};
 ghost use Rattle.archive_copy.specs.Opening.{IsOfFrom, IsOfTo, OpensFrom, OpensTo};
@@ -45,10 +45,11 @@ pub fn open_to<E: Disk>(alloc: Global, to: &mut E) -> Result<Book, CopyEnd>
     requires { MayBegin E.medium 3 to.old }
     ensures finds { WhereTold (E.medium.seen to.old) (OpensTo result) }
     ensures kind { IfErr result IsOfTo }
-    ensures fresh { IfOk result (λ book. (is_stale book ≡ false) × (most_of book ≡ 1048576)) }
+    ensures fresh { IfOk result (λ book. (book_is_stale book ≡ false) × (most_rows_of book ≡ 1048576)) }
     ensures cause { Faults E.medium to.old to.new (result ≡ Err CopyEnd.ToFault) }
-    ensures begun { Begins E.medium 3 to.old to.new }
-    ensures moved { IfOk result (λ _. WhereTold (E.medium.seen to.old) (MovedToWrite (E.medium.moment to.old) (E.medium.moment to.new))) }
+    ensures begun { BeginsChanges E.medium 3 to.old to.new }
+    ensures moved { IfOk result
+        (λ _. WhereTold (E.medium.seen to.old) (MovedToWrite (E.medium.moment to.old) (E.medium.moment to.new))) }
     ensures went { RecoveryCalls E.medium to.old to.new (E.medium.moment to.new - E.medium.moment to.old)
         (slots_opened result) (to_opened_failed result) }
     ensures reads { IfOk result (λ _. E.medium.seen to.new ≡ map_told remade (E.medium.seen to.old)) }

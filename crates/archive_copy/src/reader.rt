@@ -6,7 +6,7 @@ ghost use Rattle.station_base.specs.FieldSet.{AreMissing};
 ghost use Rattle.station_base.specs.RowLine.{IsPrintable};
 ghost use Rattle.station_base.specs.declared.row.Row.{Row};
 ghost use Rattle.gated_log.specs.Layout.{slot_size};
-ghost use Rattle.weather_book.specs.Book.{StandsFor, len_of};
+ghost use Rattle.weather_book.specs.Book.{BookStandsFor, len_of};
 ghost use Rattle.packed_rows.specs.Rows.{slot_total};
 ghost use Rattle.weather_book.specs.Stands.{StandsToReadOn};
 ghost use Rattle.weather_book.specs.Start.{OnRow, OnRows, is_no_row, rows_failed};
@@ -62,7 +62,7 @@ impl RowReader {
         ensures cause { Faults D.medium from.old from.new (result ≡ RowsAnswer.DiskFault) }
         ensures looks { Looks D.medium 1 from.old from.new }
         ensures saved { self.old.used < length self.old.piece.items → from.new ≡ from.old }
-        ensures went { (rows : List Row) → StandsFor theirs.now rows
+        ensures went { (rows : List Row) → BookStandsFor theirs.now rows
             → Looked D.medium (slot_size * (slot_total rows + 1)) (rows_failed result) from.old from.new }
     {
         if self.used < self.piece.len() {
@@ -91,7 +91,7 @@ impl RowReader {
         ensures cause { Faults D.medium from.old from.new (result ≡ RowAnswer.DiskFault) }
         ensures looks { Looks D.medium 1 from.old from.new }
         ensures saved { self.old.used < length self.old.piece.items → from.new ≡ from.old }
-        ensures went { (rows : List Row) → StandsFor theirs.now rows
+        ensures went { (rows : List Row) → BookStandsFor theirs.now rows
             → Looked D.medium (slot_size * (slot_total rows + 1)) (is_no_row result) from.old from.new }
     {
         if let RowsAnswer::DiskFault = self.fill(theirs, from) {

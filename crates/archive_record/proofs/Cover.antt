@@ -6,7 +6,7 @@ use Rattle.std.proofs.lemmas.List.{ext_get_or, get_or-map}
 use Rattle.archive_record.specs.declared.kind.Kind.TheVariants.{Byte}
 use Rattle.archive_record.specs.Kind.{word_at}
 use Rattle.archive_record.specs.Place.{value_in}
-use Rattle.archive_record.specs.Reading.{values_in}
+use Rattle.archive_record.specs.Reading.{record_values}
 use Rattle.archive_record.specs.Record.{IsRecord}
 use Rattle.archive_record.specs.Table.{place, field_places, places, place_of}
 use Rattle.archive_record.proofs.Once.{told_once, raw_small, raw_once, word_once}
@@ -57,13 +57,13 @@ halves : (i : ℕ) → (i < 2) ⊎ (2 ≤ i)
 halves i = grind arith
 
 -- what a record tells of a field
-pub values_in-at : (bytes : List ℕ) (field : ℕ) → field < 37 → get_or (values_in bytes) field None ≡ value_in bytes (place_of field)
+pub values_in-at : (bytes : List ℕ) (field : ℕ) → field < 37 → get_or (record_values bytes) field None ≡ value_in bytes (place_of field)
 unfolding places field_places
 values_in-at bytes field within = get_or-map (value_in bytes) places field (place 0 Byte None) None within
 
 -- so two records that tell the same are the same
 pub same_record : (a b : List ℕ) → IsRecord a → IsRecord b → word_at a 0 ≡ word_at b 0 → word_at a 2 ≡ word_at b 2 → slice_index a 42 ≡ slice_index b 42 →
-    values_in a ≡ values_in b → a ≡ b
+    record_values a ≡ record_values b → a ≡ b
 same_record a b a_is b_is date time revision values =
     ext_get_or 0 a b (a_is.long ∙ sym b_is.long) each
   where

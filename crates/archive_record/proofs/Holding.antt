@@ -6,7 +6,7 @@ use Rattle.std.specs.Option.{ForSome}
 use Rattle.std.proofs.lemmas.Bool.{and_parts, false≢true}
 use Rattle.std.proofs.lemmas.Bool.Decides.{Decides-int_eq}
 use Rattle.archive_record.specs.declared.place.Place.{Place}
-use Rattle.archive_record.specs.Kind.{value_of, least_of, greatest_of}
+use Rattle.archive_record.specs.Kind.{value_of_kind, least_of_kind, greatest_of_kind}
 use Rattle.archive_record.specs.Place.{CanHold, means_missing, can_hold}
 use Rattle.archive_record.specs.Table.{field_places, places, place}
 use Rattle.archive_record.specs.declared.kind.Kind.TheVariants.{Byte}
@@ -19,33 +19,33 @@ le_to a b h = search rules
 le_from : (a b : ℤ) → a ≤ℤ b → int_le a b ≡ true
 le_from a b h = search rules
 
-mark_to : (p : Place) (v : ℤ) (mark : Option ℕ) → not (means_missing p v mark) ≡ true → ForSome mark (λ m. v ≢ value_of p.kind m)
+mark_to : (p : Place) (v : ℤ) (mark : Option ℕ) → not (means_missing p v mark) ≡ true → ForSome mark (λ m. v ≢ value_of_kind p.kind m)
 mark_to p v None h m e same = cc
 mark_to p v (Some mark) h m e same =
     let here : mark ≡ m = cc in
-    let found : int_eq v (value_of p.kind mark) ≡ true = (Decides-int_eq v (value_of p.kind mark)).1 (same ∙ ap (value_of p.kind) (sym here)) in
+    let found : int_eq v (value_of_kind p.kind mark) ≡ true = (Decides-int_eq v (value_of_kind p.kind mark)).1 (same ∙ ap (value_of_kind p.kind) (sym here)) in
     let wrong : not true ≡ true = rw found at h in
     cc
 
-mark_from : (p : Place) (v : ℤ) (mark : Option ℕ) → ForSome mark (λ m. v ≢ value_of p.kind m) → not (means_missing p v mark) ≡ true
+mark_from : (p : Place) (v : ℤ) (mark : Option ℕ) → ForSome mark (λ m. v ≢ value_of_kind p.kind m) → not (means_missing p v mark) ≡ true
 mark_from p v None h = refl
-mark_from p v (Some mark) h = go (int_eq v (value_of p.kind mark)) refl
+mark_from p v (Some mark) h = go (int_eq v (value_of_kind p.kind mark)) refl
   where
-    go : (b : Bool) → int_eq v (value_of p.kind mark) ≡ b → not b ≡ true
-    go true e = absurd (h mark refl ((Decides-int_eq v (value_of p.kind mark)).0 e))
+    go : (b : Bool) → int_eq v (value_of_kind p.kind mark) ≡ b → not b ≡ true
+    go true e = absurd (h mark refl ((Decides-int_eq v (value_of_kind p.kind mark)).0 e))
     go false e = refl
 
 hold_to : (p : Place) (v : Option ℤ) → can_hold p v ≡ true → CanHold p v
 hold_to p None h = h
 hold_to p (Some v) h =
-    let outer = and_parts (int_le (least_of p.kind) v && int_le v (greatest_of p.kind)) (not (means_missing p v p.mark)) h in
-    let inner = and_parts (int_le (least_of p.kind) v) (int_le v (greatest_of p.kind)) outer.0 in
-    ((le_to (least_of p.kind) v inner.0, le_to v (greatest_of p.kind) inner.1), mark_to p v p.mark outer.1)
+    let outer = and_parts (int_le (least_of_kind p.kind) v && int_le v (greatest_of_kind p.kind)) (not (means_missing p v p.mark)) h in
+    let inner = and_parts (int_le (least_of_kind p.kind) v) (int_le v (greatest_of_kind p.kind)) outer.0 in
+    ((le_to (least_of_kind p.kind) v inner.0, le_to v (greatest_of_kind p.kind) inner.1), mark_to p v p.mark outer.1)
 
 hold_from : (p : Place) (v : Option ℤ) → CanHold p v → can_hold p v ≡ true
 hold_from p None h = h
 hold_from p (Some v) h =
-    rw (le_from (least_of p.kind) v h.0.0, le_from v (greatest_of p.kind) h.0.1, mark_from p v p.mark h.1) refl
+    rw (le_from (least_of_kind p.kind) v h.0.0, le_from v (greatest_of_kind p.kind) h.0.1, mark_from p v p.mark h.1) refl
 
 all_to : (ps : List Place) (vs : List (Option ℤ)) → can_hold_all ps vs ≡ true → (i : ℕ) → i < length ps → (d : Place) → CanHold (get_or ps i d) (get_or vs i None)
 all_to [] vs h i below d = absurd (omega arith)

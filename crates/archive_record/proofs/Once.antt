@@ -5,11 +5,11 @@ use Rattle.std.proofs.lemmas.Int.{ints, of_z-to_z}
 use Rattle.archive_record.specs.declared.kind.Kind.{Kind}
 use Rattle.archive_record.specs.declared.kind.Kind.TheVariants.{SignedWord, Word, Byte, Degrees}
 use Rattle.archive_record.specs.declared.place.Place.{Place}
-use Rattle.archive_record.specs.Kind.{IsRaw, value_of, width_of, word_at, raw_at}
-use Rattle.archive_record.specs.Place.{is_mark, told}
+use Rattle.archive_record.specs.Kind.{IsRaw, value_of_kind, width_of, word_at, raw_at}
+use Rattle.archive_record.specs.Place.{is_mark, told_value}
 
 -- no two numbers of a kind mean one value
-pub value_once : (kind : Kind) (a b : ℕ) → IsRaw kind a → IsRaw kind b → value_of kind a ≡ value_of kind b → a ≡ b
+pub value_once : (kind : Kind) (a b : ℕ) → IsRaw kind a → IsRaw kind b → value_of_kind kind a ≡ value_of_kind kind b → a ≡ b
 value_once SignedWord a b a_small b_small same = sym (of_z-to_z w16 a a_small) ∙ ap (of_z w16) same ∙ of_z-to_z w16 b b_small
 value_once Word a b a_small b_small same = cc
 value_once Byte a b a_small b_small same = cc
@@ -21,15 +21,15 @@ marked None a b a_is b_is = cc
 marked (Some mark) a b a_is b_is = grind (arith, nat_tests)
 
 told_by : (kind : Kind) (mark : Option ℕ) (a b : ℕ) → IsRaw kind a → IsRaw kind b → (s t : Bool) → is_mark mark a ≡ s → is_mark mark b ≡ t →
-    cond s None (Some (value_of kind a)) ≡ cond t None (Some (value_of kind b)) → a ≡ b
+    cond s None (Some (value_of_kind kind a)) ≡ cond t None (Some (value_of_kind kind b)) → a ≡ b
 told_by kind mark a b a_small b_small true true a_is b_is same = marked mark a b a_is b_is
 told_by kind mark a b a_small b_small true false a_is b_is same = cc
 told_by kind mark a b a_small b_small false true a_is b_is same = cc
 told_by kind mark a b a_small b_small false false a_is b_is same =
-    let value : value_of kind a ≡ value_of kind b = cc in value_once kind a b a_small b_small value
+    let value : value_of_kind kind a ≡ value_of_kind kind b = cc in value_once kind a b a_small b_small value
 
 -- what a place tells is told by one number
-pub told_once : (place : Place) (a b : ℕ) → IsRaw place.kind a → IsRaw place.kind b → told place a ≡ told place b → a ≡ b
+pub told_once : (place : Place) (a b : ℕ) → IsRaw place.kind a → IsRaw place.kind b → told_value place a ≡ told_value place b → a ≡ b
 told_once place a b a_small b_small same =
     told_by place.kind place.mark a b a_small b_small (is_mark place.mark a) (is_mark place.mark b) refl refl same
 

@@ -5,7 +5,7 @@ use Rattle.station_base.specs.CivilMinute.{CivilMinute}
 use Rattle.station_base.specs.declared.row.Row.{Row}
 use Rattle.archive_record.specs.declared.record_read.RecordRead.{RecordRead}
 use Rattle.archive_record.specs.declared.record_read.RecordRead.TheVariants.{Row as ReadRow, Empty, OtherRevision}
-use Rattle.archive_record.specs.Reading.{is_unwritten, stamp_in, values_in, dated, reading}
+use Rattle.archive_record.specs.Reading.{is_unwritten, stamp_in, record_values, dated, reading}
 use Rattle.archive_record.specs.Record.{IsRow, ReadsAsRow}
 
 -- a reading by its tests
@@ -16,17 +16,17 @@ chosen unwritten known stamp bytes interval = cond unwritten Empty (cond known (
 pub record HasParts (bytes : List ℕ) (row : Row) : Type 0 where
   pub known : (slice_index bytes 42 == 0) ≡ true
   pub stamp : stamp_in bytes ≡ Some row.stamp
-  pub values : values_in bytes ≡ row.values
+  pub values : record_values bytes ≡ row.values
   pub unlimited : row.limited ≡ 0
 
 parts_by : (unwritten known : Bool) (stamp : Option CivilMinute) (bytes : List ℕ) (row : Row) → chosen unwritten known stamp bytes row.interval ≡ ReadRow row →
-    (known ≡ true) × (stamp ≡ Some row.stamp) × (values_in bytes ≡ row.values) × (row.limited ≡ 0)
+    (known ≡ true) × (stamp ≡ Some row.stamp) × (record_values bytes ≡ row.values) × (row.limited ≡ 0)
 unfolding chosen
 parts_by true known stamp bytes row is = cc
 parts_by false false stamp bytes row is = cc
 parts_by false true None bytes row is = cc
 parts_by false true (Some stamp) bytes row is =
-    let made : Row = record { stamp = stamp; interval = row.interval; values = values_in bytes; limited = 0 } in
+    let made : Row = record { stamp = stamp; interval = row.interval; values = record_values bytes; limited = 0 } in
     let same : made ≡ row = cc in
     (refl, ap (λ r. Some r.stamp) same, ap (λ r. r.values) same, sym (ap (λ r. r.limited) same))
 
@@ -52,13 +52,13 @@ same_row stamp interval values row s i v l =
     same ∙ ap (λ (n : ℕ). record { stamp = row.stamp; interval = row.interval; values = row.values; limited = n }) (sym l)
 
 chosen_row : (unwritten known : Bool) (stamp : Option CivilMinute) (bytes : List ℕ) (row : Row) → unwritten ≡ false → known ≡ true →
-    stamp ≡ Some row.stamp → values_in bytes ≡ row.values → row.limited ≡ 0 → chosen unwritten known stamp bytes row.interval ≡ ReadRow row
+    stamp ≡ Some row.stamp → record_values bytes ≡ row.values → row.limited ≡ 0 → chosen unwritten known stamp bytes row.interval ≡ ReadRow row
 unfolding chosen made
 chosen_row unwritten known stamp bytes row u k s v l =
-    rw (u, k, s) (ap (λ r. ReadRow r) (same_row row.stamp row.interval (values_in bytes) row refl refl v l))
+    rw (u, k, s) (ap (λ r. ReadRow r) (same_row row.stamp row.interval (record_values bytes) row refl refl v l))
 
 -- bytes with the parts of a row read as that row
-pub parts_row : (bytes : List ℕ) (row : Row) → length bytes ≡ 52 → slice_index bytes 42 ≡ 0 → stamp_in bytes ≡ Some row.stamp → values_in bytes ≡ row.values → row.limited ≡ 0 →
+pub parts_row : (bytes : List ℕ) (row : Row) → length bytes ≡ 52 → slice_index bytes 42 ≡ 0 → stamp_in bytes ≡ Some row.stamp → record_values bytes ≡ row.values → row.limited ≡ 0 →
     reading bytes row.interval ≡ ReadRow row
 unfolding chosen reading made
 parts_row bytes row long revision stamp values unlimited =
@@ -116,4 +116,4 @@ row_at bytes interval row = row_at_by (is_unwritten bytes) (slice_index bytes 42
 pub row_with : (bytes : List ℕ) (stamp : CivilMinute) → length bytes ≡ 52 → slice_index bytes 42 ≡ 0 → stamp_in bytes ≡ Some stamp → ReadsAsRow bytes
 unfolding made
 row_with bytes stamp long revision is =
-    reads_as_row bytes (made stamp 1 (values_in bytes)) (parts_row bytes (made stamp 1 (values_in bytes)) long revision is refl refl)
+    reads_as_row bytes (made stamp 1 (record_values bytes)) (parts_row bytes (made stamp 1 (record_values bytes)) long revision is refl refl)

@@ -20,7 +20,7 @@ use Rattle.station_base.proofs.Words.{stamp_of_words-of}
 use Rattle.station_base.proofs.WordOrder.{words_exceed_when_later}
 use Rattle.archive_record.specs.declared.record_read.RecordRead.TheVariants.{Row as ReadRow, Empty, OtherRevision}
 use Rattle.archive_record.specs.Kind.{word_at}
-use Rattle.archive_record.specs.Reading.{reading, dated, is_unwritten, stamp_in, values_in}
+use Rattle.archive_record.specs.Reading.{reading, dated, is_unwritten, stamp_in, record_values}
 use Rattle.archive_record.specs.Record.{IsRecord, IsRow, ReadsAsRow}
 use Rattle.archive_record.proofs.Rows.{parts_row, reads_as_row}
 use Rattle.archive_record.specs.MovedOn.{minute_numbered, with_stamp, moved_by, moved_on}
@@ -106,7 +106,7 @@ row_by true known stamp rec period row is = cc
 row_by false false stamp rec period row is = cc
 row_by false true None rec period row is = cc
 row_by false true (Some stamp) rec period row is =
-    let made : Row = record { stamp = stamp; interval = period; values = values_in rec; limited = 0 } in
+    let made : Row = record { stamp = stamp; interval = period; values = record_values rec; limited = 0 } in
     let same : made ≡ row = cc in
     (ap (λ (r : Row). Some r.stamp) same, tt, ap (λ (r : Row). r.interval) (sym same))
 
@@ -134,7 +134,7 @@ revision_given s rec row = get_or-drop 4 rec 38 0 ∙ revision_known rec row
 pub row_given : (s : CivilMinute) (rec : List ℕ) → IsCivilMinute s → IsRecord rec → ReadsAsRow rec → ReadsAsRow (with_stamp s rec)
 row_given s rec civil size row =
     let given = with_stamp s rec in
-    let made : Row = record { stamp = s; interval = 1; values = values_in given; limited = 0 } in
+    let made : Row = record { stamp = s; interval = 1; values = record_values given; limited = 0 } in
     reads_as_row given made (parts_row given made (record_given s rec size).long (revision_given s rec row) (stamp_given s rec civil) refl refl)
 
 -- where a stamp comes so many minutes later, a record moved on by them has that stamp

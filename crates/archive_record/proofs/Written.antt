@@ -7,9 +7,9 @@ use Rattle.station_base.specs.Stamp.{date_word_of, time_word_of}
 use Rattle.station_base.proofs.Words.{stamp_of_words-of, words_of-stamp}
 use Rattle.archive_record.specs.declared.record_read.RecordRead.TheVariants.{Row as ReadRow}
 use Rattle.archive_record.specs.Kind.{word_at}
-use Rattle.archive_record.specs.Reading.{reading, values_in, stamp_in}
+use Rattle.archive_record.specs.Reading.{reading, record_values, stamp_in}
 use Rattle.archive_record.specs.Record.{IsRecord}
-use Rattle.archive_record.specs.Writing.{Tells}
+use Rattle.archive_record.specs.Writing.{TellsRow}
 use Rattle.archive_record.proofs.Cover.{same_record}
 use Rattle.archive_record.proofs.Rows.{row_parts, parts_row}
 
@@ -23,7 +23,7 @@ words_stay old new same = (
 )
 
 -- what tells a row reads as the row
-pub tells_read : (bytes : List ℕ) (row : Row) → length bytes ≡ 52 → IsCivilMinute row.stamp → row.limited ≡ 0 → Tells bytes row → reading bytes row.interval ≡ ReadRow row
+pub tells_read : (bytes : List ℕ) (row : Row) → length bytes ≡ 52 → IsCivilMinute row.stamp → row.limited ≡ 0 → TellsRow bytes row → reading bytes row.interval ≡ ReadRow row
 tells_read bytes row long civil unlimited tells =
     let stamp : stamp_in bytes ≡ Some row.stamp = rw (tells.date, tells.time) (stamp_of_words-of row.stamp civil) in
     parts_row bytes row long tells.revision stamp tells.values unlimited
@@ -32,21 +32,21 @@ byte_zero : (n : ℕ) → (n == 0) ≡ true → n ≡ 0
 byte_zero n is = grind (arith, nat_tests)
 
 -- what reads as a row tells it
-pub read_tells : (bytes : List ℕ) (row : Row) → reading bytes row.interval ≡ ReadRow row → Tells bytes row
+pub read_tells : (bytes : List ℕ) (row : Row) → reading bytes row.interval ≡ ReadRow row → TellsRow bytes row
 read_tells bytes row is =
     let parts = row_parts bytes row is in
     let words = words_of-stamp (word_at bytes 0) (word_at bytes 2) row.stamp parts.stamp in
     record { date = sym words.0; time = sym words.1; revision = byte_zero _ parts.known; values = parts.values }
 
 -- and no two records tell one row
-pub tells_once : (a b : List ℕ) (row : Row) → IsRecord a → IsRecord b → Tells a row → Tells b row → a ≡ b
+pub tells_once : (a b : List ℕ) (row : Row) → IsRecord a → IsRecord b → TellsRow a row → TellsRow b row → a ≡ b
 tells_once a b row a_is b_is a_tells b_tells =
     same_record a b a_is b_is (a_tells.date ∙ sym b_tells.date) (a_tells.time ∙ sym b_tells.time) (a_tells.revision ∙ sym b_tells.revision) (a_tells.values ∙ sym b_tells.values)
 
 -- the bytes that the code makes tell the row: the words first, and then the values
 pub tells_made : (first second bytes : List ℕ) (row : Row) (date time : ℕ) → date ≡ date_word_of row.stamp → time ≡ time_word_of row.stamp →
     slice_index first 42 ≡ 0 → word_at first 0 ≡ date → word_at second 2 ≡ time → ((i : ℕ) → (i < 2) ⊎ (4 ≤ i) → slice_index second i ≡ slice_index first i) →
-    ((i : ℕ) → (i < 4) ⊎ (i ≡ 42) → slice_index bytes i ≡ slice_index second i) → values_in bytes ≡ row.values → Tells bytes row
+    ((i : ℕ) → (i < 4) ⊎ (i ≡ 42) → slice_index bytes i ≡ slice_index second i) → record_values bytes ≡ row.values → TellsRow bytes row
 tells_made first second bytes row date time date_is time_is revision date_at time_at others stay values =
     let words = words_stay second bytes stay in
     let kept : word_at second 0 ≡ word_at first 0 = omega (arith, others 0 (inl (omega arith)), others 1 (inl (omega arith))) in

@@ -16,29 +16,29 @@ abbrev pub IsRaw : Kind → ℕ → Type 0
 IsRaw kind raw = raw < 256 ^ width_of kind
 
 -- the value that the number means
-abbrev pub value_of : Kind → ℕ → ℤ
-value_of SignedWord raw = cast_signed w16 raw
-value_of Word raw = pos raw
-value_of Byte raw = pos raw
-value_of Degrees raw = pos raw -ℤ pos 90
+abbrev pub value_of_kind : Kind → ℕ → ℤ
+value_of_kind SignedWord raw = cast_signed w16 raw
+value_of_kind Word raw = pos raw
+value_of_kind Byte raw = pos raw
+value_of_kind Degrees raw = pos raw -ℤ pos 90
 
 -- the least value and the greatest
-abbrev pub least_of : Kind → ℤ
-least_of SignedWord = negsuc 32767
-least_of Word = pos 0
-least_of Byte = pos 0
-least_of Degrees = negsuc 89
+abbrev pub least_of_kind : Kind → ℤ
+least_of_kind SignedWord = negsuc 32767
+least_of_kind Word = pos 0
+least_of_kind Byte = pos 0
+least_of_kind Degrees = negsuc 89
 
 -- the greatest value that a number of this kind can mean
-abbrev pub greatest_of : Kind → ℤ
-greatest_of SignedWord = pos 32767
-greatest_of Word = pos 65535
-greatest_of Byte = pos 255
-greatest_of Degrees = pos 165
+abbrev pub greatest_of_kind : Kind → ℤ
+greatest_of_kind SignedWord = pos 32767
+greatest_of_kind Word = pos 65535
+greatest_of_kind Byte = pos 255
+greatest_of_kind Degrees = pos 165
 
 -- a kind has the values from the least to the greatest
 abbrev pub HasValue : Kind → ℤ → Type 0
-HasValue kind value = (least_of kind ≤ℤ value) × (value ≤ℤ greatest_of kind)
+HasValue kind value = (least_of_kind kind ≤ℤ value) × (value ≤ℤ greatest_of_kind kind)
 
 -- the two bytes at an offset as one number, the low one first
 abbrev pub word_at : List ℕ → ℕ → ℕ

@@ -5,7 +5,7 @@ use Rattle.std.specs.Ordering.{int_eq}
 use Rattle.std.specs.Option.{ForSome}
 use Rattle.std.specs.declared.option.Option.{Option}
 use Rattle.archive_record.specs.declared.place.Place.{Place}
-use Rattle.archive_record.specs.Kind.{width_of, IsRaw, value_of, least_of, greatest_of, HasValue, raw_at}
+use Rattle.archive_record.specs.Kind.{width_of, IsRaw, value_of_kind, least_of_kind, greatest_of_kind, HasValue, raw_at}
 
 -- the number is the mark of a missing value
 abbrev pub is_mark : Option ℕ → ℕ → Bool
@@ -13,29 +13,29 @@ is_mark None raw = false
 is_mark (Some mark) raw = raw == mark
 
 -- what a number tells at a place: nothing where it is the mark, and else its value
-abbrev pub told : Place → ℕ → Option ℤ
-told place raw = if is_mark place.mark raw then None else Some (value_of place.kind raw)
+abbrev pub told_value : Place → ℕ → Option ℤ
+told_value place raw = if is_mark place.mark raw then None else Some (value_of_kind place.kind raw)
 
 -- what a record tells at a place
 abbrev pub value_in : List ℕ → Place → Option ℤ
-value_in bytes place = told place (raw_at bytes place.kind place.offset)
+value_in bytes place = told_value place (raw_at bytes place.kind place.offset)
 
 -- a place can hold a value that its kind has and that is not its mark, and nothing only where it has a mark
 abbrev pub CanHold : Place → Option ℤ → Type 0
 CanHold place None = IsSome place.mark
 CanHold place (Some value) =
-    HasValue place.kind value × ForSome place.mark (λ mark. value ≢ value_of place.kind mark)
+    HasValue place.kind value × ForSome place.mark (λ mark. value ≢ value_of_kind place.kind mark)
 
 -- the value is what the mark, where there is one, would mean
 abbrev pub means_missing : Place → ℤ → Option ℕ → Bool
 means_missing place value None = false
-means_missing place value (Some mark) = int_eq value (value_of place.kind mark)
+means_missing place value (Some mark) = int_eq value (value_of_kind place.kind mark)
 
 -- `CanHold` as a test
 abbrev pub can_hold : Place → Option ℤ → Bool
 can_hold place None = is_some place.mark
 can_hold place (Some value) =
-    int_le (least_of place.kind) value && int_le value (greatest_of place.kind)
+    int_le (least_of_kind place.kind) value && int_le value (greatest_of_kind place.kind)
     && not (means_missing place value place.mark)
 
 -- a place within a record, behind the stamp, whose mark has room in it

@@ -21,18 +21,18 @@ abbrev pub stamp_in : List ℕ → Option CivilMinute
 stamp_in bytes = stamp_of_words (word_at bytes 0) (word_at bytes 2)
 
 -- what a record tells of each field
-abbrev pub values_in : List ℕ → List (Option ℤ)
-values_in bytes = map (value_in bytes) places
+abbrev pub record_values : List ℕ → List (Option ℤ)
+record_values bytes = map (value_in bytes) places
 
 -- the row of a record of this stamp
-abbrev pub row_in : List ℕ → ℕ → CivilMinute → Row
-row_in bytes interval stamp =
-    record { stamp = stamp; interval = interval; values = values_in bytes; limited = 0 }
+abbrev pub row_of_record : List ℕ → ℕ → CivilMinute → Row
+row_of_record bytes interval stamp =
+    record { stamp = stamp; interval = interval; values = record_values bytes; limited = 0 }
 
 -- a record of revision B, whose words may name no stamp
 abbrev pub dated : List ℕ → ℕ → Option CivilMinute → RecordRead
 dated bytes interval None = BadStamp (word_at bytes 0) (word_at bytes 2)
-dated bytes interval (Some stamp) = ReadRow (row_in bytes interval stamp)
+dated bytes interval (Some stamp) = ReadRow (row_of_record bytes interval stamp)
 
 -- what the 52 bytes of a slot say, where records are written at that interval (Davis serial manual)
 unfoldable pub reading : List ℕ → ℕ → RecordRead

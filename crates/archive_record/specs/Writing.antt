@@ -6,7 +6,7 @@ use Rattle.station_base.specs.Stamp.{date_word_of, time_word_of}
 use Rattle.archive_record.specs.declared.place.Place.{Place}
 use Rattle.archive_record.specs.Kind.{word_at}
 use Rattle.archive_record.specs.Place.{CanHold, can_hold}
-use Rattle.archive_record.specs.Reading.{values_in}
+use Rattle.archive_record.specs.Reading.{record_values}
 use Rattle.archive_record.specs.Table.{places, place_of}
 
 -- each field's place can hold its value
@@ -29,8 +29,8 @@ abbrev pub can_tell : Row → Bool
 can_tell row = (row.limited == 0) && can_hold_all places row.values
 
 -- the bytes tell the stamp and the values of the row, in revision B
-pub record Tells (bytes : List ℕ) (row : Row) : Type 0 where
+pub record TellsRow (bytes : List ℕ) (row : Row) : Type 0 where
   pub date : word_at bytes 0 ≡ date_word_of row.stamp
   pub time : word_at bytes 2 ≡ time_word_of row.stamp
   pub revision : slice_index bytes 42 ≡ 0
-  pub values : values_in bytes ≡ row.values
+  pub values : record_values bytes ≡ row.values

@@ -17,11 +17,11 @@ pub enum Kind {
 const DEGREES_SHIFT: i32 = 90;
 
 impl Kind {
-    ghost use Rattle.archive_record.specs.Kind.{IsRaw, HasValue, value_of};
+    ghost use Rattle.archive_record.specs.Kind.{IsRaw, HasValue, value_of_kind};
 
     /// The value that a number in the record stands for.
     pub fn value(&self, raw: u16) -> i32
-        ensures { result ≡ value_of self.now raw }
+        ensures { result ≡ value_of_kind self.now raw }
     {
         match self {
             Kind::SignedWord => i32::from(raw.cast_signed()),
@@ -33,7 +33,7 @@ impl Kind {
     /// The number that stands for a value in the record. There is none for a value beyond those of the kind.
     pub fn raw(&self, value: i32) -> Option<u16>
         ensures range { IsSome result ↔ HasValue self.now value }
-        ensures found { IfSome result (λ raw. IsRaw self.now raw × (value_of self.now raw ≡ value)) }
+        ensures found { IfSome result (λ raw. IsRaw self.now raw × (value_of_kind self.now raw ≡ value)) }
     {
         match self {
             Kind::SignedWord => Some(i16::try_from(value).ok()?.cast_unsigned()),

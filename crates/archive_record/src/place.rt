@@ -16,7 +16,7 @@ pub struct Place {
 }
 
 impl Place {
-    ghost use Rattle.archive_record.specs.Place.{IsPlace, CanHold, told, value_in};
+    ghost use Rattle.archive_record.specs.Place.{IsPlace, CanHold, told_value, value_in};
 
     /// The value that a record has here.
     pub fn value_in(&self, bytes: &[u8; RECORD_SIZE]) -> Option<i32>
@@ -38,7 +38,7 @@ impl Place {
     pub fn raw(&self, value: Option<i32>) -> Option<u16>
         requires { IsPlace self.now }
         ensures can { IsSome result ↔ CanHold self.now value }
-        ensures found { IfSome result (λ raw. IsRaw self.now.kind raw × (told self.now raw ≡ value)) }
+        ensures found { IfSome result (λ raw. IsRaw self.now.kind raw × (told_value self.now raw ≡ value)) }
     {
         let Some(value) = value else {
             return self.mark;

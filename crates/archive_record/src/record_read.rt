@@ -1,7 +1,7 @@
 ghost use Rattle.std.specs.Prelude.{◌≡◌, ℕ, All, None, map, slice_index_or};
 ghost use Rattle.station_base.specs.RowLine.{IsValueWithin};
 ghost use Rattle.archive_record.specs.Place.{value_in};
-ghost use Rattle.archive_record.specs.Reading.{reading, is_unwritten, row_in, values_in};
+ghost use Rattle.archive_record.specs.Reading.{reading, is_unwritten, row_of_record, record_values};
 ghost use Rattle.archive_record.specs.Record.{IfRow};
 ghost use Rattle.archive_record.specs.SlotKind.{reading_of};
 ghost use Rattle.archive_record.specs.Table.{places};
@@ -80,7 +80,7 @@ pub fn kind_of(bytes: &[u8; RECORD_SIZE]) -> SlotKind
 
 /// The row of a record of this stamp.
 pub fn row_in(bytes: &[u8; RECORD_SIZE], interval: Period, stamp: Stamp) -> Row
-    ensures row { result ≡ row_in bytes.now interval stamp }
+    ensures row { result ≡ row_of_record bytes.now interval stamp }
     ensures within { All (IsValueWithin 65_535) result.values }
 {
     Row {
@@ -93,7 +93,7 @@ pub fn row_in(bytes: &[u8; RECORD_SIZE], interval: Period, stamp: Stamp) -> Row
 
 /// What a record tells of one field.
 pub fn value_in(bytes: &[u8; RECORD_SIZE], field: FieldId) -> Option<i32>
-    ensures value { result ≡ slice_index_or (values_in bytes.now) field None }
+    ensures value { result ≡ slice_index_or (record_values bytes.now) field None }
     ensures within { IsValueWithin 65_535 result }
 {
     places()[field.index()].value_in(bytes)

@@ -1,8 +1,8 @@
 ghost use Rattle.std.specs.Prelude.{◌≡◌, ◌⊎◌, ◌<◌, ◌↔◌, ℕ, List, Some, IsSome, IfSome, OnSome, is_some, slice_index};
 ghost use Rattle.archive_record.specs.declared.record_read.RecordRead.{RecordRead};
-ghost use Rattle.archive_record.specs.Reading.{reading, values_in};
+ghost use Rattle.archive_record.specs.Reading.{reading, record_values};
 ghost use Rattle.archive_record.specs.Record.{IsRecord};
-ghost use Rattle.archive_record.specs.Writing.{CanHoldAll, CanTell, Tells, can_tell};
+ghost use Rattle.archive_record.specs.Writing.{CanHoldAll, CanTell, TellsRow, can_tell};
 
 use crate::place::{RECORD_SIZE, put_word};
 use crate::record::Rec52;
@@ -33,7 +33,7 @@ pub fn write(row: &Row) -> Option<Rec52>
 // Writes each value at its place.
 fn put_values(bytes: &mut [u8; RECORD_SIZE], values: &[Option<i32>; FIELD_COUNT]) -> Option<()>
     ensures can { IsSome result ↔ CanHoldAll values.now }
-    ensures values { OnSome result (values_in bytes.new ≡ values.now) }
+    ensures values { OnSome result (record_values bytes.new ≡ values.now) }
     ensures others { (i : ℕ) → (i < 4) ⊎ (i ≡ 42) → slice_index bytes.new i ≡ slice_index bytes.old i }
 {
     for (field, place) in places().iter().enumerate() {

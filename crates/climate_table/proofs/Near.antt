@@ -2,7 +2,7 @@
 use Rattle.std.proofs.Common.{ℕ, ◌≡◌, ◌<◌, ◌≤◌, ◌+◌, ◌*◌, ◌/◌, List, [], ◌∷◌, length, subst, arith}
 use Rattle.std.specs.List.{AllByRecursion}
 use Rattle.std.proofs.Math.Nat.{div-mul-le_self, mul-le-mul, lt-div-mul-add}
-use Rattle.climate_table.specs.Total.{IsFraction, IsNear, total_of, sum_of}
+use Rattle.climate_table.specs.Total.{IsFraction, TotalIsNear, total_of, sum_of}
 
 -- a product of two that are not 0
 some : (d e : ℕ) → 1 ≤ d → 1 ≤ e → 1 ≤ d * e
@@ -26,7 +26,7 @@ less_more n d m e f t k some one more =
     let h2 : (100 * m) * d ≤ ((t + k) * e) * d = mul-le-mul more (omega arith) in
     omega (arith, h1, h2, some)
 
-pub near : (fractions : List (ℕ × ℕ)) → AllByRecursion IsFraction fractions → IsNear (total_of fractions) fractions
+pub near : (fractions : List (ℕ × ℕ)) → AllByRecursion IsFraction fractions → TotalIsNear (total_of fractions) fractions
 near [] all = record { least = omega arith; most = omega arith; less = λ none. absurd (omega (arith, none)) }
 near ((n, d) ∷ more) all =
     let rest = near more all.1 in

@@ -10,7 +10,7 @@ use Rattle.std.proofs.lemmas.List.{append-nil}
 use Rattle.daily_summary.specs.Bounds.{IsInBounds}
 use Rattle.daily_summary.specs.declared.summary.DaySummary.{DaySummary}
 use Rattle.weather_book.specs.declared.book.Book.{Book}
-use Rattle.weather_book.specs.Book.{StandsFor}
+use Rattle.weather_book.specs.Book.{BookStandsFor}
 use Rattle.packed_rows.specs.Days.{Ascend, days_of}
 use Rattle.weather_book.proofs.Standing.{some_rows}
 use Rattle.weather_reports.specs.Months.{is_of_month}
@@ -20,7 +20,7 @@ use Rattle.climate_table.specs.declared.span.Span.{Span}
 use Rattle.climate_table.specs.Climate.{IsOfDays, climate_of}
 use Rattle.climate_table.specs.Degrees.{day_summary}
 use Rattle.climate_table.specs.Line.{climate_line}
-use Rattle.climate_table.specs.Spans.{Grows, HasDaysAhead, HasDaysTo, IsInOrder, IsSpan, ended_lines, is_begun, month_of, span_lines}
+use Rattle.climate_table.specs.Spans.{SpanGrows, HasDaysAhead, HasDaysTo, SpanIsInOrder, IsSpan, ended_lines, is_begun, month_of, span_lines}
 use Rattle.climate_table.specs.Table.{climate_lines, degree_lines, is_of_year}
 use Rattle.climate_table.proofs.Months.{next_lines}
 use Rattle.climate_table.proofs.YearSpan.{year_span}
@@ -68,16 +68,16 @@ of_month P month day all = by (is_begun month day)
 
 -- a span in order whose first day is of this year
 pub record IsInYear (year : ℕ) (s : Span) : Type 0 where
-  pub order : IsInOrder s
+  pub order : SpanIsInOrder s
   pub of_year : is_of_year year s.first.0 ≡ true
 
-pub in_order : (year : ℕ) (span : Option Span) → IfSome span (IsInYear year) → IfSome span IsInOrder
+pub in_order : (year : ℕ) (span : Option Span) → IfSome span (IsInYear year) → IfSome span SpanIsInOrder
 in_order year None is = tt
 in_order year (Some s) is = is.order
 
 -- a day of the year was added
 pub year_on : (year : ℕ) (old : Option Span) (day : DayNumber) (new : Span) → IsDayNumber day.0 → is_of_year year day.0 ≡ true
-    → IfSome old (IsInYear year) → Grows old day new → IsInYear year new
+    → IfSome old (IsInYear year) → SpanGrows old day new → IsInYear year new
 year_on year None day new range of_year is grows = record {
   order = record { first = rw (ap (λ (d : DayNumber). d.0) grows.first) range; sums = grows.sums };
   of_year = rw (ap (λ (d : DayNumber). d.0) grows.first) of_year;
@@ -97,8 +97,8 @@ few_yet year (Some s) day range of_year is ahead =
 
 -- a book stands for some rows, so what each list of its rows shows of a span is so
 pub days_to : (book : Book) (span : Option Span) (day : DayNumber) (n : ℕ)
-    → ((rows : List Row) → StandsFor book rows → IfSome span (HasDaysAhead rows n))
-    → ((rows : List Row) → StandsFor book rows → slice_get (days_of rows) n ≡ Some day.0) → IfSome span (HasDaysTo day.0)
+    → ((rows : List Row) → BookStandsFor book rows → IfSome span (HasDaysAhead rows n))
+    → ((rows : List Row) → BookStandsFor book rows → slice_get (days_of rows) n ≡ Some day.0) → IfSome span (HasDaysTo day.0)
 days_to book None day n ahead at = tt
 days_to book (Some s) day n ahead at = record {
   after = ∥∥₁_elim (some_rows book) (hlevel props) (λ p. (of_rows p.0 p.1).after);
@@ -111,7 +111,7 @@ days_to book (Some s) day n ahead at = record {
   };
 }
   where
-    of_rows : (rows : List Row) → StandsFor book rows → HasDaysTo day.0 s
+    of_rows : (rows : List Row) → BookStandsFor book rows → HasDaysTo day.0 s
     of_rows rows stands = ahead rows stands n day.0 (omega arith) (at rows stands)
 
 -- one day less is ahead
@@ -121,12 +121,12 @@ days_still rows n (Some s) ahead = λ k day le at. ahead k day (omega (arith, le
 
 -- a day was added
 pub days_on : (rows : List Row) (n : ℕ) (day : DayNumber) (old : Option Span) (new : Span) → Ascend None (days_of rows)
-    → slice_get (days_of rows) n ≡ Some day.0 → IsDayNumber day.0 → Grows old day new → IfSome old (HasDaysAhead rows n) → HasDaysAhead rows (n + 1) new
+    → slice_get (days_of rows) n ≡ Some day.0 → IsDayNumber day.0 → SpanGrows old day new → IfSome old (HasDaysAhead rows n) → HasDaysAhead rows (n + 1) new
 days_on rows n day old new up at range grows ahead k next le at_k =
     let less = later_number (days_of rows) up n k day.0 next at at_k range (omega (arith, le)) in
     by old grows ahead less
   where
-    by : (span : Option Span) → Grows span day new → IfSome span (HasDaysAhead rows n) → unsigned_abs day.0 < unsigned_abs next → HasDaysTo next new
+    by : (span : Option Span) → SpanGrows span day new → IfSome span (HasDaysAhead rows n) → unsigned_abs day.0 < unsigned_abs next → HasDaysTo next new
     by None grows ahead less =
         let first = ap (λ (d : DayNumber). unsigned_abs d.0) grows.first in
         record {
@@ -160,7 +160,7 @@ span_with rows (first ∷ more) (Some s) day grown added is (inr none) add = abs
 pub grows_with : (old : Option Span) (day : DayNumber) (grown : Span) (added : ClimateSummary)
     → (old ≡ Some grown) ⊎ ((old ≡ None) × (grown.first ≡ day) × IsOfDays 0 grown.summary)
     → IsInBounds added.sums → ((n : ℕ) → IsOfDays n grown.summary → IsOfDays (n + 1) added)
-    → Grows old day (record { first = grown.first; summary = added })
+    → SpanGrows old day (record { first = grown.first; summary = added })
 grows_with None day grown added (inl some) bounds few = absurd cc
 grows_with None day grown added (inr none) bounds few = record {
   first = none.1;
@@ -178,12 +178,12 @@ grows_with (Some s) day grown added (inr none) bounds few = absurd (let e = none
 
 -- the same where a span may have begun
 pub years_on : (year : ℕ) (old : Option Span) (day : DayNumber) (new : Option Span) → IsDayNumber day.0 → is_of_year year day.0 ≡ true
-    → IfSome old (IsInYear year) → IfSome new (Grows old day) → IfSome new (IsInYear year)
+    → IfSome old (IsInYear year) → IfSome new (SpanGrows old day) → IfSome new (IsInYear year)
 years_on year old day None range of_year is grows = tt
 years_on year old day (Some s) range of_year is grows = year_on year old day s range of_year is grows
 
 pub all_days_on : (rows : List Row) (n : ℕ) (day : DayNumber) (old new : Option Span) → Ascend None (days_of rows)
-    → slice_get (days_of rows) n ≡ Some day.0 → IsDayNumber day.0 → IfSome new (Grows old day) → IfSome old (HasDaysAhead rows n)
+    → slice_get (days_of rows) n ≡ Some day.0 → IsDayNumber day.0 → IfSome new (SpanGrows old day) → IfSome old (HasDaysAhead rows n)
     → IfSome new (HasDaysAhead rows (n + 1))
 all_days_on rows n day old None up at range grows ahead = tt
 all_days_on rows n day old (Some s) up at range grows ahead = days_on rows n day old s up at range grows ahead

@@ -46,12 +46,12 @@ abbrev pub ended_lines : Option Span → ℤ → List (List ℕ)
 ended_lines month day = if is_begun month day then [] else span_lines 7 month
 
 -- its first day is one of a stamp, and its numbers are within bounds
-pub record IsInOrder (span : Span) : Type 0 where
+pub record SpanIsInOrder (span : Span) : Type 0 where
   pub first : IsDayNumber span.first.0
   pub sums : IsInBounds span.summary.sums
 
 -- A day was added to a span, or began it.
-pub record Grows (old : Option Span) (day : DayNumber) (new : Span) : Type 0 where
+pub record SpanGrows (old : Option Span) (day : DayNumber) (new : Span) : Type 0 where
   pub first : new.first ≡ first_day old day
   pub sums : IsInBounds new.summary.sums
   pub few : (n : ℕ) → IfSome old (λ s. IsOfDays n s.summary) → IsOfDays (n + 1) new.summary

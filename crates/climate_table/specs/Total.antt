@@ -25,7 +25,7 @@ sum_of (f ∷ more) = plus f (sum_of more)
 
 -- A hundred times the sum is at least the total, and at most the total and one more for each fraction; it is less than
 -- that where there is a fraction.
-pub record IsNear (total : ℕ) (fractions : List (ℕ × ℕ)) : Type 0 where
+pub record TotalIsNear (total : ℕ) (fractions : List (ℕ × ℕ)) : Type 0 where
   pub least : total * (sum_of fractions).1 ≤ 100 * (sum_of fractions).0
   pub most : 100 * (sum_of fractions).0 ≤ (total + length fractions) * (sum_of fractions).1
   pub less : 0 < length fractions → 100 * (sum_of fractions).0 < (total + length fractions) * (sum_of fractions).1

@@ -67,7 +67,8 @@ pub fn climate_line(name: &[u8], summary: &ClimateSummary) -> Line
 fn push_mean(line: &mut Line, sums: &DaySummary)
     requires room { array_vec_len line.old + NUMBER ≤ LINE_ROOM }
     requires bounds { IsInBounds sums.now }
-    ensures text { line.new.items ≡ line.old.items ++ codes " mean " ++ number_or_dash (option_map tenths (outside sums.now)) }
+    ensures text { line.new.items ≡ line.old.items ++ codes " mean "
+        ++ number_or_dash (option_map tenths (outside sums.now)) }
     ensures length { array_vec_len line.new ≤ array_vec_len line.old + NUMBER }
 {
     let field = FieldId::from_index(OUTSIDE).unwrap();

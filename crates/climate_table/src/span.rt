@@ -6,10 +6,10 @@ ghost use Rattle.station_base.specs.DayText.{IsDayNumber};
 ghost use Rattle.station_base.specs.declared.row.Row.{Row};
 ghost use Rattle.weather_book.specs.Start.{IsOfADay};
 ghost use Rattle.weather_reports.specs.Months.{month_text};
-ghost use Rattle.weather_reports.specs.Reported.{text_of};
+ghost use Rattle.weather_reports.specs.Reported.{text_of_lines};
 ghost use Rattle.climate_table.specs.Climate.{IsOfDays};
 ghost use Rattle.climate_table.specs.Degrees.{day_summary};
-ghost use Rattle.climate_table.specs.Spans.{Grows, IsInOrder, IsSpan, span_lines};
+ghost use Rattle.climate_table.specs.Spans.{SpanGrows, SpanIsInOrder, IsSpan, span_lines};
 
 use crate::climate_summary::ClimateSummary;
 use crate::line::climate_line;
@@ -45,12 +45,12 @@ impl Span {
 
 // The days of a span and one more, or this day as the first.
 pub fn with_day(span: &Option<Span>, day: DayNumber, summary: &DaySummary) -> Span
-    requires order { IfSome span.now IsInOrder }
+    requires order { IfSome span.now SpanIsInOrder }
     requires few { IfSome span.now (λ s. IsOfDays 365 s.summary) }
     requires summary { IsOfADay summary.now }
     ensures span { (rows : List Row) (days : List ℤ) → IsSpan rows days span.now → summary.now ≡ day_summary rows day.0
         → IsSpan rows (days ++ day.0 ∷ []) (Some result) }
-    ensures grows { Grows span.now day result }
+    ensures grows { SpanGrows span.now day result }
 {
     let mut grown = match span {
         Some(span) => *span,
@@ -72,12 +72,12 @@ pub fn print_span<K: Sink>(
 ) -> Put
     requires room { array_vec_len pending.old < PIECE }
     requires size { size ≤ MONTH }
-    requires order { IfSome span.now IsInOrder }
+    requires order { IfSome span.now SpanIsInOrder }
     ensures room { array_vec_len pending.new < PIECE }
     ensures done { result ≡ Put.Done → Leaves (K.outlet.taken out.old) (K.outlet.taken out.new)
-        (pending.old.items ++ text_of (span_lines size span.now)) pending.new.items }
+        (pending.old.items ++ text_of_lines (span_lines size span.now)) pending.new.items }
     ensures failed { result ≡ Put.Failed → WritesPart (K.outlet.taken out.old) (K.outlet.taken out.new)
-        (pending.old.items ++ text_of (span_lines size span.now)) }
+        (pending.old.items ++ text_of_lines (span_lines size span.now)) }
     ensures cause { Cause (K.outlet.faults out.old) (K.outlet.faults out.new) (result ≡ Put.Failed) }
     ensures still { result ≢ Put.Failed → K.outlet.faults out.new ≡ K.outlet.faults out.old }
 {

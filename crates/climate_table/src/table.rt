@@ -5,10 +5,10 @@ ghost use Rattle.causes.specs.Written.{Leaves, WritesPart};
 ghost use Rattle.station_base.specs.DayText.{IsDayNumber};
 ghost use Rattle.station_base.specs.declared.row.Row.{Row};
 ghost use Rattle.weather_book.specs.Start.{IsOfADay};
-ghost use Rattle.weather_reports.specs.Reported.{text_of};
+ghost use Rattle.weather_reports.specs.Reported.{text_of_lines};
 ghost use Rattle.climate_table.specs.Climate.{IsOfDays};
 ghost use Rattle.climate_table.specs.Degrees.{day_summary};
-ghost use Rattle.climate_table.specs.Spans.{Grows, IsInOrder, IsSpan, ended_lines, is_begun, month_of, month_with, span_lines};
+ghost use Rattle.climate_table.specs.Spans.{SpanGrows, SpanIsInOrder, IsSpan, ended_lines, is_begun, month_of, month_with, span_lines};
 ghost use Rattle.climate_table.specs.Table.{degree_lines};
 
 use crate::degree_days::degrees_in;
@@ -47,14 +47,15 @@ impl Table {
         out: &mut K,
     ) -> Put
         requires room { array_vec_len pending.old < PIECE }
-        requires month { IfSome self.now.month IsInOrder }
+        requires month { IfSome self.now.month SpanIsInOrder }
         requires day { IsDayNumber day.0 }
         requires summary { IsOfADay summary.now }
         ensures room { array_vec_len pending.new < PIECE }
         ensures done { result ≡ Put.Done → Leaves (K.outlet.taken out.old) (K.outlet.taken out.new)
-            (pending.old.items ++ text_of (ended_lines self.now.month day.0 ++ degree_lines day.0 summary.now)) pending.new.items }
+            (pending.old.items ++ text_of_lines (ended_lines self.now.month day.0
+            ++ degree_lines day.0 summary.now)) pending.new.items }
         ensures failed { result ≡ Put.Failed → WritesPart (K.outlet.taken out.old) (K.outlet.taken out.new)
-            (pending.old.items ++ text_of (ended_lines self.now.month day.0 ++ degree_lines day.0 summary.now)) }
+            (pending.old.items ++ text_of_lines (ended_lines self.now.month day.0 ++ degree_lines day.0 summary.now)) }
         ensures cause { Cause (K.outlet.faults out.old) (K.outlet.faults out.new) (result ≡ Put.Failed) }
         ensures still { result ≢ Put.Failed → K.outlet.faults out.new ≡ K.outlet.faults out.old }
     {
@@ -68,16 +69,18 @@ impl Table {
     pub fn add(&mut self, day: DayNumber, summary: &DaySummary)
         requires day { IsDayNumber day.0 }
         requires summary { IsOfADay summary.now }
-        requires month { IfSome self.old.month IsInOrder }
-        requires year { IfSome self.old.year IsInOrder }
+        requires month { IfSome self.old.month SpanIsInOrder }
+        requires year { IfSome self.old.year SpanIsInOrder }
         requires month_few { IfSome self.old.month (λ s. IsOfDays 365 s.summary) }
         requires year_few { IfSome self.old.year (λ s. IsOfDays 365 s.summary) }
-        ensures month { (rows : List Row) (begun : List ℤ) → IsSpan rows begun self.old.month → summary.now ≡ day_summary rows day.0
+        ensures month { (rows : List Row) (begun : List ℤ) → IsSpan rows begun self.old.month
+            → summary.now ≡ day_summary rows day.0
             → IsSpan rows (month_with begun day.0) self.new.month }
-        ensures year { (rows : List Row) (days : List ℤ) → IsSpan rows days self.old.year → summary.now ≡ day_summary rows day.0
+        ensures year { (rows : List Row) (days : List ℤ) → IsSpan rows days self.old.year
+            → summary.now ≡ day_summary rows day.0
             → IsSpan rows (days ++ day.0 ∷ []) self.new.year }
-        ensures month_grows { IfSome self.new.month (Grows (month_of self.old.month day.0) day) }
-        ensures year_grows { IfSome self.new.year (Grows self.old.year day) }
+        ensures month_grows { IfSome self.new.month (SpanGrows (month_of self.old.month day.0) day) }
+        ensures year_grows { IfSome self.new.year (SpanGrows self.old.year day) }
     {
         if !self.has_month_of(day) {
             self.month = None;
@@ -89,13 +92,14 @@ impl Table {
     // Prints the lines of the last month and of the year, if there are any.
     pub fn print_end<K: Sink>(&self, pending: &mut Pending, out: &mut K) -> Put
         requires room { array_vec_len pending.old < PIECE }
-        requires month { IfSome self.now.month IsInOrder }
-        requires year { IfSome self.now.year IsInOrder }
+        requires month { IfSome self.now.month SpanIsInOrder }
+        requires year { IfSome self.now.year SpanIsInOrder }
         ensures room { array_vec_len pending.new < PIECE }
         ensures done { result ≡ Put.Done → Leaves (K.outlet.taken out.old) (K.outlet.taken out.new)
-            (pending.old.items ++ text_of (span_lines 7 self.now.month ++ span_lines 4 self.now.year)) pending.new.items }
+            (pending.old.items ++ text_of_lines (span_lines 7 self.now.month
+            ++ span_lines 4 self.now.year)) pending.new.items }
         ensures failed { result ≡ Put.Failed → WritesPart (K.outlet.taken out.old) (K.outlet.taken out.new)
-            (pending.old.items ++ text_of (span_lines 7 self.now.month ++ span_lines 4 self.now.year)) }
+            (pending.old.items ++ text_of_lines (span_lines 7 self.now.month ++ span_lines 4 self.now.year)) }
         ensures cause { Cause (K.outlet.faults out.old) (K.outlet.faults out.new) (result ≡ Put.Failed) }
         ensures still { result ≢ Put.Failed → K.outlet.faults out.new ≡ K.outlet.faults out.old }
     {
@@ -107,7 +111,7 @@ impl Table {
 
     // Whether the day is of the month that has begun.
     fn has_month_of(&self, day: DayNumber) -> bool
-        requires month { IfSome self.now.month IsInOrder }
+        requires month { IfSome self.now.month SpanIsInOrder }
         requires day { IsDayNumber day.0 }
         ensures { result ≡ is_begun self.now.month day.0 }
     {
@@ -120,13 +124,13 @@ impl Table {
     // Prints the line of the month that is over, if the day begins another one.
     fn print_ended<K: Sink>(&self, pending: &mut Pending, day: DayNumber, out: &mut K) -> Put
         requires room { array_vec_len pending.old < PIECE }
-        requires month { IfSome self.now.month IsInOrder }
+        requires month { IfSome self.now.month SpanIsInOrder }
         requires day { IsDayNumber day.0 }
         ensures room { array_vec_len pending.new < PIECE }
         ensures done { result ≡ Put.Done → Leaves (K.outlet.taken out.old) (K.outlet.taken out.new)
-            (pending.old.items ++ text_of (ended_lines self.now.month day.0)) pending.new.items }
+            (pending.old.items ++ text_of_lines (ended_lines self.now.month day.0)) pending.new.items }
         ensures failed { result ≡ Put.Failed → WritesPart (K.outlet.taken out.old) (K.outlet.taken out.new)
-            (pending.old.items ++ text_of (ended_lines self.now.month day.0)) }
+            (pending.old.items ++ text_of_lines (ended_lines self.now.month day.0)) }
         ensures cause { Cause (K.outlet.faults out.old) (K.outlet.faults out.new) (result ≡ Put.Failed) }
         ensures still { result ≢ Put.Failed → K.outlet.faults out.new ≡ K.outlet.faults out.old }
     {
@@ -149,9 +153,9 @@ fn print_degrees<K: Sink>(
     requires summary { IsOfADay summary.now }
     ensures room { array_vec_len pending.new < PIECE }
     ensures done { result ≡ Put.Done → Leaves (K.outlet.taken out.old) (K.outlet.taken out.new)
-        (pending.old.items ++ text_of (degree_lines day.0 summary.now)) pending.new.items }
+        (pending.old.items ++ text_of_lines (degree_lines day.0 summary.now)) pending.new.items }
     ensures failed { result ≡ Put.Failed → WritesPart (K.outlet.taken out.old) (K.outlet.taken out.new)
-        (pending.old.items ++ text_of (degree_lines day.0 summary.now)) }
+        (pending.old.items ++ text_of_lines (degree_lines day.0 summary.now)) }
     ensures cause { Cause (K.outlet.faults out.old) (K.outlet.faults out.new) (result ≡ Put.Failed) }
     ensures still { result ≢ Put.Failed → K.outlet.faults out.new ≡ K.outlet.faults out.old }
 {

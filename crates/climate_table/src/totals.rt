@@ -1,6 +1,6 @@
 ghost use Rattle.std.specs.Prelude.{◌≡◌, ◌≤◌, ◌*◌, ◌^◌, length};
 ghost use Rattle.std.specs.List.{AllByRecursion};
-ghost use Rattle.climate_table.specs.Total.{IsFraction, IsNear, thousandths, total_of};
+ghost use Rattle.climate_table.specs.Total.{IsFraction, TotalIsNear, thousandths, total_of};
 
 /// The total of fractions, each given as its numerator and its denominator in tenths of a degree. It is in thousandths:
 /// a hundred times each fraction is rounded down, and these are added.
@@ -8,7 +8,7 @@ pub fn total(days: &[(u64, u64)]) -> u64
     requires few { length days.now ≤ 366 }
     requires fractions { AllByRecursion IsFraction days.now }
     ensures total { result ≡ total_of days.now }
-    ensures near { IsNear (total_of days.now) days.now }
+    ensures near { TotalIsNear (total_of days.now) days.now }
 {
     let mut total = 0;
     for (numerator, denominator) in days {

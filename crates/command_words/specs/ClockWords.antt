@@ -15,8 +15,8 @@ abbrev pub has_form_of_time : List ℕ → Bool
 has_form_of_time word = length word == 8 && slice_index word 2 == 58 && slice_index word 5 == 58
 
 -- so many decimal digits of a word, from a place on
-abbrev pub part_of : ℕ → ℕ → List ℕ → Option ℕ
-part_of place count word = number_in 10 count (take count (drop place word))
+abbrev pub clock_number : ℕ → ℕ → List ℕ → Option ℕ
+clock_number place count word = number_in 10 count (take count (drop place word))
 
 -- the second, where the calendar has it and its year is 1900 to 2155
 abbrev pub civil_only : ClockTime → Option ClockTime
@@ -25,12 +25,12 @@ civil_only time = only_if (can_be_shown time) time
 -- the second that the parts of a date and of a time name
 abbrev pub second_named : List ℕ → List ℕ → Option ClockTime
 second_named date time = do
-  year ← part_of 0 4 date
-  month ← part_of 5 2 date
-  day ← part_of 8 2 date
-  hour ← part_of 0 2 time
-  minute ← part_of 3 2 time
-  second ← part_of 6 2 time
+  year ← clock_number 0 4 date
+  month ← clock_number 5 2 date
+  day ← clock_number 8 2 date
+  hour ← clock_number 0 2 time
+  minute ← clock_number 3 2 time
+  second ← clock_number 6 2 time
   civil_only (record { year = year; month = month; day = day; hour = hour; minute = minute; second = second })
 
 -- YYYY-MM-DD and HH:MM:SS

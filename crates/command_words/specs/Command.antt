@@ -2,7 +2,7 @@
 use Rattle.std.specs.Prelude.{ℕ, ◌-◌, ◌^◌, ◌&&◌, if◌then◌else◌, List, [], ◌∷◌, map, bytes_eq, codes, length, nat_le, Some, None, option_map}
 use Rattle.std.specs.Borrow.{Bor}
 use Rattle.std.specs.declared.option.Option.{Option}
-use Rattle.command_words.specs.Numbers.{number_within, year_within}
+use Rattle.command_words.specs.Numbers.{command_number_within, year_within}
 use Rattle.command_words.specs.ReportWords.{wanted_in}
 use Rattle.command_words.specs.TaskWords.{task_of}
 use Rattle.numerals.specs.Then.{◌>>=◌, only_if}
@@ -54,10 +54,10 @@ abbrev pub texts : List (Bor (List ℕ)) → List (List ℕ)
 texts words = map (λ word. word.now) words
 
 -- `FILE` or `SETTINGS FILE`
-abbrev pub pages_in : List (List ℕ) → Option CommandLine
-pages_in (file ∷ []) = Some (pages file)
-pages_in (settings ∷ file ∷ []) = Some (corrected_pages settings file)
-pages_in words = None
+abbrev pub pages_command_in : List (List ℕ) → Option CommandLine
+pages_command_in (file ∷ []) = Some (pages file)
+pages_command_in (settings ∷ file ∷ []) = Some (corrected_pages settings file)
+pages_command_in words = None
 
 -- `SETTINGS FILE`
 abbrev pub soft_in : List (List ℕ) → Option CommandLine
@@ -81,7 +81,7 @@ climate_in words = None
 
 -- `ARCHIVE ADDRESS TURNS`, with 1 to 1,000,000 turns
 abbrev pub serve_in : List (List ℕ) → Option CommandLine
-serve_in (archive ∷ address ∷ turns ∷ []) = option_map (serve archive address) (number_within 1 1000000 turns)
+serve_in (archive ∷ address ∷ turns ∷ []) = option_map (serve archive address) (command_number_within 1 1000000 turns)
 serve_in words = None
 
 -- `SETTINGS SCHEDULE`
@@ -105,29 +105,29 @@ abbrev pub console_in : List (List ℕ) → Option CommandLine
 console_in (settings ∷ schedule ∷ address ∷ turns ∷ []) =
     option_map
     (λ turns. console (record { settings = settings; schedule = schedule; address = address; turns = turns }))
-    (number_within 1 1000000 turns)
+    (command_number_within 1 1000000 turns)
 console_in words = None
 
 -- `SETTINGS SEED SCHEDULE ..`, a number below 2^31, and one to eight schedules
 unfoldable pub fleet_in : List (List ℕ) → Option CommandLine
 fleet_in (settings ∷ seed ∷ schedules) = do
-  number ← number_within 0 (2 ^ 31 - 1) seed
+  number ← command_number_within 0 (2 ^ 31 - 1) seed
   only_if (nat_le 1 (length schedules) && nat_le (length schedules) 8) (fleet (record { settings = settings; seed = number; schedules = schedules }))
 fleet_in words = None
 
 -- `SEED N`, a number below 2^31, and 1 to 5,000
 unfoldable pub make_in : List (List ℕ) → Option CommandLine
 make_in (seed ∷ count ∷ []) = do
-  number ← number_within 0 (2 ^ 31 - 1) seed
-  records ← number_within 1 5000 count
+  number ← command_number_within 0 (2 ^ 31 - 1) seed
+  records ← command_number_within 1 5000 count
   Some (make number records)
 make_in words = None
 
 -- the command that the words spell, and none where they are outside the table
-abbrev pub command_of : List (List ℕ) → Option CommandLine
-command_of [] = None
-command_of (command ∷ words) =
-    if bytes_eq command (codes "pages") then pages_in words
+abbrev pub command_of_words : List (List ℕ) → Option CommandLine
+command_of_words [] = None
+command_of_words (command ∷ words) =
+    if bytes_eq command (codes "pages") then pages_command_in words
     else if bytes_eq command (codes "soft") then soft_in words
     else if bytes_eq command (codes "task") then task_in words
     else if bytes_eq command (codes "report") then report_in words
@@ -178,5 +178,5 @@ command_read (read.Fleet words) = fleet (fleet_names words)
 command_read (read.Make seed records) = make seed records
 
 -- the command that was read, if one was, with the texts that it lends
-abbrev pub line_of : Option Command → Option CommandLine
-line_of command = option_map command_read command
+abbrev pub command_line_of : Option Command → Option CommandLine
+command_line_of command = option_map command_read command

@@ -5,8 +5,8 @@ use Rattle.numerals.specs.Numeral.{decimal_within}
 use Rattle.numerals.specs.Pairs.{bytes_within}
 
 -- one to ten decimal digits that write a number in a range
-abbrev pub number_within : ℕ → ℕ → List ℕ → Option ℕ
-number_within least greatest word = decimal_within 10 least greatest word
+abbrev pub command_number_within : ℕ → ℕ → List ℕ → Option ℕ
+command_number_within least greatest word = decimal_within 10 least greatest word
 
 -- at most four decimal digits that write a number in a range; four, where the range begins at 1,000 or above
 abbrev pub year_within : ℕ → ℕ → List ℕ → Option ℕ

@@ -10,8 +10,8 @@ use Rattle.command_words.specs.declared.wanted.ReportKind.TheVariants.{Rows, Day
 use Rattle.command_words.specs.declared.wanted.Wanted.{Wanted}
 
 -- `rows`, `days` or `months`
-abbrev pub kind_in : List ℕ → Option ReportKind
-kind_in word =
+abbrev pub report_kind_in : List ℕ → Option ReportKind
+report_kind_in word =
     if bytes_eq word (codes "rows") then Some Rows
     else if bytes_eq word (codes "days") then Some Days
     else if bytes_eq word (codes "months") then Some Months
@@ -30,7 +30,7 @@ day_in word = first_written 10956 46752 word
 -- `KIND FIRST LAST`: a kind, and two days of which the second is not before the first
 unfoldable pub wanted_in : List ℕ → List ℕ → List ℕ → Option Wanted
 wanted_in word from to = do
-  kind ← kind_in word
+  kind ← report_kind_in word
   first ← day_in from
   last ← day_in to
   only_if (int_le first.0 last.0) (record { kind = kind; first = first; last = last })

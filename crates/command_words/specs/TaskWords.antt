@@ -5,22 +5,22 @@ use Rattle.std.specs.Str.{bytes_eq}
 use Rattle.station_base.specs.Period.{is_period}
 use Rattle.numerals.specs.Numeral.{number_in}
 use Rattle.command_words.specs.ClockWords.{second_at}
-use Rattle.command_words.specs.Numbers.{number_within, bytes_of}
+use Rattle.command_words.specs.Numbers.{command_number_within, bytes_of}
 use Rattle.numerals.specs.Then.{◌>>=◌, only_if}
 use Rattle.command_words.specs.declared.task.Task.{Task}
 use Rattle.command_words.specs.declared.task.Task.TheVariants.{Packets, ReadMemory, WriteMemory, ReadClock, SetClock}
 use Rattle.command_words.specs.declared.task.Task.TheVariants.{SetPeriod, Kind}
 
 -- `N`, 1 to 32 packets
-abbrev pub packets_in : List (List ℕ) → Option Task
-packets_in (count ∷ []) = option_map Packets (number_within 1 32 count)
-packets_in words = None
+abbrev pub packets_task_in : List (List ℕ) → Option Task
+packets_task_in (count ∷ []) = option_map Packets (command_number_within 1 32 count)
+packets_task_in words = None
 
 -- `AT N`: a place in one to three hexadecimal digits, and 1 to 255 bytes that lie within the 4,096
 unfoldable pub reading_in : List (List ℕ) → Option Task
 reading_in (place ∷ number ∷ []) = do
   at ← number_in 16 3 place
-  count ← number_within 1 255 number
+  count ← command_number_within 1 255 number
   only_if (nat_le (at + count) 4096) (ReadMemory at count)
 reading_in words = None
 
@@ -48,24 +48,24 @@ clock_in (word ∷ date ∷ time ∷ []) =
 clock_in words = None
 
 -- `M`, a period in minutes
-unfoldable pub period_in : List (List ℕ) → Option Task
-period_in (word ∷ []) = do
-  minutes ← number_within 1 120 word
+unfoldable pub period_task_in : List (List ℕ) → Option Task
+period_task_in (word ∷ []) = do
+  minutes ← command_number_within 1 120 word
   only_if (is_period minutes) (SetPeriod minutes)
-period_in words = None
+period_task_in words = None
 
 -- nothing
-abbrev pub kind_in : List (List ℕ) → Option Task
-kind_in [] = Some Kind
-kind_in words = None
+abbrev pub kind_task_in : List (List ℕ) → Option Task
+kind_task_in [] = Some Kind
+kind_task_in words = None
 
 -- the task that the words spell, and none where they are outside the table
 unfoldable pub task_of : List (List ℕ) → Option Task
 task_of [] = None
 task_of (word ∷ words) =
-    if bytes_eq word (codes "loop") then packets_in words
+    if bytes_eq word (codes "loop") then packets_task_in words
     else if bytes_eq word (codes "eeprom") then memory_in words
     else if bytes_eq word (codes "time") then clock_in words
-    else if bytes_eq word (codes "period") then period_in words
-    else if bytes_eq word (codes "kind") then kind_in words
+    else if bytes_eq word (codes "period") then period_task_in words
+    else if bytes_eq word (codes "kind") then kind_task_in words
     else None

@@ -1,6 +1,6 @@
 ghost use Rattle.std.specs.Prelude.{◌≡◌, ◌<◌, ◌≤◌, ◌+◌, ◌^◌, true, IfSome, length};
 ghost use Rattle.station_base.specs.ClockTime.{can_be_shown};
-ghost use Rattle.command_words.specs.ClockWords.{has_form_of_date, has_form_of_time, part_of, second_at, second_named};
+ghost use Rattle.command_words.specs.ClockWords.{has_form_of_date, has_form_of_time, clock_number, second_at, second_named};
 
 use numerals::{DECIMAL, read_number};
 use station_base::ClockTime;
@@ -59,7 +59,7 @@ fn has_form_of_time(word: &[u8]) -> bool
 fn read_part(word: &[u8], place: usize, count: usize) -> Option<u16>
     requires within { place + count ≤ length word.now }
     requires few { count ≤ 4 }
-    ensures number { result ≡ part_of place count word.now }
+    ensures number { result ≡ clock_number place count word.now }
     ensures below { IfSome result (λ number. number < 10 ^ count) }
 {
     Some(read_number(&word[place..place + count], DECIMAL, count)? as u16)

@@ -101,12 +101,12 @@ pub enum Command<'a> {
 }
 
 impl<'a> Command<'a> {
-    ghost use Rattle.command_words.specs.Command.{command_of, command_read, line_of, texts};
+    ghost use Rattle.command_words.specs.Command.{command_of_words, command_read, command_line_of, texts};
     ghost use Rattle.command_words.specs.Possible.{IsPossible};
 
     /// The command that the words spell. Words outside the table spell none.
     pub fn read(words: &[&'a str]) -> Option<Self>
-        ensures command { line_of result ≡ command_of (texts words.now) }
+        ensures command { command_line_of result ≡ command_of_words (texts words.now) }
         ensures possible { IfSome result (λ command. IsPossible (command_read command)) }
     {
         let (command, more) = words.split_first()?;
@@ -128,12 +128,12 @@ impl<'a> Command<'a> {
     }
 }
 
-ghost use Rattle.command_words.specs.Command.{climate_in, command_read, console_in, copy_in, fleet_in, line_of, make_in, pages_in, replay_in, report_in, serve_in, soft_in, station_in, task_in, texts};
+ghost use Rattle.command_words.specs.Command.{climate_in, command_read, console_in, copy_in, fleet_in, command_line_of, make_in, pages_command_in, replay_in, report_in, serve_in, soft_in, station_in, task_in, texts};
 ghost use Rattle.command_words.specs.Possible.{IsPossible};
 
 // `FILE`, or `SETTINGS FILE`.
 fn read_pages<'a>(words: &[&'a str]) -> Option<Command<'a>>
-    ensures command { line_of result ≡ pages_in (texts words.now) }
+    ensures command { command_line_of result ≡ pages_command_in (texts words.now) }
     ensures possible { IfSome result (λ command. IsPossible (command_read command)) }
 {
     match *words {
@@ -145,7 +145,7 @@ fn read_pages<'a>(words: &[&'a str]) -> Option<Command<'a>>
 
 // `SETTINGS FILE`.
 fn read_soft<'a>(words: &[&'a str]) -> Option<Command<'a>>
-    ensures command { line_of result ≡ soft_in (texts words.now) }
+    ensures command { command_line_of result ≡ soft_in (texts words.now) }
     ensures possible { IfSome result (λ command. IsPossible (command_read command)) }
 {
     let [settings, file] = *words else {
@@ -156,7 +156,7 @@ fn read_soft<'a>(words: &[&'a str]) -> Option<Command<'a>>
 
 // `ADDRESS` and a task.
 fn read_call<'a>(words: &[&'a str]) -> Option<Command<'a>>
-    ensures command { line_of result ≡ task_in (texts words.now) }
+    ensures command { command_line_of result ≡ task_in (texts words.now) }
     ensures possible { IfSome result (λ command. IsPossible (command_read command)) }
 {
     let (address, more) = words.split_first()?;
@@ -168,7 +168,7 @@ fn read_call<'a>(words: &[&'a str]) -> Option<Command<'a>>
 
 // `ARCHIVE KIND FIRST LAST`.
 fn read_report<'a>(words: &[&'a str]) -> Option<Command<'a>>
-    ensures command { line_of result ≡ report_in (texts words.now) }
+    ensures command { command_line_of result ≡ report_in (texts words.now) }
     ensures possible { IfSome result (λ command. IsPossible (command_read command)) }
 {
     let [archive, kind, first, last] = *words else {
@@ -182,7 +182,7 @@ fn read_report<'a>(words: &[&'a str]) -> Option<Command<'a>>
 
 // `ARCHIVE YEAR`.
 fn read_climate<'a>(words: &[&'a str]) -> Option<Command<'a>>
-    ensures command { line_of result ≡ climate_in (texts words.now) }
+    ensures command { command_line_of result ≡ climate_in (texts words.now) }
     ensures possible { IfSome result (λ command. IsPossible (command_read command)) }
 {
     let [archive, year] = *words else {
@@ -194,7 +194,7 @@ fn read_climate<'a>(words: &[&'a str]) -> Option<Command<'a>>
 
 // `ARCHIVE ADDRESS TURNS`.
 fn read_serve<'a>(words: &[&'a str]) -> Option<Command<'a>>
-    ensures command { line_of result ≡ serve_in (texts words.now) }
+    ensures command { command_line_of result ≡ serve_in (texts words.now) }
     ensures possible { IfSome result (λ command. IsPossible (command_read command)) }
 {
     let [archive, address, turns] = *words else {
@@ -210,7 +210,7 @@ fn read_serve<'a>(words: &[&'a str]) -> Option<Command<'a>>
 
 // `SETTINGS SCHEDULE`.
 fn read_replay<'a>(words: &[&'a str]) -> Option<Command<'a>>
-    ensures command { line_of result ≡ replay_in (texts words.now) }
+    ensures command { command_line_of result ≡ replay_in (texts words.now) }
     ensures possible { IfSome result (λ command. IsPossible (command_read command)) }
 {
     let [settings, schedule] = *words else {
@@ -221,7 +221,7 @@ fn read_replay<'a>(words: &[&'a str]) -> Option<Command<'a>>
 
 // `OLD NEW`, two names that differ.
 fn read_copy<'a>(words: &[&'a str]) -> Option<Command<'a>>
-    ensures command { line_of result ≡ copy_in (texts words.now) }
+    ensures command { command_line_of result ≡ copy_in (texts words.now) }
     ensures possible { IfSome result (λ command. IsPossible (command_read command)) }
 {
     let [from, to] = *words else {
@@ -235,7 +235,7 @@ fn read_copy<'a>(words: &[&'a str]) -> Option<Command<'a>>
 
 // `SETTINGS ARCHIVE ADDRESS`.
 fn read_station<'a>(words: &[&'a str]) -> Option<Command<'a>>
-    ensures command { line_of result ≡ station_in (texts words.now) }
+    ensures command { command_line_of result ≡ station_in (texts words.now) }
     ensures possible { IfSome result (λ command. IsPossible (command_read command)) }
 {
     let [settings, archive, address] = *words else {
@@ -250,7 +250,7 @@ fn read_station<'a>(words: &[&'a str]) -> Option<Command<'a>>
 
 // `SETTINGS SCHEDULE ADDRESS TURNS`.
 fn read_console<'a>(words: &[&'a str]) -> Option<Command<'a>>
-    ensures command { line_of result ≡ console_in (texts words.now) }
+    ensures command { command_line_of result ≡ console_in (texts words.now) }
     ensures possible { IfSome result (λ command. IsPossible (command_read command)) }
 {
     let [settings, schedule, address, turns] = *words else {
@@ -268,7 +268,7 @@ fn read_console<'a>(words: &[&'a str]) -> Option<Command<'a>>
 // `SETTINGS SEED SCHEDULE ..`, one to eight schedules.
 #[tactic(auto, unfolding(crate::specs::Command::fleet_in))]
 fn read_fleet<'a>(words: &[&'a str]) -> Option<Command<'a>>
-    ensures command { line_of result ≡ fleet_in (texts words.now) }
+    ensures command { command_line_of result ≡ fleet_in (texts words.now) }
     ensures possible { IfSome result (λ command. IsPossible (command_read command)) }
 {
     let (settings, more) = words.split_first()?;
@@ -289,7 +289,7 @@ fn read_fleet<'a>(words: &[&'a str]) -> Option<Command<'a>>
 // `SEED N`.
 #[tactic(auto, unfolding(crate::specs::Command::make_in))]
 fn read_make<'a>(words: &[&'a str]) -> Option<Command<'a>>
-    ensures command { line_of result ≡ make_in (texts words.now) }
+    ensures command { command_line_of result ≡ make_in (texts words.now) }
     ensures possible { IfSome result (λ command. IsPossible (command_read command)) }
 {
     let [seed, records] = *words else {

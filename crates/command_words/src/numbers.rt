@@ -1,5 +1,5 @@
 ghost use Rattle.std.specs.Prelude.{◌≡◌, ◌≤◌, IfSome};
-ghost use Rattle.command_words.specs.Numbers.{number_within, year_within};
+ghost use Rattle.command_words.specs.Numbers.{command_number_within, year_within};
 
 use numerals::MOST_DIGITS;
 
@@ -8,7 +8,7 @@ const YEAR_DIGITS: usize = 4;
 
 /// The number that one to ten decimal digits write, where it is in this range.
 pub fn read_within(word: &str, least: u64, greatest: u64) -> Option<u64>
-    ensures number { result ≡ number_within least greatest word.now }
+    ensures number { result ≡ command_number_within least greatest word.now }
     ensures from { IfSome result (λ number. least ≤ number) }
     ensures to { IfSome result (λ number. number ≤ greatest) }
 {

@@ -1,5 +1,5 @@
 ghost use Rattle.std.specs.Prelude.{◌≡◌};
-ghost use Rattle.command_words.specs.ReportWords.{day_in, kind_in, wanted_in};
+ghost use Rattle.command_words.specs.ReportWords.{day_in, report_kind_in, wanted_in};
 
 use crate::wanted::{ReportKind, Wanted};
 use station_base::DayNumber;
@@ -21,7 +21,7 @@ pub fn read_wanted(kind: &str, first: &str, last: &str) -> Option<Wanted>
 
 // `rows`, `days` or `months`.
 fn read_kind(word: &str) -> Option<ReportKind>
-    ensures { result ≡ kind_in word.now }
+    ensures { result ≡ report_kind_in word.now }
 {
     match word {
         "rows" => Some(ReportKind::Rows),

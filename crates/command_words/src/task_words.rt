@@ -2,7 +2,7 @@ ghost use Rattle.std.specs.Prelude.{◌≡◌, ◌<◌, IfSome};
 ghost use Rattle.numerals.specs.Numeral.{number_in};
 ghost use Rattle.command_words.specs.Command.{texts};
 ghost use Rattle.command_words.specs.Possible.{CanBeMade};
-ghost use Rattle.command_words.specs.TaskWords.{clock_in, kind_in, memory_in, packets_in, period_in, reading_in, task_of, writing_in};
+ghost use Rattle.command_words.specs.TaskWords.{clock_in, kind_task_in, memory_in, packets_task_in, period_task_in, reading_in, task_of, writing_in};
 
 use crate::clock_words::read_second;
 use crate::numbers::read_within;
@@ -39,7 +39,7 @@ pub fn read_task(words: &[&str]) -> Option<Task>
 
 // `loop N`.
 fn read_packets(words: &[&str]) -> Option<Task>
-    ensures task { result ≡ packets_in (texts words.now) }
+    ensures task { result ≡ packets_task_in (texts words.now) }
     ensures can { IfSome result CanBeMade }
 {
     match *words {
@@ -119,9 +119,9 @@ fn read_clock(words: &[&str]) -> Option<Task>
 }
 
 // `period M`.
-#[tactic(auto, unfolding(crate::specs::TaskWords::period_in))]
+#[tactic(auto, unfolding(crate::specs::TaskWords::period_task_in))]
 fn read_period(words: &[&str]) -> Option<Task>
-    ensures task { result ≡ period_in (texts words.now) }
+    ensures task { result ≡ period_task_in (texts words.now) }
     ensures can { IfSome result CanBeMade }
 {
     let [word] = *words else {
@@ -133,7 +133,7 @@ fn read_period(words: &[&str]) -> Option<Task>
 
 // `kind`.
 fn read_kind(words: &[&str]) -> Option<Task>
-    ensures task { result ≡ kind_in (texts words.now) }
+    ensures task { result ≡ kind_task_in (texts words.now) }
     ensures can { IfSome result CanBeMade }
 {
     if words.is_empty() {

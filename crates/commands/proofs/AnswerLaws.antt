@@ -22,7 +22,7 @@ use Rattle.run_output.proofs.CallCauses.{attaches_causes, calls_causes}
 use Rattle.run_output.proofs.Causes.{CausesBut, none_well, same_count, then_causes_but}
 use Rattle.run_output.proofs.Statuses.{attach_ends, call_ends, ends_among, ends_so, has_status}
 use Rattle.commands.specs.AnswerRun.{answers, answers_over, queries_output}
-use Rattle.commands.specs.ReportRun.{HoldsRows, TellsArchive}
+use Rattle.commands.specs.ReportRun.{FileHoldsRows, TellsArchive}
 use Rattle.commands.proofs.RecoveryLaws.{recovers_causes}
 use Rattle.commands.proofs.ReportLaws.{IsReported, told_ends}
 
@@ -113,7 +113,7 @@ answers_over_complete m archive address turns old new ended tells did =
     (λ output mid one. inr (inr (inl (attach_ends _ _ _ _ _ output one.0))))
     (λ a mid one. then_has Q _ _ mid new ended
     (λ output at two. reported output.status (told_ends (m.medium.seen mid.disk) two.0.start output
-    (subst (λ (told : Option (List ℕ)). IsSomeAnd told HoldsRows) (sym one.0.did.stays.reads) tells) two.0.finds two.0.given))
+    (subst (λ (told : Option (List ℕ)). IsSomeAnd told FileHoldsRows) (sym one.0.did.stays.reads) tells) two.0.finds two.0.given))
     (λ book at two. then_has Q _ _ at new ended
     (λ output w three. inr (inl (call_ends _ _ _ _ _ output three.0)))
     (λ _ called three four. subst (λ (output : Output). IsAnswered output.status) (sym four.given) (answered_as four.end four.lines))))

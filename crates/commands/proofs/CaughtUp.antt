@@ -17,10 +17,10 @@ use Rattle.station_session.specs.Attempts.{Attempts, Tried, all_said}
 use Rattle.station_session.specs.declared.report.Report.{Report}
 use Rattle.station_session.specs.declared.round_end.RoundEnd.{RoundEnd}
 use Rattle.station_session.specs.declared.round_end.RoundEnd.TheVariants as round
-use Rattle.weather_book.specs.Book.{last_of}
-use Rattle.packed_rows.specs.Rising.{last_stamp}
+use Rattle.weather_book.specs.Book.{last_stamp_of}
+use Rattle.packed_rows.specs.Rising.{last_row_stamp}
 use Rattle.packed_rows.specs.Rows.{damaged, holds, not_archive}
-use Rattle.weather_book.specs.Start.{Finds}
+use Rattle.weather_book.specs.Start.{FindsBook}
 use Rattle.weather_book.specs.declared.book.Book.{Book}
 use Rattle.weather_book.specs.declared.start.BookStart.{BookStart}
 use Rattle.weather_book.specs.declared.start.BookStart.TheVariants as found
@@ -41,11 +41,11 @@ settled = ends.Done ∷ ends.LinkFault ∷ ends.DiskFault ∷ ends.ReadFault ∷
 abbrev pub IsSettled : Status → Type 0
 IsSettled = IsOneOf settled
 
-finds_rows : (start : BookStart) (file : List ℕ) (rows : List Row) → CanBeAddedTo file rows → Finds Write start file
-    → MatchResult (book_found start) (λ book. last_of book ≡ last_stamp rows) (λ output. IsSettled output.status)
+finds_rows : (start : BookStart) (file : List ℕ) (rows : List Row) → CanBeAddedTo file rows → FindsBook Write start file
+    → MatchResult (book_found start) (λ book. last_stamp_of book ≡ last_row_stamp rows) (λ output. IsSettled output.status)
 finds_rows (found.Book book) file rows can finds =
     let same : finds.0 ≡ rows = (let both : holds finds.0 ≡ holds rows = sym finds.1 ∙ can.holds_them in cc) in
-    finds.2.stamp_is ∙ ap last_stamp same
+    finds.2.stamp_is ∙ ap last_row_stamp same
 finds_rows (found.NotArchive bytes) file rows can finds = absurd (let never : holds rows ≡ not_archive = sym can.holds_them ∙ finds.0 in cc)
 finds_rows found.OldVersion file rows can finds = absurd (let never : false ≡ true = sym can.current ∙ finds in cc)
 finds_rows (found.Damaged place) file rows can finds = absurd (let never : holds rows ≡ damaged place = sym can.holds_them ∙ finds.0 in cc)
@@ -55,7 +55,7 @@ finds_rows found.OutOfMemory file rows can finds = inr (inr (inr (inr (inr refl)
 -- of a file that is told and to which rows may be added the book has the last stamp, unless the disk or the memory fails
 pub recovers_rows : {D : Type 0} {medium : Medium D} {most : ℕ} {old new : D} {result : Result Book Output} (rows : List Row) (told : Option (List ℕ))
     → medium.seen old ≡ told → IsSomeAnd told (λ file. CanBeAddedTo file rows) → recovers medium most Write old result new
-    → MatchResult result (λ book. last_of book ≡ last_stamp rows) (λ output. IsSettled output.status)
+    → MatchResult result (λ book. last_stamp_of book ≡ last_row_stamp rows) (λ output. IsSettled output.status)
 recovers_rows rows None is can did = absurd can
 recovers_rows rows (Some file) is can did = rw did.given (finds_rows did.start file rows can (did.finds file is))
 
@@ -76,7 +76,7 @@ round_settled other report may = absurd may
 
 -- a round over a book of this stamp is done whose talk is shown from that stamp on, unless the link or the memory fails
 pub rounds_settled : {F K L D : Type 0} {m : Meanings F K L D} {settings : StationSettings} {book : Book} {last : Option CivilMinute} {link : L}
-    {old new : Outside F K L D} {ended : Result Lines Output} → last_of book ≡ last → m.traffic.talk old.link ≡ m.traffic.talk link
+    {old new : Outside F K L D} {ended : Result Lines Output} → last_stamp_of book ≡ last → m.traffic.talk old.link ≡ m.traffic.talk link
     → ShowsWhole m.traffic last link new.link → rounds m settings book old ended new → IsSettled (output_of ended).status
 rounds_settled {last = last} is silent shown did =
     let attempts = subst (λ (l : Option CivilMinute). Attempts 0 l did.serves.tries did.end) (sym did.stands.stands_for.stamp_is ∙ is) did.serves.attempts in

@@ -3,7 +3,7 @@ use Rattle.std.proofs.Common.{◌≡◌, ◌≢◌, ◌⊎◌, ◌≤◌, ◌<�
 use Rattle.std.specs.declared.option.Option.{Option}
 use Rattle.std.specs.declared.result.Result.{Result}
 use Rattle.std.specs.Option.{IsSomeAnd}
-use Rattle.archive_copy.specs.Answers.{Answers}
+use Rattle.archive_copy.specs.Answers.{CopyAnswers}
 use Rattle.archive_copy.specs.Calls.{is_from_fault, is_to_fault}
 use Rattle.archive_copy.specs.Comparing.{IsFirstUnlike}
 use Rattle.archive_copy.specs.declared.end.CopyEnd.{CopyEnd}
@@ -98,7 +98,7 @@ no_unlike mine theirs mine' theirs' n same same2 unlike front =
     let a : mine ≡ mine' = cc in let b : theirs ≡ theirs' = cc in
     unlike.unlike (front_has mine' theirs' n (front.0, ap (λ (rows : List Row). rows ++ front.0) (sym a) ∙ front.1 ∙ b) unlike.has_it)
 
-can_copy : (from to : List ℕ) (end : CopyEnd) → CanCopy from to → Answers end from to → IsReported (copy_output end).status
+can_copy : (from to : List ℕ) (end : CopyEnd) → CanCopy from to → CopyAnswers end from to → IsReported (copy_output end).status
 can_copy from to (copied.Done n) can is = inl refl
 can_copy from to (copied.FromNotArchive bytes) can is = absurd (let no : holds can.theirs ≡ not_archive = sym can.from_it.holds_them ∙ is.0 in cc)
 can_copy from to (copied.FromDamaged place) can is = absurd (let no : holds can.theirs ≡ damaged place = sym can.from_it.holds_them ∙ is in cc)
@@ -112,7 +112,7 @@ can_copy from to copied.FromFault can is = inr (inl refl)
 can_copy from to copied.ToFault can is = inr (inl refl)
 can_copy from to copied.OutOfMemory can is = inr (inr (inr refl))
 
-told_copy : (from to : Option (List ℕ)) (end : CopyEnd) → IsSomeAnd from (λ a. IsSomeAnd to (CanCopy a)) → WhereTold from (λ a. WhereTold to (Answers end a))
+told_copy : (from to : Option (List ℕ)) (end : CopyEnd) → IsSomeAnd from (λ a. IsSomeAnd to (CanCopy a)) → WhereTold from (λ a. WhereTold to (CopyAnswers end a))
     → IsReported (copy_output end).status
 told_copy None to end can is = absurd can
 told_copy (Some a) None end can is = absurd can

@@ -6,7 +6,7 @@ use Rattle.std.specs.declared.option.Option.{Option}
 use Rattle.crc_ccitt.specs.Check.{check}
 use Rattle.run_output.specs.declared.status.Status.TheVariants.{Done}
 use Rattle.run_output.specs.Output.{Output, led_by}
-use Rattle.run_output.specs.Streams.{IsLeft}
+use Rattle.run_output.specs.Streams.{OutputIsLeft}
 use Rattle.run_output.proofs.Printing.{pending_grows, pending_is_left}
 use Rattle.commands.specs.PageText.{page_text}
 use Rattle.commands.specs.Listing.{bad_page, listing_from}
@@ -22,11 +22,11 @@ short_is_bad style number (byte ∷ short) some = refl
 -- What is left is led by the text that waits, and the pages from this index on give the rest.
 pub record LeftAt (old now : Option (List ℕ)) (all : Output) (style : RowStyle) (number index : ℕ) (pages : List (List ℕ)) (short pending : List ℕ)
     : Type 0 where
-  pub left : IsLeft old now all (led_by pending (listing_from style number (drop index pages) short))
+  pub left : OutputIsLeft old now all (led_by pending (listing_from style number (drop index pages) short))
 
 module _ {old now : Option (List ℕ)} {all : Output} {style : RowStyle} {number index : ℕ} {pages : List (List ℕ)} {short pending : List ℕ}
     (ahead : LeftAt old now all style number index pages short pending) where
-  at_page : index < length pages → IsLeft old now all (led_by pending (listing_from style number (get_or pages index [] ∷ drop (index + 1) pages) short))
+  at_page : index < length pages → OutputIsLeft old now all (led_by pending (listing_from style number (get_or pages index [] ∷ drop (index + 1) pages) short))
   at_page within = rw (drop_more pages index [] within) at ahead.left
 
   -- behind a good page its lines wait too
@@ -38,14 +38,14 @@ module _ {old now : Option (List ℕ)} {all : Output} {style : RowStyle} {number
   }
 
   -- a bad page is the last
-  pub left-bad : index < length pages → check (get_or pages index []) ≢ 0 → IsLeft old now all (led_by pending (bad_page number))
+  pub left-bad : index < length pages → check (get_or pages index []) ≢ 0 → OutputIsLeft old now all (led_by pending (bad_page number))
   left-bad within bad = rw (differs (check (get_or pages index [])) 0 bad) at (at_page within)
 
   -- so is a short one behind all pages
-  pub left-short : length pages ≤ index → 0 < length short → IsLeft old now all (led_by pending (bad_page number))
+  pub left-short : length pages ≤ index → 0 < length short → OutputIsLeft old now all (led_by pending (bad_page number))
   left-short beyond some = rw (drop_all index pages beyond, short_is_bad style number short some) at ahead.left
 
   -- and with nothing behind them only the text that waits is left
-  pub left-end : length pages ≤ index → short ≡ [] → IsLeft old now all (record { text = pending; status = Done })
+  pub left-end : length pages ≤ index → short ≡ [] → OutputIsLeft old now all (record { text = pending; status = Done })
   left-end beyond none =
       pending_is_left old now all (record { text = []; status = Done }) pending (rw (drop_all index pages beyond, none) at ahead.left) refl

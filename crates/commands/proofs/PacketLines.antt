@@ -7,7 +7,7 @@ use Rattle.loop_packet.specs.declared.packet.LoopPacket.{LoopPacket}
 use Rattle.loop_packet.specs.Part.{byte_in, signed_word_in, word_in, signed_byte_of, signed_word_of, word_of}
 use Rattle.loop_packet.specs.Reading.{packet_bytes, frame_of}
 use Rattle.loop_packet.proofs.InOrder.{word_bits, two_read}
-use Rattle.commands.specs.TaskText.{numbers_line, packet_line}
+use Rattle.commands.specs.TaskText.{packet_numbers_line, packet_line}
 
 barometer_shown : (p : LoopPacket) → p.barometer < 65536 → word_in (drop 7 (packet_bytes p)) ≡ p.barometer
 unfolding word_in packet_bytes frame_of word_of signed_byte_of
@@ -33,6 +33,6 @@ direction_shown p small = two_read p.wind_dir small
 
 -- the line of a packet has its numbers
 pub packet_shown : (p : LoopPacket) → p.barometer < 65536 → FitsSigned w16 p.in_temp → FitsSigned w16 p.out_temp → p.wind_dir < 65536 →
-    packet_line (packet_bytes p) ≡ numbers_line p.barometer p.in_temp p.out_temp p.wind p.wind_dir
+    packet_line (packet_bytes p) ≡ packet_numbers_line p.barometer p.in_temp p.out_temp p.wind p.wind_dir
 packet_shown p barometer inside outside direction =
     rw (barometer_shown p barometer, in_temp_shown p inside, out_temp_shown p outside, wind_shown p, direction_shown p direction) refl

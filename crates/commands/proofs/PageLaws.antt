@@ -11,7 +11,7 @@ use Rattle.vantage_frames.specs.Slots.{page_size}
 use Rattle.run_output.specs.Ended.{IsOneOf, Lines, output_of}
 use Rattle.run_output.specs.Output.{Output}
 use Rattle.run_output.specs.Outside.{Meanings, over_out}
-use Rattle.run_output.specs.Reading.{IsAccepted}
+use Rattle.run_output.specs.Reading.{SettingsAreAccepted}
 use Rattle.run_output.specs.Streams.{streams}
 use Rattle.run_output.specs.declared.outside.Outside.{Outside}
 use Rattle.run_output.specs.declared.status.Status.{Status}
@@ -88,7 +88,7 @@ prints_file_complete m style name old new ended good did =
 
 -- so it is after accepted settings that are told
 pub prints_corrected_complete : {F K L D : Type 0} (m : Meanings F K L D) (settings name : List ℕ) (old new : Outside F K L D)
-    (ended : Result Lines Output) → IsSomeAnd (m.shelf.held old.files settings) IsAccepted → IsSomeAnd (m.shelf.held old.files name) IsGoodFile
+    (ended : Result Lines Output) → IsSomeAnd (m.shelf.held old.files settings) SettingsAreAccepted → IsSomeAnd (m.shelf.held old.files name) IsGoodFile
     → prints_corrected m settings name old ended new → IsDoneOrHindered (output_of ended).status
 prints_corrected_complete m settings name old new ended accepted good did =
     let stays = settles-stay m.shelf settings name old.files did.mid.files did.answer did.first.0 in

@@ -5,7 +5,7 @@ use Rattle.disk_model.specs.Disk.{Faults}
 use Rattle.disk_model.specs.Medium.{Medium}
 use Rattle.gated_log.specs.Calls.{RecoveryCalls}
 use Rattle.gated_log.specs.declared.start.Purpose.{Purpose}
-use Rattle.weather_book.specs.Start.{is_fault, slots_found}
+use Rattle.weather_book.specs.Start.{is_book_fault, book_slots_found}
 use Rattle.weather_book.specs.declared.book.Book.{Book}
 use Rattle.weather_book.specs.declared.start.BookStart.{BookStart}
 use Rattle.weather_book.specs.declared.start.BookStart.TheVariants as found
@@ -17,7 +17,7 @@ use Rattle.commands.specs.Recovery.{book_found, recovers}
 
 -- what was found tells why
 found_causes : {D : Type 0} (medium : Medium D) (old new : D) (changes : ℕ) (start : BookStart) → Faults medium old new (start ≡ found.DiskFault)
-    → RecoveryCalls medium old new changes (slots_found start) (is_fault start) → DiskCauses medium old (book_found start) new
+    → RecoveryCalls medium old new changes (book_slots_found start) (is_book_fault start) → DiskCauses medium old (book_found start) new
 found_causes medium old new changes found.DiskFault fault went = record {
   fault = record { never_falls = fault.never_falls; rose = λ is. fault.rose refl };
   well = λ no. absurd (no refl);

@@ -9,7 +9,7 @@ use Rattle.disk_model.specs.Medium.{Medium}
 use Rattle.gated_log.specs.declared.start.Purpose.TheVariants.{Read}
 use Rattle.station_base.specs.declared.row.Row.{Row}
 use Rattle.packed_rows.specs.Rows.{damaged, holds, not_archive}
-use Rattle.weather_book.specs.Start.{Finds}
+use Rattle.weather_book.specs.Start.{FindsBook}
 use Rattle.weather_book.specs.declared.book.Book.{Book}
 use Rattle.weather_book.specs.declared.start.BookStart.{BookStart}
 use Rattle.weather_book.specs.declared.start.BookStart.TheVariants as found
@@ -28,7 +28,7 @@ use Rattle.run_output.proofs.CallCauses.{attaches_causes}
 use Rattle.run_output.proofs.Causes.{Causes, none_well, same_cause, same_count, then_causes}
 use Rattle.run_output.proofs.Statuses.{attach_ends, ends_so, has_status}
 use Rattle.commands.specs.Recovery.{book_found}
-use Rattle.commands.specs.ReportRun.{HoldsRows, TellsArchive, lines_wanted, report_given, reports, reports_lines, reports_on}
+use Rattle.commands.specs.ReportRun.{FileHoldsRows, TellsArchive, lines_wanted, report_given, reports, reports_lines, reports_on}
 use Rattle.commands.proofs.RecoveryLaws.{recovers_causes}
 
 -- written, unless a disk fault, a write fault or want of memory kept the command from that
@@ -98,7 +98,7 @@ pub reports_on_causes : {F K L D : Type 0} (m : Meanings F K L D) (archive : Lis
 reports_on_causes m archive wanted = reports_lines_causes m archive (lines_wanted wanted)
 
 -- a recovery of an archive ends a command by a disk fault or for want of memory
-found_ends : (file : List ℕ) (start : BookStart) (output : Output) → HoldsRows file → Finds Read start file
+found_ends : (file : List ℕ) (start : BookStart) (output : Output) → FileHoldsRows file → FindsBook Read start file
     → (let r : Result Book Output = Err output in r) ≡ book_found start → IsReported output.status
 found_ends file (found.Book book) output rows finds is = absurd cc
 found_ends file (found.NotArchive bytes) output rows finds is = absurd (let e : holds rows.0 ≡ not_archive = sym rows.1 ∙ finds.0 in cc)
@@ -107,7 +107,7 @@ found_ends file (found.Damaged place) output rows finds is = absurd (let e : hol
 found_ends file found.DiskFault output rows finds is = inr (inl cc)
 found_ends file found.OutOfMemory output rows finds is = inr (inr (inr cc))
 
-pub told_ends : (told : Option (List ℕ)) (start : BookStart) (output : Output) → IsSomeAnd told HoldsRows → WhereTold told (Finds Read start)
+pub told_ends : (told : Option (List ℕ)) (start : BookStart) (output : Output) → IsSomeAnd told FileHoldsRows → WhereTold told (FindsBook Read start)
     → (let r : Result Book Output = Err output in r) ≡ book_found start → IsReported output.status
 told_ends None start output rows finds is = absurd rows
 told_ends (Some file) start output rows finds is = found_ends file start output rows (finds file refl) is
@@ -127,7 +127,7 @@ reports_lines_complete m archive lines old new ended tells did =
     (λ output mid one. inr (inl (attach_ends _ _ _ _ _ output one.0)))
     (λ a mid one. then_has Q _ _ mid new ended
     (λ output at two. told_ends (m.medium.seen mid.disk) two.0.start output
-    (subst (λ (told : Option (List ℕ)). IsSomeAnd told HoldsRows) (sym one.0.did.stays.reads) tells) two.0.finds two.0.given)
+    (subst (λ (told : Option (List ℕ)). IsSomeAnd told FileHoldsRows) (sym one.0.did.stays.reads) tells) two.0.finds two.0.given)
     (λ book at two three. subst (λ (output : Output). IsReported output.status) (sym three.given) (report_ends three.end)))
     did
 

@@ -11,14 +11,14 @@ use Rattle.serial_link.specs.Traffic.{Traffic}
 use Rattle.settings_file.specs.StationSettings.{StationSettings}
 use Rattle.station_base.specs.declared.row.Row.{Row}
 use Rattle.station_session.specs.Attempts.{all_batches}
-use Rattle.station_session.specs.Batches.{IsBegun, batch_changes, changes_for, slots_more}
+use Rattle.station_session.specs.Batches.{ChangesAreBegun, batch_changes, changes_for, slots_more}
 use Rattle.station_session.specs.Records.{stored_rows}
-use Rattle.station_session.specs.Round.{RoundHost, Serves, answer_by}
-use Rattle.station_session.specs.Session.{settings_of}
+use Rattle.station_session.specs.Round.{RoundHost, ServesRound, answer_by}
+use Rattle.station_session.specs.Session.{session_settings}
 use Rattle.station_session.specs.declared.report.Report.{Report}
 use Rattle.station_session.specs.declared.round_end.RoundEnd.{RoundEnd}
 use Rattle.station_session.specs.declared.round_end.RoundEnd.TheVariants as round
-use Rattle.packed_rows.specs.Rising.{last_stamp}
+use Rattle.packed_rows.specs.Rising.{last_row_stamp}
 use Rattle.packed_rows.specs.Rows.{slot_total}
 use Rattle.weather_book.specs.declared.book.Book.{Book}
 use Rattle.run_output.specs.Causes.{HasCauses, WentWell}
@@ -48,17 +48,17 @@ none_failed settings rows (Handed.Kept records more) =
 none_failed settings rows (Handed.Refused records why) = one_well (answer_for why) (slot_total rows) (slots_more rows (stored_rows settings records))
 
 -- only a disk fault leaves a batch that was begun
-none_begun : (end : RoundEnd) (failed : ℕ) → end ≢ round.DiskFault → IsBegun (answer_by end) failed → failed ≡ 0
+none_begun : (end : RoundEnd) (failed : ℕ) → end ≢ round.DiskFault → ChangesAreBegun (answer_by end) failed → failed ≡ 0
 none_begun round.DiskFault failed other is = absurd (other refl)
 none_begun end failed other is = is
 
 -- no call of the disk failed in a round that ended without a disk fault
 round_well : {L D : Type 0} {traffic : Traffic L} {medium : Medium D} {rows : List Row} {end : RoundEnd} {old new : RoundHost L D} {report : Report}
-    → end ≢ round.DiskFault → Serves traffic medium rows end old new report → WentWell medium old.disk new.disk
+    → end ≢ round.DiskFault → ServesRound traffic medium rows end old new report → WentWell medium old.disk new.disk
 round_well {L} {D} {traffic} {medium} {rows} {end} {old} {new} {report} other did =
-    let settings = settings_of old.session in
-    let steps = all_batches (last_stamp rows) did.tries in
-    let none = none_begun end did.stores.failed other (subst (λ (answer : Stored). IsBegun answer did.stores.failed) did.answered did.stores.begun) in
+    let settings = session_settings old.session in
+    let steps = all_batches (last_row_stamp rows) did.tries in
+    let none = none_begun end did.stores.failed other (subst (λ (answer : Stored). ChangesAreBegun answer did.stores.failed) did.answered did.stores.begun) in
     record {
       calls = changes_for settings did.stores.failed rows steps;
       by = did.stores.went_on;

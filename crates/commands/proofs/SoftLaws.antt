@@ -8,9 +8,9 @@ use Rattle.std.specs.declared.result.Result.{Result}
 use Rattle.loop_packet.proofs.Inverse.{tells_one}
 use Rattle.loop_packet.specs.declared.packet.LoopPacket.{LoopPacket}
 use Rattle.settings_file.specs.StationSettings.{StationSettings}
-use Rattle.soft_record.specs.Entry.{Spells}
-use Rattle.soft_record.specs.Given.{AreGood, CanFollow}
-use Rattle.soft_record.specs.Interval.{last_of}
+use Rattle.soft_record.specs.Entry.{SpellsEntry}
+use Rattle.soft_record.specs.Given.{AreGood, EntryCanFollow}
+use Rattle.soft_record.specs.Interval.{last_entry}
 use Rattle.soft_record.specs.declared.entry.Entry.{Entry}
 use Rattle.station_base.specs.CivilMinute.{CivilMinute}
 use Rattle.station_io.specs.Sink.{Outlet}
@@ -28,7 +28,7 @@ use Rattle.run_output.proofs.GoodFiles.{IsHindrance, good-reads, good-settles, g
 use Rattle.run_output.proofs.Statuses.{has_status}
 use Rattle.commands.proofs.PageLaws.{IsDoneOrHindered}
 use Rattle.commands.proofs.Taking.{behind_one}
-use Rattle.commands.specs.SoftRun.{BeginsWith, HasEntries, IsBadBehind, IsEntryFile, lines_of, prints_soft, streams_soft}
+use Rattle.commands.specs.SoftRun.{BeginsWithEntries, HasEntries, IsBadBehind, IsEntryFile, corrected_row_lines, prints_soft, streams_soft}
 
 -- what comes behind the rows ends as done or at a bad entry
 ends_otherwise : {S : Type 0} (outlet : Outlet S) (settings : StationSettings) (file : List ℕ) (old : S) (result : Result Lines Output) (new : S)
@@ -43,7 +43,7 @@ soft_causes : {F K L D : Type 0} (m : Meanings F K L D) (settings : StationSetti
     → Causes m (over_out (streams_soft m.outlet settings file))
 soft_causes m settings file old new result did =
     let other = ends_otherwise m.outlet settings file old.out result new.out did.0 in
-    streams_causes m (led_by (lines_of settings did.0.rows) did.0.rest) (other ReadFault (λ e. cc) (λ e. cc)) (other LinkFault (λ e. cc) (λ e. cc))
+    streams_causes m (led_by (corrected_row_lines settings did.0.rows) did.0.rest) (other ReadFault (λ e. cc) (λ e. cc)) (other LinkFault (λ e. cc) (λ e. cc))
     (other DiskFault (λ e. cc) (λ e. cc)) old new result (did.0.written, did.1)
 
 pub prints_soft_causes : {F K L D : Type 0} (m : Meanings F K L D) (settings name : List ℕ) → Causes m (prints_soft m settings name)
@@ -55,7 +55,7 @@ abbrev entry_of : CivilMinute → ℕ → LoopPacket → Entry
 entry_of stamp second packet = record { stamp = stamp; second = second; packet = packet }
 
 -- bytes spell one entry at most
-spells_one : (bytes : List ℕ) (one other : Entry) → Spells bytes one → Spells bytes other → one ≡ other
+spells_one : (bytes : List ℕ) (one other : Entry) → SpellsEntry bytes one → SpellsEntry bytes other → one ≡ other
 spells_one bytes one other first second =
     let stamp : Some one.stamp ≡ Some other.stamp = sym first.stamp ∙ second.stamp in
     let second_is : one.second ≡ other.second = sym first.second ∙ second.second in
@@ -64,9 +64,9 @@ spells_one bytes one other first second =
     same
 
 -- where more entries are good behind these, the next one is
-next_is_good : (period : ℕ) (before : Option Entry) (file : List ℕ) (entries all : List Entry) → AllZip Spells (first_chunks 104 (length entries) file) entries
-    → AllZip Spells (first_chunks 104 (length all) file) all → AreGood period before all → length entries < length all
-    → (e : Entry) × Spells (take 104 (drop (104 * length entries) file)) e × CanFollow period (last_of before entries) e
+next_is_good : (period : ℕ) (before : Option Entry) (file : List ℕ) (entries all : List Entry) → AllZip SpellsEntry (first_chunks 104 (length entries) file) entries
+    → AllZip SpellsEntry (first_chunks 104 (length all) file) all → AreGood period before all → length entries < length all
+    → (e : Entry) × SpellsEntry (take 104 (drop (104 * length entries) file)) e × EntryCanFollow period (last_entry before entries) e
 next_is_good period before file [] [] spelled theirs good more = absurd (omega arith)
 next_is_good period before file [] (e ∷ all) spelled theirs good more = (e, theirs.0, good.0)
 next_is_good period before file (x ∷ entries) [] spelled theirs good more = absurd (omega arith)
@@ -74,9 +74,9 @@ next_is_good period before file (x ∷ entries) (y ∷ all) spelled theirs good 
     let same = spells_one (take 104 file) x y spelled.0 theirs.0 in
     let next = next_is_good period (Some x) (drop 104 file) entries all spelled.1 theirs.1
     (subst (λ (e : Entry). AreGood period (Some e) all) (sym same) good.1) (omega arith) in
-    (next.0, subst (λ (xs : List ℕ). Spells (take 104 xs) next.0) (sym (behind_one file (length entries))) next.1, next.2)
+    (next.0, subst (λ (xs : List ℕ). SpellsEntry (take 104 xs) next.0) (sym (behind_one file (length entries))) next.1, next.2)
 
-none_is_bad : (period : ℕ) (file : List ℕ) (entries : List Entry) → IsEntryFile period file → BeginsWith period file entries
+none_is_bad : (period : ℕ) (file : List ℕ) (entries : List Entry) → IsEntryFile period file → BeginsWithEntries period file entries
     → ¬ IsBadBehind period file entries
 none_is_bad period file entries is begins bad =
     let next = next_is_good period None file entries is.entries begins.spelled is.front.spelled is.front.good (omega (arith, bad.more, is.whole)) in

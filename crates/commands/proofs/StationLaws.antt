@@ -8,7 +8,7 @@ use Rattle.command_words.specs.Command.{StationNames}
 use Rattle.run_output.specs.Ended.{Lines, output_of}
 use Rattle.run_output.specs.Output.{Output}
 use Rattle.run_output.specs.Outside.{Meanings}
-use Rattle.run_output.specs.Reading.{IsAccepted}
+use Rattle.run_output.specs.Reading.{SettingsAreAccepted}
 use Rattle.run_output.specs.declared.outside.Outside.{Outside}
 use Rattle.run_output.specs.declared.status.Status.{Status}
 use Rattle.run_output.proofs.Behind.{then_has}
@@ -41,7 +41,7 @@ catches_up_causes m names =
 -- Under accepted settings an archive that may grow is brought up to date by a talk that shows it. Only a fault of the outside or want
 -- of memory keeps it from that.
 pub catches_up_complete : {F K L D : Type 0} (m : Meanings F K L D) (names : StationNames) (old new : Outside F K L D) (ended : Result Lines Output)
-    → IsSomeAnd (m.shelf.held old.files names.settings) IsAccepted → ShowsCaughtUp m.traffic m.medium old.disk old.link new.link
+    → IsSomeAnd (m.shelf.held old.files names.settings) SettingsAreAccepted → ShowsCaughtUp m.traffic m.medium old.disk old.link new.link
     → catches_up m names old ended new → IsSettled (output_of ended).status
 catches_up_complete {F} {K} {L} {D} m names old new ended good shown did =
     let Q : Result Lines Output → Type 0 = λ result. IsSettled (output_of result).status in

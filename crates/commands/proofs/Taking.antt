@@ -9,9 +9,9 @@ use Rattle.causes.specs.Cause.{Rose}
 use Rattle.causes.specs.Written.{Leaves, WritesPart}
 use Rattle.causes.proofs.Writing.{leaves_less}
 use Rattle.settings_file.specs.StationSettings.{StationSettings}
-use Rattle.soft_record.specs.Entry.{Spells}
+use Rattle.soft_record.specs.Entry.{SpellsEntry}
 use Rattle.soft_record.specs.Given.{AreRows, IsGood}
-use Rattle.soft_record.specs.Standing.{Finishes, StandsFor, Takes}
+use Rattle.soft_record.specs.Standing.{SoftRecordFinishes, SoftRecordStandsFor, TakesEntry}
 use Rattle.soft_record.specs.declared.entry.Entry.{Entry}
 use Rattle.soft_record.specs.declared.record.SoftRecord.{SoftRecord}
 use Rattle.soft_record.specs.declared.record.Took.TheVariants.{Joined, Closed, Bad}
@@ -19,18 +19,18 @@ use Rattle.station_base.specs.declared.row.Row.{Row}
 use Rattle.station_io.specs.Sink.{Outlet}
 use Rattle.run_output.specs.Ended.{Lines, output_of}
 use Rattle.run_output.specs.Output.{Output, led_by, write_fault}
-use Rattle.run_output.specs.Streams.{IsLeft}
+use Rattle.run_output.specs.Streams.{OutputIsLeft}
 use Rattle.run_output.specs.declared.status.Status.TheVariants.{Done}
 use Rattle.run_output.proofs.Printing.{left_streams, part_streams}
-use Rattle.commands.specs.SoftRun.{bad_entry, line_of, lines_of, no_more, streams_soft}
+use Rattle.commands.specs.SoftRun.{bad_entry, corrected_row_line, corrected_row_lines, no_more, streams_soft}
 
 -- what comes behind one entry more
 pub behind_one : (file : List ℕ) (n : ℕ) → drop (104 * suc n) file ≡ drop (104 * n) (drop 104 file)
 behind_one file n = let more : 104 * suc n ≡ 104 + 104 * n = omega arith in rw more (sym (drop-drop (104 * n) 104 file))
 
 -- the next piece is that of the next entry
-spelled_more : (file : List ℕ) (entries : List Entry) (e : Entry) → AllZip Spells (first_chunks 104 (length entries) file) entries
-    → Spells (take 104 (drop (104 * length entries) file)) e → AllZip Spells (first_chunks 104 (length (entries ++ e ∷ [])) file) (entries ++ e ∷ [])
+spelled_more : (file : List ℕ) (entries : List Entry) (e : Entry) → AllZip SpellsEntry (first_chunks 104 (length entries) file) entries
+    → SpellsEntry (take 104 (drop (104 * length entries) file)) e → AllZip SpellsEntry (first_chunks 104 (length (entries ++ e ∷ [])) file) (entries ++ e ∷ [])
 spelled_more file [] e all is = (is, tt)
 spelled_more file (x ∷ entries) e all is = (all.0, spelled_more (drop 104 file) entries e all.1 (rw behind_one at is))
 
@@ -63,29 +63,29 @@ leaves_rest old now new all left rest before some =
 
 -- the line of one row more waits
 lines_more : (settings : StationSettings) (old now : Option (List ℕ)) (rows : List Row) (pending : List ℕ) (row : Row)
-    → Leaves old now (lines_of settings rows) pending → Leaves old now (lines_of settings (rows ++ row ∷ [])) (pending ++ line_of settings row)
+    → Leaves old now (corrected_row_lines settings rows) pending → Leaves old now (corrected_row_lines settings (rows ++ row ∷ [])) (pending ++ corrected_row_line settings row)
 lines_more settings old now rows pending row waits =
-    subst (λ (xs : List ℕ). Leaves old now xs (pending ++ line_of settings row)) (flat_map_more (line_of settings) [] rows row)
-    (leaves_more old now (lines_of settings rows) pending (line_of settings row) waits)
+    subst (λ (xs : List ℕ). Leaves old now xs (pending ++ corrected_row_line settings row)) (flat_map_more (corrected_row_line settings) [] rows row)
+    (leaves_more old now (corrected_row_lines settings rows) pending (corrected_row_line settings row) waits)
 
 -- Where a run stands: so many entries were taken, their rows so far were given, and of the lines this text waits.
 pub record StandsAt (settings : StationSettings) (file : List ℕ) (old now : Option (List ℕ)) (soft : SoftRecord) (ahead : List ℕ)
     (number : ℕ) (pending : List ℕ) : Type 0 where
   pub entries : List Entry
   pub rows : List Row
-  pub stands : StandsFor soft settings.period entries rows
-  pub spelled : AllZip Spells (first_chunks 104 (length entries) file) entries
+  pub stands : SoftRecordStandsFor soft settings.period entries rows
+  pub spelled : AllZip SpellsEntry (first_chunks 104 (length entries) file) entries
   pub count : length entries ≡ number
   pub ahead_is : ahead ≡ drop (104 * length entries) file
   pub within : 104 * length entries ≤ length file
-  pub waits : Leaves old now (lines_of settings rows) pending
+  pub waits : Leaves old now (corrected_row_lines settings rows) pending
 
 module _ (settings : StationSettings) (file : List ℕ) (old now : Option (List ℕ)) (soft : SoftRecord) (ahead : List ℕ) (number : ℕ)
     (pending : List ℕ) (at : StandsAt settings file old now soft ahead number pending) (piece rest : List ℕ) (parts : ahead ≡ piece ++ rest)
     (size : length piece ≡ min 104 (length ahead)) where
   -- with one entry more, whose row the record gave or not
-  with_entry : (new : SoftRecord) (e : Entry) (rows : List Row) (text : List ℕ) → Spells piece e → StandsFor new settings.period (at.entries ++ e ∷ []) rows
-      → Leaves old now (lines_of settings rows) text → StandsAt settings file old now new rest (number + 1) text
+  with_entry : (new : SoftRecord) (e : Entry) (rows : List Row) (text : List ℕ) → SpellsEntry piece e → SoftRecordStandsFor new settings.period (at.entries ++ e ∷ []) rows
+      → Leaves old now (corrected_row_lines settings rows) text → StandsAt settings file old now new rest (number + 1) text
   with_entry new e rows text spelled stands waits =
       let is = piece_is ahead piece rest parts size in
       let there = is.0 ∙ ap (take 104) at.ahead_is in
@@ -95,19 +95,19 @@ module _ (settings : StationSettings) (file : List ℕ) (old now : Option (List 
         entries = at.entries ++ e ∷ [];
         rows = rows;
         stands = stands;
-        spelled = spelled_more file at.entries e at.spelled (subst (λ (xs : List ℕ). Spells xs e) there spelled);
+        spelled = spelled_more file at.entries e at.spelled (subst (λ (xs : List ℕ). SpellsEntry xs e) there spelled);
         count = more ∙ ap (λ (n : ℕ). n + 1) at.count;
         ahead_is = is.1 ∙ ap (drop 104) at.ahead_is ∙ drop-drop 104 (104 * length at.entries) file ∙ rw next refl;
         within = omega (arith, spelled.size, size, more, ap length at.ahead_is, length-drop {A = ℕ});
         waits = waits;
       }
 
-  pub stands-joined : (new : SoftRecord) → Takes soft settings.period at.entries at.rows piece Joined new
+  pub stands-joined : (new : SoftRecord) → TakesEntry soft settings.period at.entries at.rows piece Joined new
       → StandsAt settings file old now new rest (number + 1) pending
   stands-joined new took = with_entry new took.0 at.rows pending took.1.0 took.2 at.waits
 
-  pub stands-closed : (new : SoftRecord) (row : Row) (text : List ℕ) → Takes soft settings.period at.entries at.rows piece (Closed row) new
-      → text ≡ pending ++ line_of settings row → StandsAt settings file old now new rest (number + 1) text
+  pub stands-closed : (new : SoftRecord) (row : Row) (text : List ℕ) → TakesEntry soft settings.period at.entries at.rows piece (Closed row) new
+      → text ≡ pending ++ corrected_row_line settings row → StandsAt settings file old now new rest (number + 1) text
   stands-closed new row text took is =
       with_entry new took.0 (at.rows ++ row ∷ []) text took.1.0 took.2 (rw is (lines_more settings old now at.rows pending row at.waits))
 
@@ -123,16 +123,16 @@ stands-written settings file old now new soft ahead number pending rest at some 
   count = at.count;
   ahead_is = at.ahead_is;
   within = at.within;
-  waits = leaves_rest old now new (lines_of settings at.rows) pending rest at.waits some;
+  waits = leaves_rest old now new (corrected_row_lines settings at.rows) pending rest at.waits some;
 }
 
 module _ {S : Type 0} (outlet : Outlet S) (settings : StationSettings) (file : List ℕ) (old now : S) (soft : SoftRecord) (ahead : List ℕ) (number : ℕ)
     (pending : List ℕ) (at : StandsAt settings file (outlet.taken old) (outlet.taken now) soft ahead number pending)
     (still : outlet.faults now ≡ outlet.faults old) (result : Result Lines Output) where
   -- behind the lines so far comes more
-  front_left : (rest : Output) → IsLeft (outlet.taken old) (outlet.taken now) (led_by (lines_of settings at.rows) rest) (led_by pending rest)
+  front_left : (rest : Output) → OutputIsLeft (outlet.taken old) (outlet.taken now) (led_by (corrected_row_lines settings at.rows) rest) (led_by pending rest)
   front_left rest = record {
-    text = leaves_more (outlet.taken old) (outlet.taken now) (lines_of settings at.rows) pending rest.text at.waits;
+    text = leaves_more (outlet.taken old) (outlet.taken now) (corrected_row_lines settings at.rows) pending rest.text at.waits;
     status = refl;
   }
 
@@ -150,7 +150,7 @@ module _ {S : Type 0} (outlet : Outlet S) (settings : StationSettings) (file : L
 
   -- the next entry is bad
   pub streams-bad : (piece rest : List ℕ) (new : SoftRecord) → ahead ≡ piece ++ rest → length piece ≡ min 104 (length ahead) → 0 < length ahead
-      → Takes soft settings.period at.entries at.rows piece Bad new → output_of result ≡ led_by pending (bad_entry number)
+      → TakesEntry soft settings.period at.entries at.rows piece Bad new → output_of result ≡ led_by pending (bad_entry number)
       → streams_soft outlet settings file old result now
   streams-bad piece rest new parts size some took given =
       let there = (piece_is ahead piece rest parts size).0 ∙ ap (take 104) at.ahead_is in
@@ -173,7 +173,7 @@ module _ {S : Type 0} (outlet : Outlet S) (settings : StationSettings) (file : L
 
   -- no entry is ahead, and these are the rows of all
   whole : (rows : List Row) (text : List ℕ) → length ahead ≡ 0 → AreRows settings.period at.entries rows
-      → Leaves (outlet.taken old) (outlet.taken now) (lines_of settings rows) text → output_of result ≡ record { text = text; status = Done }
+      → Leaves (outlet.taken old) (outlet.taken now) (corrected_row_lines settings rows) text → output_of result ≡ record { text = text; status = Done }
       → streams_soft outlet settings file old result now
   whole rows text none all waits given = record {
     entries = at.entries;
@@ -182,16 +182,16 @@ module _ {S : Type 0} (outlet : Outlet S) (settings : StationSettings) (file : L
     front = record { spelled = at.spelled; good = at.stands.good };
     reached = inl (omega (arith, none, at.within, ap length at.ahead_is, length-drop {A = ℕ}), all, refl);
     written = left_streams outlet _ (led_by text no_more) old now result
-        (record { text = leaves_more (outlet.taken old) (outlet.taken now) (lines_of settings rows) text [] waits; status = refl })
+        (record { text = leaves_more (outlet.taken old) (outlet.taken now) (corrected_row_lines settings rows) text [] waits; status = refl })
         (rw append-nil given) (λ e. cc) still;
   }
 
-  pub streams-none : length ahead ≡ 0 → Finishes settings.period at.entries at.rows None → output_of result ≡ record { text = pending; status = Done }
+  pub streams-none : length ahead ≡ 0 → SoftRecordFinishes settings.period at.entries at.rows None → output_of result ≡ record { text = pending; status = Done }
       → streams_soft outlet settings file old result now
   streams-none none finishes given = whole at.rows pending none finishes.1 at.waits given
 
-  pub streams-last : (row : Row) → length ahead ≡ 0 → Finishes settings.period at.entries at.rows (Some row)
-      → output_of result ≡ record { text = pending ++ line_of settings row; status = Done } → streams_soft outlet settings file old result now
+  pub streams-last : (row : Row) → length ahead ≡ 0 → SoftRecordFinishes settings.period at.entries at.rows (Some row)
+      → output_of result ≡ record { text = pending ++ corrected_row_line settings row; status = Done } → streams_soft outlet settings file old result now
   streams-last row none finishes given =
-      whole (at.rows ++ row ∷ []) (pending ++ line_of settings row) none finishes.1
+      whole (at.rows ++ row ∷ []) (pending ++ corrected_row_line settings row) none finishes.1
       (lines_more settings (outlet.taken old) (outlet.taken now) at.rows pending row at.waits) given

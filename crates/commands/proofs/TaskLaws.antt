@@ -20,17 +20,17 @@ use Rattle.serial_link.specs.declared.link.Connected.{Connected}
 use Rattle.serial_link.specs.declared.link.Connected.TheVariants as connected
 use Rattle.serial_link.specs.declared.link.Side.TheVariants.{Call}
 use Rattle.commands.specs.TaskRun.{ShowsDone, calls_for, makes_task, output_at}
-use Rattle.commands.specs.TaskText.{text_of}
+use Rattle.commands.specs.TaskText.{task_text}
 use Rattle.commands.proofs.TaskEnds.{link_fault_of, none_reads, none_stores, none_writes, not_silent, shortage_of, shown_done, shown_since}
 
 -- the status that ends the run is that of the task's end
 end_shown : {L : Type 0} (traffic : Traffic L) (task : Task) (old new : L) (result : Result Lines Output) (did : makes_task traffic task old result new)
-    (status : Status) → EndsBy status result → (output_at (text_of task did.answers) did.end).status ≡ status
-end_shown traffic task old new result did status is = has_status status result (output_at (text_of task did.answers) did.end) did.given is
+    (status : Status) → EndsBy status result → (output_at (task_text task did.answers) did.end).status ≡ status
+end_shown traffic task old new result did status is = has_status status result (output_at (task_text task did.answers) did.end) did.given is
 
 made_causes : {F K L D : Type 0} (m : Meanings F K L D) (task : Task) → Causes m (over_link (makes_task m.traffic task))
 made_causes m task = by_link m (makes_task m.traffic task) (λ old new result did.
-    let text = text_of task did.answers in
+    let text = task_text task did.answers in
     let shown = end_shown m.traffic task old new result did in
     record {
       fault = record { never_falls = did.talks.fault.never_falls; rose = λ is. did.talks.fault.rose (link_fault_of text did.end (shown LinkFault is)) };
@@ -56,7 +56,7 @@ shortage_behind : {F K L D : Type 0} (m : Meanings F K L D) (task : Task) (mid n
 shortage_behind m task mid new (Ok called) ended none behind = record {
   never_falls = behind.0.talks.shortage.never_falls;
   rose = λ is. behind.0.talks.shortage.rose
-      (shortage_of (text_of task behind.0.answers) behind.0.end (end_shown m.traffic task mid.link new.link ended behind.0 OutOfMemory is));
+      (shortage_of (task_text task behind.0.answers) behind.0.end (end_shown m.traffic task mid.link new.link ended behind.0 OutOfMemory is));
 }
 shortage_behind {F} {K} {L} {D} m task mid new (Err output) ended none behind = record {
   never_falls = rw behind.1 (omega arith);
@@ -79,7 +79,7 @@ done_behind m task old mid new (Ok called) ended silent shown behind =
     let made = behind.0 in
     let since = shown_since m.traffic task old.link mid.link new.link silent shown in
     let done = shown_done m.traffic task mid.link new.link made.answers made.end made.talks since in
-    ap (λ (output : Output). output.status) made.given ∙ ap (λ (end : TaskEnd). (output_at (text_of task made.answers) end).status) done
+    ap (λ (output : Output). output.status) made.given ∙ ap (λ (end : TaskEnd). (output_at (task_text task made.answers) end).status) done
 done_behind {F} {K} {L} {D} m task old mid new (Err output) ended silent shown behind =
     absurd (not_silent m.traffic task old.link new.link (ap (λ (w : Outside F K L D). m.traffic.talk w.link) behind.1 ∙ silent) shown)
 

@@ -15,7 +15,7 @@ use Rattle.run_output.specs.Calls.{attaches, calls}
 use Rattle.run_output.specs.Ended.{Lines, output_of}
 use Rattle.run_output.specs.Output.{Output, disk_fault, link_fault, no_memory}
 use Rattle.run_output.specs.Outside.{Meanings, over_disk, over_link}
-use Rattle.run_output.specs.Steps.{Step, then}
+use Rattle.run_output.specs.Steps.{CommandStep, then}
 use Rattle.run_output.specs.declared.outside.Outside.{Outside}
 use Rattle.run_output.specs.declared.status.Status.TheVariants as ends
 use Rattle.serial_link.specs.Link.{AreStill, Talks}
@@ -25,7 +25,7 @@ use Rattle.serial_link.specs.declared.talk.TalkItem.{TalkItem}
 use Rattle.station_base.specs.declared.row.Row.{Row}
 use Rattle.wake_retry.specs.Bounds.{said}
 use Rattle.wake_retry.specs.Parts.{heard}
-use Rattle.weather_book.specs.Book.{StandsFor}
+use Rattle.weather_book.specs.Book.{BookStandsFor}
 use Rattle.weather_book.specs.Stands.{ReadsRows}
 use Rattle.weather_book.specs.declared.book.Book.{Book}
 use Rattle.commands.specs.Recovery.{recovers}
@@ -42,7 +42,7 @@ queries_output query_end.DiskFault lines = disk_fault
 queries_output query_end.OutOfMemory lines = no_memory
 
 -- Requests were answered from the book over the link, with these causes, and what came of that is given.
-pub record answered {L D : Type 0} (traffic : Traffic L) (medium : Medium D) (book : Book) (turns : ℕ) (link : L) (disk : D)
+pub record requests_answered {L D : Type 0} (traffic : Traffic L) (medium : Medium D) (book : Book) (turns : ℕ) (link : L) (disk : D)
     (result : Result Lines Output) (link' : L) (disk' : D) : Type 0 where
   pub end : QueryEnd
   pub lines : ℕ
@@ -50,7 +50,7 @@ pub record answered {L D : Type 0} (traffic : Traffic L) (medium : Medium D) (bo
       (end ≡ query_end.OutOfMemory) link'
   pub link_still : AreStill traffic link (end ≡ query_end.LinkFault) ⊤ (end ≡ query_end.OutOfMemory) link'
   pub stays : Stays medium disk disk'
-  pub reads : (rows : List Row) → StandsFor book rows → ReadsFor medium rows end disk disk'
+  pub reads : (rows : List Row) → BookStandsFor book rows → ReadsFor medium rows end disk disk'
   pub disk_cause : Faults medium disk disk' (end ≡ query_end.DiskFault)
   pub given : output_of result ≡ queries_output end lines
 
@@ -62,19 +62,19 @@ pub record AnswersRows (rows : List Row) (told : Type 0) (end : QueryEnd) (turns
   pub answers : told → AnswersLines end rows (lines_in (heard t)) (said t) 0 lines
 
 -- the disk tells its bytes
-abbrev pub IsTold : {D : Type 0} → Medium D → D → Type 0
-IsTold medium disk = (file : List ℕ) × (medium.seen disk ≡ Some file)
+abbrev pub DiskIsTold : {D : Type 0} → Medium D → D → Type 0
+DiskIsTold medium disk = (file : List ℕ) × (medium.seen disk ≡ Some file)
 
 -- The book stands for the rows of the archive. Requests were answered by these, they were read within their slots, and
 -- nothing was changed.
 pub record answers {F K L D : Type 0} (m : Meanings F K L D) (turns : ℕ) (book : Book)
     (old : Outside F K L D) (result : Result Lines Output) (new : Outside F K L D) : Type 0 where
   pub rows : List Row
-  pub stands : StandsFor book rows
+  pub stands : BookStandsFor book rows
   pub archive : ReadsRows m.medium old.disk rows
   pub end : QueryEnd
   pub lines : ℕ
-  pub talks : Talks m.traffic old.link (AnswersRows rows (IsTold m.medium old.disk) end turns lines)
+  pub talks : Talks m.traffic old.link (AnswersRows rows (DiskIsTold m.medium old.disk) end turns lines)
       (end ≡ query_end.LinkFault) (end ≡ query_end.OutOfMemory) new.link
   pub link_still : AreStill m.traffic old.link (end ≡ query_end.LinkFault) ⊤ (end ≡ query_end.OutOfMemory) new.link
   pub reads : ReadsFor m.medium rows end old.disk new.disk
@@ -85,7 +85,7 @@ pub record answers {F K L D : Type 0} (m : Meanings F K L D) (turns : ℕ) (book
 
 -- The file of this name is attached, without making it, its archive is recovered to be read, a call is waited for at the
 -- address, and requests are answered over it.
-abbrev pub answers_over : {F K L D : Type 0} → Meanings F K L D → List ℕ → List ℕ → ℕ → Step (Outside F K L D) Lines
+abbrev pub answers_over : {F K L D : Type 0} → Meanings F K L D → List ℕ → List ℕ → ℕ → CommandStep (Outside F K L D) Lines
 answers_over m archive address turns =
     then (over_disk (attaches m.medium archive false)) (λ _.
     then (over_disk (recovers m.medium 1048576 Read)) (λ book.

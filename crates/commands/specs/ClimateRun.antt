@@ -3,10 +3,10 @@ use Rattle.std.specs.Prelude.{ℕ, List}
 use Rattle.climate_table.specs.Table.{table_lines}
 use Rattle.run_output.specs.Ended.{Lines}
 use Rattle.run_output.specs.Outside.{Meanings}
-use Rattle.run_output.specs.Steps.{Step}
+use Rattle.run_output.specs.Steps.{CommandStep}
 use Rattle.run_output.specs.declared.outside.Outside.{Outside}
 use Rattle.commands.specs.ReportRun.{reports_lines}
 
 -- The file of this name is attached, without making it, its archive is recovered to be read, and the table is written.
-abbrev pub tells_climate : {F K L D : Type 0} → Meanings F K L D → List ℕ → ℕ → Step (Outside F K L D) Lines
+abbrev pub tells_climate : {F K L D : Type 0} → Meanings F K L D → List ℕ → ℕ → CommandStep (Outside F K L D) Lines
 tells_climate m archive year = reports_lines m archive (table_lines year)

@@ -11,7 +11,7 @@ use Rattle.run_output.specs.Calls.{attaches}
 use Rattle.run_output.specs.Ended.{Lines, output_of}
 use Rattle.run_output.specs.Output.{Output, disk_fault, no_memory}
 use Rattle.run_output.specs.Outside.{Meanings, over_disk, over_second}
-use Rattle.run_output.specs.Steps.{Step, then}
+use Rattle.run_output.specs.Steps.{CommandStep, then}
 use Rattle.run_output.specs.declared.outside.Outside.{Outside}
 use Rattle.run_output.specs.declared.status.Status.TheVariants as ends
 use Rattle.station_base.specs.declared.row.Row.{Row}
@@ -49,7 +49,7 @@ pub record copies {F K L D : Type 0} (m : Meanings F K L D)
 
 -- The file of the one name is attached, without making it, then that of the other name, made where there is none, and
 -- then it is copied.
-abbrev pub copies_on : {F K L D : Type 0} → Meanings F K L D → List ℕ → List ℕ → Step (Outside F K L D) Lines
+abbrev pub copies_on : {F K L D : Type 0} → Meanings F K L D → List ℕ → List ℕ → CommandStep (Outside F K L D) Lines
 copies_on m from to =
     then (over_disk (attaches m.medium from false)) (λ _.
     then (over_second (attaches m.medium to true)) (λ _.

@@ -2,15 +2,15 @@
 use Rattle.std.specs.Prelude.{ℕ, ◌≡◌, ◌≢◌, ◌-◌, false, List, ◌++◌, Ok, Err, IfOk, codes, decimal}
 use Rattle.std.specs.declared.result.Result.{Result}
 use Rattle.causes.specs.Told.{WhereTold}
-use Rattle.disk_model.specs.Disk.{Begins, Faults, LeavesOnly, Stays}
+use Rattle.disk_model.specs.Disk.{BeginsChanges, Faults, LeavesOnly, Stays}
 use Rattle.disk_model.specs.Medium.{Medium}
 use Rattle.gated_log.specs.Calls.{RecoveryCalls}
 use Rattle.gated_log.specs.Start.{OnRead, OnWrite}
 use Rattle.gated_log.specs.declared.start.Purpose.{Purpose}
 use Rattle.station_base.specs.declared.row.Row.{Row}
-use Rattle.weather_book.specs.Book.{is_stale, most_of}
+use Rattle.weather_book.specs.Book.{book_is_stale, most_rows_of}
 use Rattle.weather_book.specs.Stands.{HasRows, NowHasRows, ReadsRows, StandsOn, StandsToReadOn}
-use Rattle.weather_book.specs.Start.{Finds, is_fault, slots_found}
+use Rattle.weather_book.specs.Start.{FindsBook, is_book_fault, book_slots_found}
 use Rattle.weather_book.specs.declared.book.Book.{Book}
 use Rattle.weather_book.specs.declared.start.BookStart.{BookStart}
 use Rattle.weather_book.specs.declared.start.BookStart.TheVariants as found
@@ -49,11 +49,11 @@ pub record recovers {D : Type 0} (medium : Medium D) (most : ℕ) (purpose : Pur
     (result : Result Book Output) (new : D) : Type 0 where
   pub start : BookStart
   pub given : result ≡ book_found start
-  pub finds : WhereTold (medium.seen old) (Finds purpose start)
-  pub calls : RecoveryCalls medium old new (medium.moment new - medium.moment old) (slots_found start) (is_fault start)
+  pub finds : WhereTold (medium.seen old) (FindsBook purpose start)
+  pub calls : RecoveryCalls medium old new (medium.moment new - medium.moment old) (book_slots_found start) (is_book_fault start)
   pub cause : Faults medium old new (start ≡ found.DiskFault)
-  pub begun : Begins medium 3 old new
-  pub fresh : IfOk result (λ book. (is_stale book ≡ false) × (most_of book ≡ most))
+  pub begun : BeginsChanges medium 3 old new
+  pub fresh : IfOk result (λ book. (book_is_stale book ≡ false) × (most_rows_of book ≡ most))
   pub any_version : OnRead purpose (start ≢ found.OldVersion)
   pub stays : OnRead purpose (Stays medium old new)
   pub to_read : OnRead purpose (IfOk result (λ book. (rows : List Row)

@@ -13,12 +13,12 @@ use Rattle.run_output.specs.Calls.{attaches}
 use Rattle.run_output.specs.Ended.{Lines, output_of}
 use Rattle.run_output.specs.Output.{Output, disk_fault, write_fault}
 use Rattle.run_output.specs.Outside.{Meanings, over_disk}
-use Rattle.run_output.specs.Steps.{Step, then}
+use Rattle.run_output.specs.Steps.{CommandStep, then}
 use Rattle.run_output.specs.declared.outside.Outside.{Outside}
 use Rattle.run_output.specs.declared.status.Status.TheVariants as ends
 use Rattle.station_base.specs.declared.day.DayNumber.{DayNumber}
 use Rattle.station_base.specs.declared.row.Row.{Row}
-use Rattle.weather_book.specs.Book.{StandsFor}
+use Rattle.weather_book.specs.Book.{BookStandsFor}
 use Rattle.packed_rows.specs.Rows.{holds, rows_of}
 use Rattle.weather_book.specs.Stands.{ReadsRows}
 use Rattle.weather_book.specs.declared.book.Book.{Book}
@@ -49,7 +49,7 @@ report_given report_end.WriteFault = write_fault
 pub record reports {F K L D : Type 0} (m : Meanings F K L D) (lines : List Row → List (List ℕ)) (book : Book)
     (old : Outside F K L D) (result : Result Lines Output) (new : Outside F K L D) : Type 0 where
   pub rows : List Row
-  pub stands : StandsFor book rows
+  pub stands : BookStandsFor book rows
   pub archive : ReadsRows m.medium old.disk rows
   pub end : ReportEnd
   pub reads : ReadsOver m.medium rows end old.disk new.disk
@@ -63,7 +63,7 @@ pub record reports {F K L D : Type 0} (m : Meanings F K L D) (lines : List Row �
   pub alone : new ≡ record old { disk = new.disk; out = new.out }
 
 -- The file of this name is attached, without making it, its archive is recovered to be read, and these lines are written.
-abbrev pub reports_lines : {F K L D : Type 0} → Meanings F K L D → List ℕ → (List Row → List (List ℕ)) → Step (Outside F K L D) Lines
+abbrev pub reports_lines : {F K L D : Type 0} → Meanings F K L D → List ℕ → (List Row → List (List ℕ)) → CommandStep (Outside F K L D) Lines
 reports_lines m archive lines =
     then (over_disk (attaches m.medium archive false)) (λ _.
     then (over_disk (recovers m.medium 1048576 Read)) (λ book.
@@ -71,13 +71,13 @@ reports_lines m archive lines =
 
 -- The file of this name is attached, without making it, its archive is recovered to be read, and the lines that are
 -- asked for are written.
-abbrev pub reports_on : {F K L D : Type 0} → Meanings F K L D → List ℕ → Wanted → Step (Outside F K L D) Lines
+abbrev pub reports_on : {F K L D : Type 0} → Meanings F K L D → List ℕ → Wanted → CommandStep (Outside F K L D) Lines
 reports_on m archive wanted = reports_lines m archive (lines_wanted wanted)
 
 -- the bytes are an archive with rows, or with none
-abbrev pub HoldsRows : List ℕ → Type 0
-HoldsRows file = (rows : List Row) × (rows_of file ≡ holds rows)
+abbrev pub FileHoldsRows : List ℕ → Type 0
+FileHoldsRows file = (rows : List Row) × (rows_of file ≡ holds rows)
 
 -- the disk tells its bytes, which are an archive
 abbrev pub TellsArchive : {D : Type 0} → Medium D → D → Type 0
-TellsArchive medium disk = IsSomeAnd (medium.seen disk) HoldsRows
+TellsArchive medium disk = IsSomeAnd (medium.seen disk) FileHoldsRows

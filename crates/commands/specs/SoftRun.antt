@@ -6,7 +6,7 @@ use Rattle.std.specs.declared.result.Result.{Result}
 use Rattle.quality.specs.Corrected.{corrected_row}
 use Rattle.settings_file.specs.Reading.{settings_of}
 use Rattle.settings_file.specs.StationSettings.{StationSettings}
-use Rattle.soft_record.specs.Entry.{Spells}
+use Rattle.soft_record.specs.Entry.{SpellsEntry}
 use Rattle.soft_record.specs.Given.{AreGood, AreRows, AreRowsSoFar, IsGood}
 use Rattle.soft_record.specs.declared.entry.Entry.{Entry}
 use Rattle.station_base.specs.NumberText.{number_text}
@@ -18,17 +18,17 @@ use Rattle.run_output.specs.Ended.{EndsBy, Lines}
 use Rattle.run_output.specs.Outside.{Meanings, over_files, over_out}
 use Rattle.run_output.specs.Output.{Output, led_by}
 use Rattle.run_output.specs.Reading.{reads, settles}
-use Rattle.run_output.specs.Steps.{Step, then}
+use Rattle.run_output.specs.Steps.{CommandStep, then}
 use Rattle.run_output.specs.Streams.{streams}
 use Rattle.run_output.specs.declared.outside.Outside.{Outside}
 use Rattle.run_output.specs.declared.status.Status.TheVariants.{BadEntry, Done, WriteFault}
 
 -- the row line of the row that the settings correct
-abbrev pub line_of : StationSettings → Row → List ℕ
-line_of settings row = row_line (corrected_row settings row)
+abbrev pub corrected_row_line : StationSettings → Row → List ℕ
+corrected_row_line settings row = row_line (corrected_row settings row)
 
-abbrev pub lines_of : StationSettings → List Row → List ℕ
-lines_of settings rows = flat_map (line_of settings) rows
+abbrev pub corrected_row_lines : StationSettings → List Row → List ℕ
+corrected_row_lines settings rows = flat_map (corrected_row_line settings) rows
 
 -- the line that names a bad entry
 unfoldable pub bad_entry_text : ℕ → List ℕ
@@ -42,8 +42,8 @@ abbrev pub no_more : Output
 no_more = record { text = []; status = Done }
 
 -- The file begins with these entries, each of 104 bytes, of which each can follow the one before.
-pub record BeginsWith (period : ℕ) (file : List ℕ) (entries : List Entry) : Type 0 where
-  pub spelled : AllZip Spells (first_chunks 104 (length entries) file) entries
+pub record BeginsWithEntries (period : ℕ) (file : List ℕ) (entries : List Entry) : Type 0 where
+  pub spelled : AllZip SpellsEntry (first_chunks 104 (length entries) file) entries
   pub good : AreGood period None entries
 
 -- What comes behind them, 104 bytes or as many as there are, is no entry that can follow.
@@ -72,13 +72,13 @@ pub record streams_soft {S : Type 0} (outlet : Outlet S) (settings : StationSett
   pub entries : List Entry
   pub rows : List Row
   pub rest : Output
-  pub front : BeginsWith settings.period file entries
+  pub front : BeginsWithEntries settings.period file entries
   pub reached : AtEnd settings.period file entries rows rest ⊎ BeforeBad settings.period file entries rows rest
       ⊎ AtFault settings.period entries rows rest result
-  pub written : streams outlet (led_by (lines_of settings rows) rest) old result new
+  pub written : streams outlet (led_by (corrected_row_lines settings rows) rest) old result new
 
 -- The settings are read and judged, before the file is. Then the rows of its entries are written.
-abbrev pub prints_soft : {F K L D : Type 0} → Meanings F K L D → List ℕ → List ℕ → Step (Outside F K L D) Lines
+abbrev pub prints_soft : {F K L D : Type 0} → Meanings F K L D → List ℕ → List ℕ → CommandStep (Outside F K L D) Lines
 prints_soft m settings name =
     then (over_files (settles m.shelf settings)) (λ settings.
     then (over_files (reads m.shelf name)) (λ file.
@@ -88,7 +88,7 @@ prints_soft m settings name =
 pub record IsEntryFile (period : ℕ) (file : List ℕ) : Type 0 where
   pub within : length file ≤ most_bytes
   pub entries : List Entry
-  pub front : BeginsWith period file entries
+  pub front : BeginsWithEntries period file entries
   pub whole : length file ≡ 104 * length entries
 
 -- both files are told: settings that are accepted, and a file of good entries by their period

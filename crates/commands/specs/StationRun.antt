@@ -16,13 +16,13 @@ use Rattle.station_base.specs.CivilMinute.{CivilMinute}
 use Rattle.station_base.specs.declared.row.Row.{Row}
 use Rattle.station_session.specs.Attempts.{Attempts, Tried, all_said}
 use Rattle.station_session.specs.Report.{IsNew, acked}
-use Rattle.station_session.specs.Round.{AnswersRound, LeavesRound, Serves, round_host}
-use Rattle.station_session.specs.Session.{book_of, held, settings_of}
+use Rattle.station_session.specs.Round.{AnswersRound, LeavesRound, ServesRound, round_host}
+use Rattle.station_session.specs.Session.{book_of, held, session_settings}
 use Rattle.station_session.specs.declared.report.Report.{Report}
 use Rattle.station_session.specs.declared.round_end.RoundEnd.{RoundEnd}
 use Rattle.station_session.specs.declared.round_end.RoundEnd.TheVariants as round
 use Rattle.station_session.specs.declared.session.Session.{Session}
-use Rattle.packed_rows.specs.Rising.{last_stamp}
+use Rattle.packed_rows.specs.Rising.{last_row_stamp}
 use Rattle.weather_book.specs.Stands.{StandsOn}
 use Rattle.weather_book.specs.declared.book.Book.{Book}
 use Rattle.command_words.specs.Command.{StationNames}
@@ -31,7 +31,7 @@ use Rattle.run_output.specs.Ended.{Lines, output_of}
 use Rattle.run_output.specs.Output.{Output, disk_fault, led_by, link_fault, no_memory}
 use Rattle.run_output.specs.Outside.{Meanings, over_disk, over_files, over_link}
 use Rattle.run_output.specs.Reading.{settles}
-use Rattle.run_output.specs.Steps.{Step, then}
+use Rattle.run_output.specs.Steps.{CommandStep, then}
 use Rattle.run_output.specs.declared.outside.Outside.{Outside}
 use Rattle.run_output.specs.declared.status.Status.TheVariants as ends
 use Rattle.commands.specs.Recovery.{recovers}
@@ -48,8 +48,8 @@ end_word round.Stale = []
 end_word round.OutOfMemory = []
 
 -- `round`, the word of its end, and its numbers
-abbrev pub numbers_line : List ℕ → Report → List ℕ
-numbers_line word report =
+abbrev pub round_numbers_line : List ℕ → Report → List ℕ
+round_numbers_line word report =
     codes "round " ++ word
     ++ codes " attempts " ++ decimal report.attempts
     ++ codes " pages " ++ decimal report.tally.pages
@@ -58,8 +58,8 @@ numbers_line word report =
     ++ codes " rows " ++ decimal report.rows_after ++ codes "\n"
 
 -- the line of a round
-abbrev pub round_line : RoundEnd → Report → List ℕ
-round_line end report = numbers_line (end_word end) report
+abbrev pub station_round_line : RoundEnd → Report → List ℕ
+station_round_line end report = round_numbers_line (end_word end) report
 
 -- the line of an attempt of this number that failed
 abbrev pub attempt_line : ℕ → Trouble → List ℕ
@@ -83,7 +83,7 @@ end_output round.OutOfMemory = no_memory
 
 -- the lines of its attempts that failed, and its own
 abbrev pub round_lines : RoundEnd → Report → List ℕ
-round_lines end report = attempt_lines 1 report.troubles.items ++ round_line end report
+round_lines end report = attempt_lines 1 report.troubles.items ++ station_round_line end report
 
 -- what is written of a round
 abbrev pub round_output : RoundEnd → Report → Output
@@ -102,8 +102,8 @@ pub record rounds {F K L D : Type 0} (m : Meanings F K L D) (settings : StationS
   pub end : RoundEnd
   pub report : Report
   pub book_is : book_of began ≡ book
-  pub settings_are : settings_of began ≡ settings
-  pub serves : Serves m.traffic m.medium rows end (round_host began old.link old.disk)
+  pub settings_are : session_settings began ≡ settings
+  pub serves : ServesRound m.traffic m.medium rows end (round_host began old.link old.disk)
       (round_host ended new.link new.disk) report
   pub before : report.rows_before ≡ length rows
   pub after : report.rows_after ≡ held ended
@@ -115,12 +115,12 @@ pub record rounds {F K L D : Type 0} (m : Meanings F K L D) (settings : StationS
   pub alone : new ≡ record old { link = new.link; disk = new.disk }
 
 -- a new report was made, or there was no memory for it
-abbrev pub has_report : {W : Type 0} → Step W Report
+abbrev pub has_report : {W : Type 0} → CommandStep W Report
 has_report old result new = IfOk result (λ report. IsNew report) × IfErr result (λ output. output ≡ no_memory) × (new ≡ old)
 
 -- The settings are read and judged, the archive is attached, made where there is none, and recovered to be written,
 -- the console is called, and the round is made.
-abbrev pub catches_up : {F K L D : Type 0} → Meanings F K L D → StationNames → Step (Outside F K L D) Lines
+abbrev pub catches_up : {F K L D : Type 0} → Meanings F K L D → StationNames → CommandStep (Outside F K L D) Lines
 catches_up m names =
     then (over_files (settles m.shelf names.settings)) (λ settings.
     then (over_disk (attaches m.medium names.archive true)) (λ _.
@@ -144,4 +144,4 @@ pub record ShowsCaughtUp {L D : Type 0} (traffic : Traffic L) (medium : Medium D
     : Type 0 where
   pub rows : List Row
   pub archive : IsSomeAnd (medium.seen disk) (λ file. CanBeAddedTo file rows)
-  pub talk : ShowsWhole traffic (last_stamp rows) old new
+  pub talk : ShowsWhole traffic (last_row_stamp rows) old new

@@ -8,6 +8,6 @@ pub data RowStyle : Type 0 where
   corrected : StationSettings → RowStyle
 
 -- the minutes between two records; the short style does not write them
-abbrev pub period_of : RowStyle → ℕ
-period_of short = 5
-period_of (corrected settings) = settings.period
+abbrev pub style_period : RowStyle → ℕ
+style_period short = 5
+style_period (corrected settings) = settings.period

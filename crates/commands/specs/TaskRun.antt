@@ -14,14 +14,14 @@ use Rattle.run_output.specs.Calls.{calls}
 use Rattle.run_output.specs.Ended.{Lines, output_of}
 use Rattle.run_output.specs.Output.{Output, link_fault, no_memory}
 use Rattle.run_output.specs.Outside.{Meanings, over_link}
-use Rattle.run_output.specs.Steps.{Step, then}
+use Rattle.run_output.specs.Steps.{CommandStep, then}
 use Rattle.run_output.specs.declared.outside.Outside.{Outside}
 use Rattle.run_output.specs.declared.status.Status.TheVariants as ends
 use Rattle.serial_link.specs.Traffic.{Traffic}
 use Rattle.serial_link.specs.declared.link.Side.TheVariants.{Call}
 use Rattle.serial_link.specs.declared.talk.TalkItem.{TalkItem}
 use Rattle.station_base.specs.NumberText.{number_text}
-use Rattle.commands.specs.TaskText.{text_of}
+use Rattle.commands.specs.TaskText.{task_text}
 
 -- the exchanges of a task
 abbrev pub exchanges_of : Task → List Exchange
@@ -57,11 +57,11 @@ output_at text task_end.LinkFault = link_fault
 output_at text task_end.OutOfMemory = no_memory
 
 -- The link gained the talk of a task that ended so, and where it is done these lines are what its answers give.
-pub record Gives {L : Type 0} (traffic : Traffic L) (task : Task) (old : L) (end : TaskEnd) (lines : List ℕ)
+pub record TaskGives {L : Type 0} (traffic : Traffic L) (task : Task) (old : L) (end : TaskEnd) (lines : List ℕ)
     (new : L) : Type 0 where
   pub answers : List (List ℕ)
   pub talks : DoesTask traffic old (exchanges_of task) answers end new
-  pub given : end ≡ task_end.Done → lines ≡ text_of task answers
+  pub given : end ≡ task_end.Done → lines ≡ task_text task answers
 
 -- What the link gained is the talk of the task, and what its answers give, or the one trouble that it shows, is given.
 pub record makes_task {L : Type 0} (traffic : Traffic L) (task : Task) (old : L) (result : Result Lines Output) (new : L)
@@ -69,10 +69,10 @@ pub record makes_task {L : Type 0} (traffic : Traffic L) (task : Task) (old : L)
   pub end : TaskEnd
   pub answers : List (List ℕ)
   pub talks : DoesTask traffic old (exchanges_of task) answers end new
-  pub given : output_of result ≡ output_at (text_of task answers) end
+  pub given : output_of result ≡ output_at (task_text task answers) end
 
 -- The address is called, and then the task is made once.
-abbrev pub calls_for : {F K L D : Type 0} → Meanings F K L D → List ℕ → Task → Step (Outside F K L D) Lines
+abbrev pub calls_for : {F K L D : Type 0} → Meanings F K L D → List ℕ → Task → CommandStep (Outside F K L D) Lines
 calls_for m address task =
     then (over_link (calls m.traffic Call address)) (λ _.
     over_link (makes_task m.traffic task))

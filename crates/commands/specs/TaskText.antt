@@ -12,8 +12,8 @@ use Rattle.command_words.specs.declared.task.Task.TheVariants.{Packets, ReadMemo
 use Rattle.command_words.specs.declared.task.Task.TheVariants.{SetPeriod, Kind}
 
 -- barometer, temperature inside and outside, speed and direction of the wind
-unfoldable pub numbers_line : ℕ → ℤ → ℤ → ℕ → ℕ → List ℕ
-numbers_line barometer inside outside wind direction =
+unfoldable pub packet_numbers_line : ℕ → ℤ → ℤ → ℕ → ℕ → List ℕ
+packet_numbers_line barometer inside outside wind direction =
     codes "loop barometer " ++ number_text barometer ++ codes " inTemp " ++ signed_text inside
     ++ codes " outTemp " ++ signed_text outside ++ codes " wind " ++ number_text wind
     ++ codes " dir " ++ number_text direction ++ codes "\n"
@@ -21,7 +21,7 @@ numbers_line barometer inside outside wind direction =
 -- these numbers as a packet has them (Davis serial manual, "LOOP data format")
 abbrev pub packet_line : List ℕ → List ℕ
 packet_line bytes =
-    numbers_line (word_in (drop 7 bytes)) (signed_word_in (drop 9 bytes)) (signed_word_in (drop 12 bytes))
+    packet_numbers_line (word_in (drop 7 bytes)) (signed_word_in (drop 9 bytes)) (signed_word_in (drop 12 bytes))
     (byte_in (drop 14 bytes)) (word_in (drop 16 bytes))
 
 -- how many bytes were written
@@ -48,11 +48,11 @@ abbrev pub first_answer : List (List ℕ) → List ℕ
 first_answer answers = drop 1 (slice_index_or answers 0 [])
 
 -- the lines of a task that is done, by its answers: the packets behind the first of them, or what the first has
-abbrev pub text_of : Task → List (List ℕ) → List ℕ
-text_of (Packets count) answers = flat_map packet_line (drop 1 answers)
-text_of (ReadMemory at count) answers = bytes_line (take count (first_answer answers))
-text_of (WriteMemory at bytes) answers = written_line (length bytes.items)
-text_of ReadClock answers = clock_line (time_shown (first_answer answers))
-text_of (SetClock time) answers = codes "time set\n"
-text_of (SetPeriod minutes) answers = period_line minutes
-text_of Kind answers = kind_line (slice_index (first_answer answers) 0)
+abbrev pub task_text : Task → List (List ℕ) → List ℕ
+task_text (Packets count) answers = flat_map packet_line (drop 1 answers)
+task_text (ReadMemory at count) answers = bytes_line (take count (first_answer answers))
+task_text (WriteMemory at bytes) answers = written_line (length bytes.items)
+task_text ReadClock answers = clock_line (time_shown (first_answer answers))
+task_text (SetClock time) answers = codes "time set\n"
+task_text (SetPeriod minutes) answers = period_line minutes
+task_text Kind answers = kind_line (slice_index (first_answer answers) 0)

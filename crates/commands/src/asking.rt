@@ -3,7 +3,7 @@ ghost use Rattle.console_tasks.specs.Memory.{AreWithin};
 ghost use Rattle.station_base.specs.ClockTime.{can_be_shown};
 ghost use Rattle.command_words.specs.declared.task.Task.{Task};
 ghost use Rattle.command_words.specs.Possible.{CanBeMade};
-ghost use Rattle.commands.specs.TaskRun.{Gives};
+ghost use Rattle.commands.specs.TaskRun.{TaskGives};
 
 use crate::task_text::{push_clock, push_numbered, push_packet};
 use arrayvec::ArrayVec;
@@ -20,7 +20,7 @@ use station_base::{ClockTime, Period, push_bytes};
 pub fn ask<L: Link>(task: &Task, link: &mut L, text: &mut Text) -> TaskEnd
     requires possible { CanBeMade task.now }
     requires empty { text.old.items ≡ [] }
-    ensures { Gives L.traffic task.now link.old result text.new.items link.new }
+    ensures { TaskGives L.traffic task.now link.old result text.new.items link.new }
 {
     match task {
         Task::Packets(count) => take_packets(*count, link, text),
@@ -38,7 +38,7 @@ fn take_packets<L: Link>(count: u8, link: &mut L, text: &mut Text) -> TaskEnd
     requires some { 1 ≤ count }
     requires most { count ≤ MOST_PACKETS }
     requires empty { text.old.items ≡ [] }
-    ensures { Gives L.traffic (Task.Packets count) link.old result text.new.items link.new }
+    ensures { TaskGives L.traffic (Task.Packets count) link.old result text.new.items link.new }
 {
     let mut packets = ArrayVec::new();
     let end = loop_packets(link, count, &mut packets);
@@ -53,7 +53,7 @@ fn take_packets<L: Link>(count: u8, link: &mut L, text: &mut Text) -> TaskEnd
 fn read_memory<L: Link>(at: u16, count: u8, link: &mut L, text: &mut Text) -> TaskEnd
     requires within { AreWithin at count }
     requires empty { text.old.items ≡ [] }
-    ensures { Gives L.traffic (Task.ReadMemory at count) link.old result text.new.items link.new }
+    ensures { TaskGives L.traffic (Task.ReadMemory at count) link.old result text.new.items link.new }
 {
     let mut room = [0; MOST_BYTES];
     let bytes = &mut room[..usize::from(count)];
@@ -71,7 +71,7 @@ fn write_memory<L: Link>(
 ) -> TaskEnd
     requires within { AreWithin at (length bytes.now.items) }
     requires empty { text.old.items ≡ [] }
-    ensures { Gives L.traffic (Task.WriteMemory at bytes.now) link.old result text.new.items link.new }
+    ensures { TaskGives L.traffic (Task.WriteMemory at bytes.now) link.old result text.new.items link.new }
 {
     push_numbered(text, b"written ", bytes.len() as u16);
     write_eeprom(link, at, bytes)
@@ -80,7 +80,7 @@ fn write_memory<L: Link>(
 // Reads what the clock shows.
 fn read_clock<L: Link>(link: &mut L, text: &mut Text) -> TaskEnd
     requires { text.old.items ≡ [] }
-    ensures { Gives L.traffic Task.ReadClock link.old result text.new.items link.new }
+    ensures { TaskGives L.traffic Task.ReadClock link.old result text.new.items link.new }
 {
     let mut time = ClockTime {
         year: 1900,
@@ -99,7 +99,7 @@ fn read_clock<L: Link>(link: &mut L, text: &mut Text) -> TaskEnd
 fn set_clock<L: Link>(time: &ClockTime, link: &mut L, text: &mut Text) -> TaskEnd
     requires civil { can_be_shown time.now ≡ true }
     requires empty { text.old.items ≡ [] }
-    ensures { Gives L.traffic (Task.SetClock time.now) link.old result text.new.items link.new }
+    ensures { TaskGives L.traffic (Task.SetClock time.now) link.old result text.new.items link.new }
 {
     push_bytes(text, b"time set\n");
     set_time(link, time)
@@ -108,7 +108,7 @@ fn set_clock<L: Link>(time: &ClockTime, link: &mut L, text: &mut Text) -> TaskEn
 // Sets the period.
 fn change_period<L: Link>(period: Period, link: &mut L, text: &mut Text) -> TaskEnd
     requires { text.old.items ≡ [] }
-    ensures { Gives L.traffic (Task.SetPeriod period) link.old result text.new.items link.new }
+    ensures { TaskGives L.traffic (Task.SetPeriod period) link.old result text.new.items link.new }
 {
     push_numbered(text, b"period ", period.minutes());
     set_period(link, period)
@@ -117,7 +117,7 @@ fn change_period<L: Link>(period: Period, link: &mut L, text: &mut Text) -> Task
 // Reads which kind of station it is.
 fn read_kind<L: Link>(link: &mut L, text: &mut Text) -> TaskEnd
     requires { text.old.items ≡ [] }
-    ensures { Gives L.traffic Task.Kind link.old result text.new.items link.new }
+    ensures { TaskGives L.traffic Task.Kind link.old result text.new.items link.new }
 {
     let mut kind = 0;
     let end = station_kind(link, &mut kind);

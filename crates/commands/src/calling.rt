@@ -17,7 +17,8 @@ pub fn call_for<F: Files, K: Sink, L: Link, D: Disk>(
     outside: &mut Outside<F, K, L, D>,
 ) -> Result<Text, Ending>
     requires { CanBeMade task.now }
-    ensures { calls_for (means F.shelf K.outlet L.traffic D.medium) address.now task.now outside.old result outside.new }
+    ensures { calls_for (means F.shelf K.outlet L.traffic D.medium) address.now task.now outside.old result
+        outside.new }
 {
     connect(&mut outside.link, Side::Call, address)?;
     make_task(task, &mut outside.link)

@@ -1,7 +1,7 @@
 ghost use Rattle.std.specs.Prelude.{◌≡◌, ◌≢◌, ◌+◌, ◌*◌, ◌<◌, ◌≤◌, ◌^◌, ◌++◌, IfErr, IfOk, length};
 ghost use Rattle.arrayvec.specs.ArrayVec.{array_vec_len};
 ghost use Rattle.command_words.specs.Command.{station_names};
-ghost use Rattle.commands.specs.StationRun.{attempt_line, attempt_lines, catches_up, end_output, end_word, numbers_line, round_output};
+ghost use Rattle.commands.specs.StationRun.{attempt_line, attempt_lines, catches_up, end_output, end_word, round_numbers_line, round_output};
 ghost use Rattle.run_output.specs.Ended.{output_of};
 ghost use Rattle.run_output.specs.Output.{no_memory};
 ghost use Rattle.run_output.specs.Outside.{means};
@@ -28,7 +28,8 @@ pub fn catch_up<F: Files, K: Sink, L: Link, D: Disk>(
     outside: &mut Outside<F, K, L, D>,
 ) -> Result<Text, Ending>
     requires { D.medium.moment outside.old.disk < 2 ^ 63 }
-    ensures { catches_up (means F.shelf K.outlet L.traffic D.medium) (station_names words.now) outside.old result outside.new }
+    ensures { catches_up (means F.shelf K.outlet L.traffic D.medium)
+        (station_names words.now) outside.old result outside.new }
 {
     let settings = settle(alloc, &mut outside.files, words.settings)?;
     attach(&mut outside.disk, words.archive, true)?;
@@ -121,7 +122,7 @@ const ROUND_ROOM: usize = 200;
 fn push_round(text: &mut Text, word: &str, report: &Report)
     requires room { array_vec_len text.old + ROUND_ROOM ≤ ROOM }
     requires short { length word.now ≤ 6 }
-    ensures text { text.new.items ≡ text.old.items ++ numbers_line word.now report.now }
+    ensures text { text.new.items ≡ text.old.items ++ round_numbers_line word.now report.now }
     ensures length { array_vec_len text.new ≤ array_vec_len text.old + ROUND_ROOM }
 {
     push_bytes(text, b"round ");

@@ -21,7 +21,8 @@ pub fn print_climate<F: Files, K: Sink, L: Link, D: Disk>(
     outside: &mut Outside<F, K, L, D>,
 ) -> Result<Text, Ending>
     requires { IsInRange 1999 2127 year }
-    ensures { tells_climate (means F.shelf K.outlet L.traffic D.medium) archive.now year outside.old result outside.new }
+    ensures { tells_climate
+        (means F.shelf K.outlet L.traffic D.medium) archive.now year outside.old result outside.new }
 {
     attach(&mut outside.disk, archive, false)?;
     let book = recover(alloc, &mut outside.disk, MOST_ROWS, Purpose::Read)?;

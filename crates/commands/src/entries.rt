@@ -1,6 +1,6 @@
 ghost use Rattle.std.specs.Prelude.{◌≡◌, ◌+◌, ◌≤◌, ◌++◌, length};
 ghost use Rattle.arrayvec.specs.ArrayVec.{array_vec_len};
-ghost use Rattle.commands.specs.SoftRun.{bad_entry_text, line_of, prints_soft, streams_soft};
+ghost use Rattle.commands.specs.SoftRun.{bad_entry_text, corrected_row_line, prints_soft, streams_soft};
 ghost use Rattle.run_output.specs.Outside.{means};
 ghost use Rattle.soft_record.specs.Readings.{HasReadings};
 ghost use Rattle.station_io.specs.Files.{most_bytes};
@@ -23,7 +23,8 @@ pub fn soft_rows<F: Files, K: Sink, L: Link, D: Disk>(
     name: &str,
     outside: &mut Outside<F, K, L, D>,
 ) -> Result<Text, Ending>
-    ensures { prints_soft (means F.shelf K.outlet L.traffic D.medium) settings.now name.now outside.old result outside.new }
+    ensures { prints_soft
+        (means F.shelf K.outlet L.traffic D.medium) settings.now name.now outside.old result outside.new }
 {
     let settings = settle(alloc, &mut outside.files, settings)?;
     let file = read(alloc, &mut outside.files, name)?;
@@ -65,7 +66,7 @@ fn print_rows<K: Sink>(settings: &Settings, file: &[u8], out: &mut K) -> Result<
 fn push_row(text: &mut Text, settings: &Settings, row: &Row)
     requires room { array_vec_len text.old + PAGE_ROOM ≤ ROOM }
     requires readings { HasReadings row.now }
-    ensures { text.new.items ≡ text.old.items ++ line_of settings.now row.now }
+    ensures { text.new.items ≡ text.old.items ++ corrected_row_line settings.now row.now }
 {
     push_bytes(text, &corrected(settings, row).line());
 }

@@ -29,7 +29,8 @@ pub fn corrected_pages<F: Files, K: Sink, L: Link, D: Disk>(
     name: &str,
     outside: &mut Outside<F, K, L, D>,
 ) -> Result<Text, Ending>
-    ensures { prints_corrected (means F.shelf K.outlet L.traffic D.medium) settings.now name.now outside.old result outside.new }
+    ensures { prints_corrected
+        (means F.shelf K.outlet L.traffic D.medium) settings.now name.now outside.old result outside.new }
 {
     let settings = settle(alloc, &mut outside.files, settings)?;
     let file = read(alloc, &mut outside.files, name)?;

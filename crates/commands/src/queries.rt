@@ -1,5 +1,5 @@
 ghost use Rattle.std.specs.Prelude.{◌≡◌};
-ghost use Rattle.commands.specs.AnswerRun.{answered, answers_over, queries_line};
+ghost use Rattle.commands.specs.AnswerRun.{requests_answered, answers_over, queries_line};
 ghost use Rattle.run_output.specs.Outside.{means};
 
 use crate::recovering::recover;
@@ -25,7 +25,8 @@ pub fn answer_requests<F: Files, K: Sink, L: Link, D: Disk>(
     turns: u32,
     outside: &mut Outside<F, K, L, D>,
 ) -> Result<Text, Ending>
-    ensures { answers_over (means F.shelf K.outlet L.traffic D.medium) archive.now address.now turns outside.old result outside.new }
+    ensures { answers_over
+        (means F.shelf K.outlet L.traffic D.medium) archive.now address.now turns outside.old result outside.new }
 {
     attach(&mut outside.disk, archive, false)?;
     let book = recover(alloc, &mut outside.disk, MOST_ROWS, Purpose::Read)?;
@@ -40,7 +41,7 @@ fn answer_all<L: Link, D: Disk>(
     disk: &mut D,
     link: &mut L,
 ) -> Result<Text, Ending>
-    ensures { answered L.traffic D.medium book.now turns link.old disk.old result link.new disk.new }
+    ensures { requests_answered L.traffic D.medium book.now turns link.old disk.old result link.new disk.new }
 {
     let mut count = Queries { lines: 0 };
     match answer_queries(book, disk, link, turns, &mut count) {

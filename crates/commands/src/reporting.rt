@@ -6,7 +6,7 @@ ghost use Rattle.disk_model.specs.Disk.{Faults, Stays};
 ghost use Rattle.run_output.specs.Ended.{output_of};
 ghost use Rattle.run_output.specs.Outside.{means};
 ghost use Rattle.station_base.specs.declared.row.Row.{Row};
-ghost use Rattle.weather_book.specs.Book.{StandsFor};
+ghost use Rattle.weather_book.specs.Book.{BookStandsFor};
 ghost use Rattle.weather_book.specs.Stands.{StandsToReadOn};
 ghost use Rattle.weather_reports.specs.Reported.{ReadsOver, Reports};
 
@@ -30,7 +30,8 @@ pub fn report<F: Files, K: Sink, L: Link, D: Disk>(
     wanted: &Wanted,
     outside: &mut Outside<F, K, L, D>,
 ) -> Result<Text, Ending>
-    ensures { reports_on (means F.shelf K.outlet L.traffic D.medium) archive.now wanted.now outside.old result outside.new }
+    ensures { reports_on (means F.shelf K.outlet L.traffic D.medium) archive.now wanted.now outside.old result
+        outside.new }
 {
     attach(&mut outside.disk, archive, false)?;
     let book = recover(alloc, &mut outside.disk, MOST_ROWS, Purpose::Read)?;
@@ -60,7 +61,7 @@ fn write_report<D: Disk, K: Sink>(
         → WhereTold (D.medium.seen disk.old) (λ _. Reports (K.outlet.taken out.old) (K.outlet.taken out.new)
         (lines_wanted wanted.now rows) result) }
     ensures stays { Stays D.medium disk.old disk.new }
-    ensures went { (rows : List Row) → StandsFor book.now rows → ReadsOver D.medium rows result disk.old disk.new }
+    ensures went { (rows : List Row) → BookStandsFor book.now rows → ReadsOver D.medium rows result disk.old disk.new }
     ensures disk_fault { Faults D.medium disk.old disk.new (result ≡ ReportEnd.DiskFault) }
     ensures write_fault { Cause (K.outlet.faults out.old) (K.outlet.faults out.new) (result ≡ ReportEnd.WriteFault) }
     ensures sink_still { result ≢ ReportEnd.WriteFault → K.outlet.faults out.new ≡ K.outlet.faults out.old }

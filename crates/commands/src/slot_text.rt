@@ -1,6 +1,6 @@
 ghost use Rattle.std.specs.Prelude.{◌≡◌, ◌+◌, ◌<◌, ◌≤◌, ◌++◌};
 ghost use Rattle.arrayvec.specs.ArrayVec.{array_vec_len};
-ghost use Rattle.commands.specs.SlotText.{slot_line, place_text};
+ghost use Rattle.commands.specs.SlotText.{slot_line, slot_place_text};
 ghost use Rattle.commands.specs.StyleRead.{style_of};
 
 use crate::style::Style;
@@ -42,7 +42,7 @@ pub fn push_slot(text: &mut Text, page: u32, place: u8, style: &Style<'_>, slot:
 fn push_place(text: &mut Text, page: u32, place: u8)
     requires place { place < SLOTS }
     requires room { array_vec_len text.old + 32 ≤ ROOM }
-    ensures text { text.new.items ≡ text.old.items ++ place_text page place }
+    ensures text { text.new.items ≡ text.old.items ++ slot_place_text page place }
     ensures length { array_vec_len text.new ≤ array_vec_len text.old + 32 }
 {
     push_bytes(text, b"page ");

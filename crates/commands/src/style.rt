@@ -1,9 +1,9 @@
 ghost use Rattle.std.specs.Prelude.{◌≡◌, ◌+◌, ◌≤◌, ◌++◌, None, codes, slice_index_or};
 ghost use Rattle.arrayvec.specs.ArrayVec.{array_vec_len};
 ghost use Rattle.station_base.specs.Stamp.{stamp_text};
-ghost use Rattle.archive_record.specs.Reading.{row_in, values_in};
+ghost use Rattle.archive_record.specs.Reading.{row_of_record, record_values};
 ghost use Rattle.commands.specs.SlotText.{row_text, temperature_text};
-ghost use Rattle.commands.specs.Style.{period_of};
+ghost use Rattle.commands.specs.Style.{style_period};
 
 use archive_record::{RECORD_SIZE, row_in, value_in};
 use quality::corrected;
@@ -30,7 +30,8 @@ impl<'a> Style<'a> {
     pub fn push_record(&self, text: &mut Text, stamp: Stamp, bytes: &[u8; RECORD_SIZE])
         requires room { array_vec_len text.old + LINE_ROOM ≤ ROOM }
         ensures line { text.new.items
-            ≡ text.old.items ++ row_text (style_of self.now) (row_in bytes.now (period_of (style_of self.now)) stamp) }
+            ≡ text.old.items ++ row_text (style_of self.now)
+            (row_of_record bytes.now (style_period (style_of self.now)) stamp) }
         ensures length { array_vec_len text.new ≤ array_vec_len text.old + LINE_ROOM }
     {
         match self {
@@ -45,7 +46,7 @@ impl<'a> Style<'a> {
 
 // What a record tells of the outside temperature.
 fn outside_temperature(bytes: &[u8; RECORD_SIZE]) -> Option<i32>
-    ensures { result ≡ slice_index_or (values_in bytes.now) 0 None }
+    ensures { result ≡ slice_index_or (record_values bytes.now) 0 None }
 {
     value_in(bytes, FieldId::from_index(OUTSIDE_TEMPERATURE).unwrap())
 }

@@ -6,8 +6,8 @@ use Rattle.console_ring.specs.declared.plan.Plan.{Plan}
 use Rattle.console_model.specs.declared.frame.FrameKind.{FrameKind}
 use Rattle.console_model.specs.declared.signal.Signal.TheVariants.{Other}
 use Rattle.console_model.specs.Console.{Console}
-use Rattle.console_model.specs.Console.State.{Command, Frame, Dump}
-use Rattle.console_model.specs.Hear.{hear, sends}
+use Rattle.console_model.specs.Console.ConsoleState.{Command, Frame, Dump}
+use Rattle.console_model.specs.Hear.{hear, sends_page}
 use Rattle.console_model.specs.Laws.{SendsPage, EndsDump}
 use Rattle.console_model.specs.Reading.{signal}
 use Rattle.console_model.specs.Tick.{tick}
@@ -19,7 +19,7 @@ frame_left k kind got at two = rw (at, two) refl
 pub sends_next : (k : Console) (p : Plan) (sent : ℕ) → k.state ≡ Dump p sent → sent < p.pages → SendsPage k p sent (hear k 6)
 sends_next k p sent at below = rw (at, lt-ltb sent p.pages below) (record { kind = refl; bytes = refl; state = refl })
 
-present : (p : Plan) (m n : ℕ) (k : Console) → m ≡ n → SendsPage k p n (sends p m k)
+present : (p : Plan) (m n : ℕ) (k : Console) → m ≡ n → SendsPage k p n (sends_page p m k)
 present p m n k same = rw same (record { kind = refl; bytes = refl; state = refl })
 
 pub sends_again : (k : Console) (p : Plan) (n b : ℕ) → k.state ≡ Dump p (n + 1) → (b ≡ 21) ⊎ (b ≡ 33) → SendsPage k p n (hear k b)

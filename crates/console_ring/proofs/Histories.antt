@@ -11,9 +11,9 @@ use Rattle.circular_buffer.proofs.Places.{slice_get-drop}
 use Rattle.station_base.specs.CivilMinute.{CivilMinute, minute_of}
 use Rattle.station_base.specs.LastStamp.{CanFollow}
 use Rattle.archive_record.specs.Reading.{stamp_in}
-use Rattle.console_ring.specs.History.{retained, newest_of, CanExtend, IsHistory, ring_size}
-use Rattle.console_ring.specs.Picture.{last_in, slot_of}
-use Rattle.console_ring.specs.Standing.{Kept, StandsFor}
+use Rattle.console_ring.specs.History.{retained, newest_stamp, CanExtend, IsHistory, ring_size}
+use Rattle.console_ring.specs.Picture.{last_number_in, ring_slot}
+use Rattle.console_ring.specs.Standing.{KeptRecords, RingStandsFor}
 
 pub retained_push : (history : List (List ℕ)) (bytes : List ℕ) → keep_last ring_size (retained history ++ bytes ∷ []) ≡ retained (history ++ bytes ∷ [])
 retained_push history bytes =
@@ -39,19 +39,19 @@ item_behind more items behind = if more then slice_get items (length items - beh
 
 -- what a ring has so many behind its last record is what was put last in a slot
 pub slot_kept : (records : List (List ℕ)) (next number behind : ℕ) (history : List (List ℕ)) →
-    StandsFor (record { records = records; next_slot = next }) history → number < ring_size → behind ≡ (next + ring_size - 1 - number) % ring_size →
-    item_behind (nat_lt behind (length records)) records behind ≡ slot_of history number
+    RingStandsFor (record { records = records; next_slot = next }) history → number < ring_size → behind ≡ (next + ring_size - 1 - number) % ring_size →
+    item_behind (nat_lt behind (length records)) records behind ≡ ring_slot history number
 slot_kept records next number behind history stands small is =
     ap (λ items. item_behind (nat_lt behind (length items)) items behind) stands.records ∙ by_put (nat_lt number (length history)) refl
   where
     by_put : (put : Bool) → nat_lt number (length history) ≡ put →
-        item_behind (nat_lt behind (length (retained history))) (retained history) behind ≡ (if put then slice_get history (last_in (length history) number) else None)
+        item_behind (nat_lt behind (length (retained history))) (retained history) behind ≡ (if put then slice_get history (last_number_in (length history) number) else None)
     by_put true test =
         let long = length-drop (length history - ring_size) history in
         let put : number < length history = ltb-true number (length history) test in
         let within : behind < length (retained history) = omega (arith, long, put, stands.next_slot, small, is) in
         ap (λ more. item_behind more (retained history) behind) (lt-ltb behind (length (retained history)) within)
-        ∙ slice_get-drop (length history - ring_size) history (length (retained history) - behind - 1) (last_in (length history) number) (omega (arith, long, put, stands.next_slot, small, is, within))
+        ∙ slice_get-drop (length history - ring_size) history (length (retained history) - behind - 1) (last_number_in (length history) number) (omega (arith, long, put, stands.next_slot, small, is, within))
     by_put false test =
         let long = length-drop (length history - ring_size) history in
         let unput : length history ≤ number = grind (arith, nat_tests, test) in
@@ -76,12 +76,12 @@ rises_push history bytes rises follows i none within =
 next_push : (next long : ℕ) → next ≡ long % ring_size → (next + 1) % ring_size ≡ (long + 1) % ring_size
 next_push next long is = omega (arith, is)
 
-kept : List (List ℕ) → ℕ → Kept
+kept : List (List ℕ) → ℕ → KeptRecords
 kept records next = record { records = records; next_slot = next }
 
 pub appended : (records more : List (List ℕ)) (next capacity : ℕ) (history : List (List ℕ)) (bytes : List ℕ) →
-    StandsFor (record { records = records; next_slot = next }) history → CanExtend history bytes → capacity ≡ ring_size → more ≡ keep_last capacity (records ++ bytes ∷ []) →
-    StandsFor (record { records = more; next_slot = (next + 1) % ring_size }) (history ++ bytes ∷ [])
+    RingStandsFor (record { records = records; next_slot = next }) history → CanExtend history bytes → capacity ≡ ring_size → more ≡ keep_last capacity (records ++ bytes ∷ []) →
+    RingStandsFor (record { records = more; next_slot = (next + 1) % ring_size }) (history ++ bytes ∷ [])
 appended records more next capacity history bytes stands follows size is = record {
   records = is ∙ ap (λ n. keep_last n (records ++ bytes ∷ [])) size ∙ ap (λ xs. keep_last ring_size (xs ++ bytes ∷ [])) stands.records ∙ retained_push history bytes;
   next_slot = next_push next (length history) stands.next_slot ∙ ap (λ n. n % ring_size) (sym (length-append history (bytes ∷ [])));
@@ -99,9 +99,9 @@ above_some : (newest : Option CivilMinute) (last stamp : CivilMinute) → newest
 above_some newest last stamp is above = rw is above
 
 -- any record can be the first, and one with a later stamp can follow
-pub first_follows : (history : List (List ℕ)) (bytes : List ℕ) (stamp : CivilMinute) → stamp_in bytes ≡ Some stamp → newest_of history ≡ None → CanExtend history bytes
-first_follows history bytes stamp is empty = followed (newest_of history) (stamp_in bytes) stamp is (above_none (newest_of history) stamp empty)
+pub first_follows : (history : List (List ℕ)) (bytes : List ℕ) (stamp : CivilMinute) → stamp_in bytes ≡ Some stamp → newest_stamp history ≡ None → CanExtend history bytes
+first_follows history bytes stamp is empty = followed (newest_stamp history) (stamp_in bytes) stamp is (above_none (newest_stamp history) stamp empty)
 
-pub later_follows : (history : List (List ℕ)) (bytes : List ℕ) (stamp last : CivilMinute) → stamp_in bytes ≡ Some stamp → newest_of history ≡ Some last →
+pub later_follows : (history : List (List ℕ)) (bytes : List ℕ) (stamp last : CivilMinute) → stamp_in bytes ≡ Some stamp → newest_stamp history ≡ Some last →
     minute_of last < minute_of stamp → CanExtend history bytes
-later_follows history bytes stamp last is newest above = followed (newest_of history) (stamp_in bytes) stamp is (above_some (newest_of history) last stamp newest above)
+later_follows history bytes stamp last is newest above = followed (newest_stamp history) (stamp_in bytes) stamp is (above_some (newest_stamp history) last stamp newest above)

@@ -11,8 +11,8 @@ use Rattle.station_base.proofs.Civil.{stamp_civil}
 use Rattle.station_base.proofs.WordOrder.{words_exceed_when_later}
 use Rattle.archive_record.specs.Kind.{word_at}
 use Rattle.archive_record.specs.Reading.{stamp_in}
-use Rattle.console_ring.specs.History.{retained, newest_of, IsHistory, is_newer, newer, ring_size}
-use Rattle.console_ring.specs.Picture.{last_in, plan_by, plan_from, plan_of, plan_of_last, IsLastIn}
+use Rattle.console_ring.specs.History.{retained, newest_stamp, IsHistory, record_is_newer, newer, ring_size}
+use Rattle.console_ring.specs.Picture.{last_number_in, plan_by, plan_from, plan_of, plan_of_last, IsLastIn}
 use Rattle.console_ring.proofs.Words.{stamp_words}
 
 -- behind one that passes stands one that passes
@@ -62,7 +62,7 @@ got (r ∷ rs) zero none within = refl
 got (r ∷ rs) (suc i) none within = got rs i none (omega arith)
 
 -- the newest of the first records is the stamp of the last of them
-pub newest_taken : (h : List (List ℕ)) (i : ℕ) (none : List ℕ) → i < length h → newest_of (take (suc i) h) ≡ stamp_in (get_or h i none)
+pub newest_taken : (h : List (List ℕ)) (i : ℕ) (none : List ℕ) → i < length h → newest_stamp (take (suc i) h) ≡ stamp_in (get_or h i none)
 newest_taken h i none within =
     let at : length (take (suc i) h) - 1 ≡ i = omega (arith, length-take (suc i) h) in
     ap (λ (k : ℕ). option_and_then stamp_in (slice_get (take (suc i) h) k)) at ∙ ap (λ (o : Option (List ℕ)). option_and_then stamp_in o) (got h i none within)
@@ -70,7 +70,7 @@ newest_taken h i none within =
 exceed_on : (d t e u f v : ℕ) → words_exceed d t e u ≡ true → words_exceed e u f v ≡ true → words_exceed d t f v ≡ true
 exceed_on d t e u f v first next = grind (arith, nat_tests, first, next)
 
-newer_on : (date time : ℕ) (a b : List ℕ) (m s : CivilMinute) → stamp_in a ≡ Some m → stamp_in b ≡ Some s → minute_of m < minute_of s → is_newer date time a ≡ true → is_newer date time b ≡ true
+newer_on : (date time : ℕ) (a b : List ℕ) (m s : CivilMinute) → stamp_in a ≡ Some m → stamp_in b ≡ Some s → minute_of m < minute_of s → record_is_newer date time a ≡ true → record_is_newer date time b ≡ true
 newer_on date time a b m s a_is b_is later is =
     let aw = stamp_words a m a_is in
     let bw = stamp_words b s b_is in
@@ -81,7 +81,7 @@ newer_on date time a b m s a_is b_is later is =
     exceed_on date time (word_at a 0) (word_at a 2) (word_at b 0) (word_at b 2) is there
 
 newer_next : (date time : ℕ) (a b : List ℕ) (last next : Option CivilMinute) → stamp_in a ≡ last → stamp_in b ≡ next → IsSomeAnd last (λ s. Unit {0}) →
-    CanFollow last next → is_newer date time a ≡ true → is_newer date time b ≡ true
+    CanFollow last next → record_is_newer date time a ≡ true → record_is_newer date time b ≡ true
 newer_next date time a b None next a_is b_is some later is = absurd some
 newer_next date time a b (Some m) None a_is b_is some later is = absurd later
 newer_next date time a b (Some m) (Some s) a_is b_is some later is = newer_on date time a b m s a_is b_is later is
@@ -91,38 +91,38 @@ has_stamp None newest is = absurd is
 has_stamp (Some s) newest is = tt
 
 newer_goes_on : (h : List (List ℕ)) (date time : ℕ) → IsHistory h → (i : ℕ) (none : List ℕ) → suc i < length h →
-    is_newer date time (get_or h i none) ≡ true → is_newer date time (get_or h (suc i) none) ≡ true
+    record_is_newer date time (get_or h i none) ≡ true → record_is_newer date time (get_or h (suc i) none) ≡ true
 newer_goes_on h date time rises i none within is =
     let before : i < length h = omega arith in
     let a = get_or h i none in
     let b = get_or h (suc i) none in
     newer_next date time a b (stamp_in a) (stamp_in b) refl refl
-    (has_stamp (stamp_in a) (newest_of (take i h)) (rises i none before))
+    (has_stamp (stamp_in a) (newest_stamp (take i h)) (rises i none before))
     (subst (λ (o : Option CivilMinute). CanFollow o (stamp_in b)) (newest_taken h i none before) (rises (suc i) none within))
     is
 
-upward_retained : (h : List (List ℕ)) (date time : ℕ) → IsHistory h → Upward (is_newer date time) (retained h)
+upward_retained : (h : List (List ℕ)) (date time : ℕ) → IsHistory h → Upward (record_is_newer date time) (retained h)
 upward_retained h date time rises =
     let k = length h - ring_size in
-    let test = is_newer date time in
+    let test = record_is_newer date time in
     upward test (retained h) (λ i none within is.
     subst (λ (r : List ℕ). test r ≡ true) (sym (get_or-drop k h (suc i) none))
     (subst (λ (n : ℕ). test (get_or h n none) ≡ true) (omega arith)
     (newer_goes_on h date time rises (k + i) none (omega (arith, length-drop k h)) (subst (λ (r : List ℕ). test r ≡ true) (get_or-drop k h i none) is))))
 
 -- how many are newer
-count_newer : (h : List (List ℕ)) (date time : ℕ) → IsHistory h → length (newer date time (retained h)) ≡ length (retained h) - position_or_len (is_newer date time) (retained h)
+count_newer : (h : List (List ℕ)) (date time : ℕ) → IsHistory h → length (newer date time (retained h)) ≡ length (retained h) - position_or_len (record_is_newer date time) (retained h)
 count_newer h date time rises =
-    let p = position_or_len (is_newer date time) (retained h) in
-    ap (λ (l : List (List ℕ)). length l) (from_first (is_newer date time) (retained h) (upward_retained h date time rises)) ∙ length-drop p (retained h)
+    let p = position_or_len (record_is_newer date time) (retained h) in
+    ap (λ (l : List (List ℕ)). length l) (from_first (record_is_newer date time) (retained h) (upward_retained h date time rises)) ∙ length-drop p (retained h)
 
 pub newer_last : (h : List (List ℕ)) (date time : ℕ) → IsHistory h → newer date time (retained h) ≡ drop (length h - length (newer date time (retained h))) h
 newer_last h date time rises =
     let k = length h - ring_size in
-    let p = position_or_len (is_newer date time) (retained h) in
+    let p = position_or_len (record_is_newer date time) (retained h) in
     let at : k + p ≡ length h - length (newer date time (retained h)) =
-    omega (arith, count_newer h date time rises, length-drop k h, position_within (is_newer date time) (retained h)) in
-    from_first (is_newer date time) (retained h) (upward_retained h date time rises) ∙ drop-drop p k h ∙ ap (λ (n : ℕ). drop n h) at
+    omega (arith, count_newer h date time rises, length-drop k h, position_within (record_is_newer date time) (retained h)) in
+    from_first (record_is_newer date time) (retained h) (upward_retained h date time rises) ∙ drop-drop p k h ∙ ap (λ (n : ℕ). drop n h) at
 
 by_place : (b : Bool) (p len count n : ℕ) → nat_lt p len ≡ b → p ≤ len → n ≡ len - p → len ≡ count - (count - ring_size) → plan_by (if b then Some p else None) (count - ring_size) count ≡ plan_of_last n count
 by_place true p len count zero less within is long = absurd (grind (arith, nat_tests, less, is, within))
@@ -135,12 +135,12 @@ by_place false p len count (suc more) less within is long = absurd (grind (arith
 pub plan_newer : (h : List (List ℕ)) (date time : ℕ) → IsHistory h → plan_of h date time ≡ plan_of_last (length (newer date time (retained h))) (length h)
 unfolding plan_of
 plan_newer h date time rises =
-    let p = position_or_len (is_newer date time) (retained h) in
+    let p = position_or_len (record_is_newer date time) (retained h) in
     by_place (nat_lt p (length (retained h))) p (length (retained h)) (length h) (length (newer date time (retained h))) refl
-    (position_within (is_newer date time) (retained h)) (count_newer h date time rises) (length-drop (length h - ring_size) h)
+    (position_within (record_is_newer date time) (retained h)) (count_newer h date time rises) (length-drop (length h - ring_size) h)
 
 -- the last number in a slot
-pub last_number : (count slot : ℕ) → slot < ring_size → slot < count → IsLastIn count slot (last_in count slot)
+pub last_number : (count slot : ℕ) → slot < ring_size → slot < count → IsLastIn count slot (last_number_in count slot)
 last_number count slot small within = record {
   below = omega arith;
   slot_is = omega arith;

@@ -6,7 +6,7 @@ use borrow.Rule.Slice.PartMut.{put_mid}
 use Rattle.crc_ccitt.specs.Check.{sealed, check_bytes}
 use Rattle.vantage_frames.specs.Slots.{slot_at, page_size}
 use Rattle.console_ring.specs.declared.plan.Plan.{Plan}
-use Rattle.console_ring.specs.Picture.{shown, slot_of, slot_on, slots_before, page_of}
+use Rattle.console_ring.specs.Picture.{shown, ring_slot, slot_on, slots_before, page_of}
 use Rattle.console_ring.specs.History.{ring_pages}
 
 -- a page has its sequence and the slots below a place, and else 0xFF
@@ -67,7 +67,7 @@ room page place start size long below from all =
     omega (arith, taken, dropped, long, from, all)
 
 pub same_slot : (history : List (List ℕ)) (plan : Plan) (first_page k page place at : ℕ) → first_page ≡ plan.first_page → page ≡ k → at ≡ place →
-    shown (slot_of history (5 * ((first_page + page) % ring_pages) + at)) ≡ slot_on history plan k place
+    shown (ring_slot history (5 * ((first_page + page) % ring_pages) + at)) ≡ slot_on history plan k place
 same_slot history plan first_page k page place at e f g = rw (e, f, g) refl
 
 -- slots of one size stand where their places say

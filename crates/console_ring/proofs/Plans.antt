@@ -2,9 +2,9 @@
 use Rattle.std.proofs.Common.{◌≡◌, ℕ, ◌+◌, ◌-◌, ◌/◌, ◌%◌, ◌≤◌, List, length, refl, sym, ap, ◌∙◌, arith, length-drop, Option, Some, None}
 use Rattle.std.specs.Prelude.{position, option_map}
 use Rattle.console_ring.specs.declared.plan.Plan.{Plan}
-use Rattle.console_ring.specs.History.{retained, is_newer, ring_size}
+use Rattle.console_ring.specs.History.{retained, record_is_newer, ring_size}
 use Rattle.console_ring.specs.Picture.{no_plan, plan_by, plan_of}
-use Rattle.console_ring.specs.Standing.{Kept, StandsFor}
+use Rattle.console_ring.specs.Standing.{KeptRecords, RingStandsFor}
 
 -- the plan of so many records, where the next one goes in this slot
 abbrev pub made_plan : ℕ → ℕ → Plan
@@ -37,17 +37,17 @@ plan_some (Some place) next total long count is some all after =
     ap (λ slot. of_numbers (count - 1) slot) (same_slot next total long place count left some all after)
     ∙ ap (λ n. of_numbers n ((total - ring_size + place) % ring_size)) (same_left total long place count left some all)
 
-pub without : (ring : Kept) (history : List (List ℕ)) (date time : ℕ) → StandsFor ring history →
-    option_map (λ place. length ring.records - place) (position (is_newer date time) ring.records) ≡ None → no_plan ≡ plan_of history date time
+pub without : (ring : KeptRecords) (history : List (List ℕ)) (date time : ℕ) → RingStandsFor ring history →
+    option_map (λ place. length ring.records - place) (position (record_is_newer date time) ring.records) ≡ None → no_plan ≡ plan_of history date time
 unfolding plan_of
 without ring history date time stands is =
-    let found = ap (λ xs. option_map (λ place. length xs - place) (position (is_newer date time) xs)) stands.records in
-    sym (plan_none (position (is_newer date time) (retained history)) (length history - ring_size) (length history) (length (retained history)) (sym found ∙ is))
+    let found = ap (λ xs. option_map (λ place. length xs - place) (position (record_is_newer date time) xs)) stands.records in
+    sym (plan_none (position (record_is_newer date time) (retained history)) (length history - ring_size) (length history) (length (retained history)) (sym found ∙ is))
 
-pub with_records : (ring : Kept) (history : List (List ℕ)) (date time next count : ℕ) → StandsFor ring history → next ≡ length history % ring_size →
-    option_map (λ place. length ring.records - place) (position (is_newer date time) ring.records) ≡ Some count → 1 ≤ count →
+pub with_records : (ring : KeptRecords) (history : List (List ℕ)) (date time next count : ℕ) → RingStandsFor ring history → next ≡ length history % ring_size →
+    option_map (λ place. length ring.records - place) (position (record_is_newer date time) ring.records) ≡ Some count → 1 ≤ count →
     made_plan next count ≡ plan_of history date time
 unfolding plan_of
 with_records ring history date time next count stands after is some =
-    let found = ap (λ xs. option_map (λ place. length xs - place) (position (is_newer date time) xs)) stands.records in
-    plan_some (position (is_newer date time) (retained history)) next (length history) (length (retained history)) count (sym found ∙ is) some (length-drop (length history - ring_size) history) after
+    let found = ap (λ xs. option_map (λ place. length xs - place) (position (record_is_newer date time) xs)) stands.records in
+    plan_some (position (record_is_newer date time) (retained history)) next (length history) (length (retained history)) count (sym found ∙ is) some (length-drop (length history - ring_size) history) after

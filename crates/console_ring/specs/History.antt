@@ -24,20 +24,20 @@ abbrev pub retained : List (List ℕ) → List (List ℕ)
 retained history = drop (length history - ring_size) history
 
 -- the words of a record's stamp exceed these: the date word does, or it is equal and the time word does
-abbrev pub is_newer : ℕ → ℕ → List ℕ → Bool
-is_newer date time bytes = words_exceed date time (word_at bytes 0) (word_at bytes 2)
+abbrev pub record_is_newer : ℕ → ℕ → List ℕ → Bool
+record_is_newer date time bytes = words_exceed date time (word_at bytes 0) (word_at bytes 2)
 
 -- the records newer than these words, in order (this project's profile)
 abbrev pub newer : ℕ → ℕ → List (List ℕ) → List (List ℕ)
-newer date time records = filter (is_newer date time) records
+newer date time records = filter (record_is_newer date time) records
 
 -- the stamp of the last record
-abbrev pub newest_of : List (List ℕ) → Option CivilMinute
-newest_of history = option_and_then stamp_in (last_item history)
+abbrev pub newest_stamp : List (List ℕ) → Option CivilMinute
+newest_stamp history = option_and_then stamp_in (last_item history)
 
 -- a record can extend a history: its stamp can follow the newest
 abbrev pub CanExtend : List (List ℕ) → List ℕ → Type 0
-CanExtend history bytes = CanFollow (newest_of history) (stamp_in bytes)
+CanExtend history bytes = CanFollow (newest_stamp history) (stamp_in bytes)
 
 -- its stamp does not exceed this one
 abbrev pub IsNotAfter : CivilMinute → List ℕ → Type 0

@@ -6,11 +6,11 @@ use Rattle.std.specs.Prelude.{length, replicate, if◌then◌else◌, nat_lt, sl
 use Rattle.std.specs.declared.option.Option.{Option}
 use Rattle.crc_ccitt.specs.Check.{sealed}
 use Rattle.console_ring.specs.declared.plan.Plan.{Plan}
-use Rattle.console_ring.specs.History.{retained, is_newer, ring_size, ring_pages}
+use Rattle.console_ring.specs.History.{retained, record_is_newer, ring_size, ring_pages}
 
 -- the greatest number below the count that stands in a slot, numbers being counted from 0
-abbrev pub last_in : ℕ → ℕ → ℕ
-last_in count slot = slot + ring_size * ((count - 1 - slot) / ring_size)
+abbrev pub last_number_in : ℕ → ℕ → ℕ
+last_number_in count slot = slot + ring_size * ((count - 1 - slot) / ring_size)
 
 -- It is the greatest number below the count of a record that goes into this slot.
 pub record IsLastIn (count slot number : ℕ) : Type 0 where
@@ -19,9 +19,9 @@ pub record IsLastIn (count slot number : ℕ) : Type 0 where
   pub greatest : (other : ℕ) → other < count → other % ring_size ≡ slot → other ≤ number
 
 -- the last record that was put in a slot, if one was
-abbrev pub slot_of : List (List ℕ) → ℕ → Option (List ℕ)
-slot_of history slot =
-    if nat_lt slot (length history) then slice_get history (last_in (length history) slot) else None
+abbrev pub ring_slot : List (List ℕ) → ℕ → Option (List ℕ)
+ring_slot history slot =
+    if nat_lt slot (length history) then slice_get history (last_number_in (length history) slot) else None
 
 -- the bytes of a slot, all 0xFF where none was written
 abbrev pub shown : Option (List ℕ) → List ℕ
@@ -53,11 +53,11 @@ plan_by (Some place) overwritten count = plan_from (overwritten + place) count
 -- the dump of all that is retained from the first record on that is newer than these words
 unfoldable pub plan_of : List (List ℕ) → ℕ → ℕ → Plan
 plan_of history date time =
-    plan_by (position (is_newer date time) (retained history)) (length history - ring_size) (length history)
+    plan_by (position (record_is_newer date time) (retained history)) (length history - ring_size) (length history)
 
 -- the bytes at a place of a page of a dump
 abbrev pub slot_on : List (List ℕ) → Plan → ℕ → ℕ → List ℕ
-slot_on history plan page place = shown (slot_of history (5 * ((plan.first_page + page) % ring_pages) + place))
+slot_on history plan page place = shown (ring_slot history (5 * ((plan.first_page + page) % ring_pages) + place))
 
 -- those below a place, one behind the other
 unfoldable pub slots_before : (ℕ → List ℕ) → ℕ → List ℕ

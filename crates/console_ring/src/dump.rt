@@ -4,7 +4,7 @@ ghost use Rattle.vantage_frames.specs.Header.{CanBegin};
 ghost use Rattle.vantage_frames.specs.Slots.{slot_at};
 ghost use Rattle.console_ring.specs.History.{newer, retained};
 ghost use Rattle.console_ring.specs.Picture.{plan_of, plan_of_last, slot_on, page_of};
-ghost use Rattle.console_ring.specs.Standing.{StandsFor};
+ghost use Rattle.console_ring.specs.Standing.{RingStandsFor};
 
 use crate::plan::Plan;
 use crate::ring::{Ring, SLOT_COUNT};
@@ -30,8 +30,8 @@ impl Ring {
     /// The words are those of a stamp, or 0 and 0 for all records. That newer is told by these words is this project's
     /// profile.
     pub fn plan_after(&self, date: u16, time: u16) -> Plan
-        ensures plan { (history : List (List ℕ)) → StandsFor self.now history → result ≡ plan_of history date time }
-        ensures newer { (history : List (List ℕ)) → StandsFor self.now history
+        ensures plan { (history : List (List ℕ)) → RingStandsFor self.now history → result ≡ plan_of history date time }
+        ensures newer { (history : List (List ℕ)) → RingStandsFor self.now history
             → result ≡ plan_of_last (length (newer date time (retained history))) (length history) }
         ensures range { CanBegin result.pages result.place }
     {
@@ -52,8 +52,9 @@ impl Ring {
     /// The page is of the ring as it is now, which is that of the plan as long as nothing was put since.
     pub fn page(&self, plan: &Plan, k: u16) -> [u8; PAGE_SIZE]
         requires { k < plan.now.pages }
-        ensures page { (history : List (List ℕ)) → StandsFor self.now history → result ≡ page_of history plan.now k }
-        ensures slots { (history : List (List ℕ)) → StandsFor self.now history
+        ensures page { (history : List (List ℕ)) → RingStandsFor self.now history
+            → result ≡ page_of history plan.now k }
+        ensures slots { (history : List (List ℕ)) → RingStandsFor self.now history
             → (place : ℕ) → place < SLOTS → slot_at result place ≡ slot_on history plan.now k place }
         ensures good { check result ≡ 0 }
     {

@@ -1,7 +1,7 @@
 ghost use Rattle.std.specs.Prelude.{ℕ, ◌≡◌, ◌+◌, ◌-◌, ◌%◌, ◌<◌, ◌≤◌, List, [], ◌∷◌, ◌++◌, length, position, option_map, IfOk, IfSome};
-ghost use Rattle.console_ring.specs.History.{newest_of, CanExtend, is_newer, ring_size};
-ghost use Rattle.console_ring.specs.Picture.{slot_of, shown};
-ghost use Rattle.console_ring.specs.Standing.{StandsFor, Puts};
+ghost use Rattle.console_ring.specs.History.{newest_stamp, CanExtend, record_is_newer, ring_size};
+ghost use Rattle.console_ring.specs.Picture.{ring_slot, shown};
+ghost use Rattle.console_ring.specs.Standing.{RingStandsFor, Puts};
 
 use crate::newer::first_newer;
 use crate::put::RingPut;
@@ -32,9 +32,9 @@ pub struct Ring {
 impl Model for Ring {
     ghost use Rattle.std.specs.Prelude.{◌≡◌, ◌<◌, ◌≤◌, length};
     ghost use Rattle.console_ring.specs.History.{ring_size};
-    ghost use Rattle.console_ring.specs.Standing.{Kept};
+    ghost use Rattle.console_ring.specs.Standing.{KeptRecords};
 
-    ghost Value = { Kept };
+    ghost Value = { KeptRecords };
 
     ghost view = { λ ring. record { records = ring.records.items; next_slot = ring.next_slot } };
 
@@ -45,7 +45,7 @@ impl Model for Ring {
 impl Ring {
     /// An empty ring. It takes all the memory that a ring ever takes.
     pub fn new(alloc: Global) -> Result<Ring, OutOfMemory>
-        ensures { IfOk result (λ ring. StandsFor ring []) }
+        ensures { IfOk result (λ ring. RingStandsFor ring []) }
     {
         let records = HeapCircularBuffer::with_capacity(alloc, usize::from(SLOT_COUNT))?;
         Ok(Ring {
@@ -56,7 +56,8 @@ impl Ring {
 
     /// Puts a record in the next slot, if its stamp exceeds the newest.
     pub fn put(&mut self, rec: Rec52) -> RingPut
-        ensures { (history : List (List ℕ)) → StandsFor self.old history → Puts history rec self.old result self.new }
+        ensures { (history : List (List ℕ)) → RingStandsFor self.old history
+            → Puts history rec self.old result self.new }
     {
         let stamp = rec.stamp();
         match self.newest() {
@@ -70,8 +71,8 @@ impl Ring {
 
     // Puts a record that can follow in the next slot.
     fn append(&mut self, rec: Rec52)
-        ensures { (history : List (List ℕ)) → StandsFor self.old history → CanExtend history rec
-            → StandsFor self.new (history ++ rec ∷ []) }
+        ensures { (history : List (List ℕ)) → RingStandsFor self.old history → CanExtend history rec
+            → RingStandsFor self.new (history ++ rec ∷ []) }
     {
         self.records.push_back(rec);
         self.next_slot = (self.next_slot + 1) % SLOT_COUNT;
@@ -79,7 +80,7 @@ impl Ring {
 
     /// Empties the ring: every slot is as if it had never been written, and the first comes next.
     pub fn clear(&mut self)
-        ensures { StandsFor self.new [] }
+        ensures { RingStandsFor self.new [] }
     {
         self.records.clear();
         self.next_slot = 0;
@@ -87,14 +88,15 @@ impl Ring {
 
     /// The stamp of the last record that was put, if there is one.
     pub fn newest(&self) -> Option<Stamp>
-        ensures { (history : List (List ℕ)) → StandsFor self.now history → result ≡ newest_of history }
+        ensures { (history : List (List ℕ)) → RingStandsFor self.now history → result ≡ newest_stamp history }
     {
         self.records.back().map(|record| record.stamp())
     }
 
     /// The number of the slot that the next record goes into, from 0 to 2,559.
     pub fn next_slot(&self) -> u16
-        ensures slot { (history : List (List ℕ)) → StandsFor self.now history → result ≡ length history % ring_size }
+        ensures slot { (history : List (List ℕ)) → RingStandsFor self.now history
+            → result ≡ length history % ring_size }
         ensures range { result < SLOT_COUNT }
     {
         self.next_slot
@@ -103,7 +105,8 @@ impl Ring {
     // The bytes of a slot.
     pub(crate) fn slot(&self, number: u16) -> [u8; RECORD_SIZE]
         requires { number < SLOT_COUNT }
-        ensures { (history : List (List ℕ)) → StandsFor self.now history → result ≡ shown (slot_of history number) }
+        ensures { (history : List (List ℕ)) → RingStandsFor self.now history
+            → result ≡ shown (ring_slot history number) }
     {
         let age = (self.next_slot + SLOT_COUNT - 1 - number) % SLOT_COUNT;
         match self.records.nth_back(usize::from(age)) {
@@ -114,7 +117,9 @@ impl Ring {
 
     // How many records the ring keeps from the first newer one on, if there is one.
     pub(crate) fn count_from_newer(&self, date: u16, time: u16) -> Option<u16>
-        ensures count { result ≡ option_map (λ place. length self.now.records - place) (position (is_newer date time) self.now.records) }
+        ensures count { result
+            ≡ option_map (λ place. length self.now.records - place)
+            (position (record_is_newer date time) self.now.records) }
         ensures range { IfSome result (λ count. (1 ≤ count) × (count ≤ SLOT_COUNT)) }
     {
         match first_newer(&self.records, date, time) {

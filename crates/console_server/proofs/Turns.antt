@@ -4,7 +4,7 @@ use Rattle.std.proofs.lemmas.List.{map-append, take_more, take-append-drop}
 use Rattle.causes.specs.Lists.{IsFrontOf}
 use Rattle.console_model.specs.Console as model
 use Rattle.console_model.specs.Hear.{hear}
-use Rattle.console_model.specs.Standing.{Answers, StandsFor}
+use Rattle.console_model.specs.Standing.{ConsoleAnswers, ConsoleStandsFor}
 use Rattle.console_model.specs.Tick.{tick}
 use Rattle.console_model.specs.declared.console.Console.{Console}
 use Rattle.console_model.specs.declared.reply.Reply.{Reply}
@@ -28,8 +28,8 @@ answers_none console count = record { only = tt; replies = λ k stands. record {
 
 -- What one more item makes of a console: these bytes are its reply, and the console in memory is the one after it.
 abbrev pub Steps : TalkItem → List ℕ → Console → Console → Type 0
-Steps item bytes before after = (k : model.Console) → StandsFor before k
-    → (replies k (item ∷ []) ≡ message bytes) × StandsFor after (console_after k (item ∷ []))
+Steps item bytes before after = (k : model.Console) → ConsoleStandsFor before k
+    → (replies k (item ∷ []) ≡ message bytes) × ConsoleStandsFor after (console_after k (item ∷ []))
 
 -- one more item came and was answered
 pub answers_more : (came s t : List TalkItem) (item : TalkItem) (bytes : List ℕ) (a b c : Console) (x y z : Served)
@@ -41,7 +41,7 @@ answers_more came s t item bytes a b c x y z before steps says = record {
       let now = steps (console_after k came) was.stands in
       record {
         said = ap (λ (l : List TalkItem). l ++ t) was.said ∙ ap (λ (l : List TalkItem). replies k came ++ l) (says.0 ∙ sym now.0) ∙ sym (replies_both k came (item ∷ []));
-        stands = subst (StandsFor c) (sym (after_both k came (item ∷ []))) now.1;
+        stands = subst (ConsoleStandsFor c) (sym (after_both k came (item ∷ []))) now.1;
       };
   counted = omega (arith, before.counted, says.1, said_both s t, ap (λ (l : List TalkItem). length (said l)) says.0, message_said bytes);
 }
@@ -49,7 +49,7 @@ answers_more came s t item bytes a b c x y z before steps says = record {
 -- one more item came, whose reply was cut off
 pub answers_part : (came rest s t : List TalkItem) (item : TalkItem) (bytes : List ℕ) (a b c : Console) (x y : Served)
     → AnswersAll end.Done came a b x y s → Steps item bytes b c → IsFrontOf t (message bytes)
-    → OnlySays (s ++ t) × ((k : model.Console) → StandsFor a k → IsAnsweredInPart k c ((came ++ item ∷ []) ++ rest) (s ++ t))
+    → OnlySays (s ++ t) × ((k : model.Console) → ConsoleStandsFor a k → IsAnsweredInPart k c ((came ++ item ∷ []) ++ rest) (s ++ t))
 answers_part came rest s t item bytes a b c x y before steps front = (
   only_both s t before.only (only_begun bytes t front),
   λ k stands.
@@ -61,18 +61,18 @@ answers_part came rest s t item bytes a b c x y before steps front = (
         said = subst (IsFrontOf (s ++ t))
             (ap (λ (l : List TalkItem). l ++ message bytes) was.said ∙ ap (λ (l : List TalkItem). replies k came ++ l) (sym now.0) ∙ sym (replies_both k came (item ∷ [])))
             (front_behind s t (message bytes) front);
-        stands = subst (StandsFor c) (sym (after_both k came (item ∷ []))) now.1;
+        stands = subst (ConsoleStandsFor c) (sym (after_both k came (item ∷ []))) now.1;
       },
 )
 
 -- a byte that is heard
-pub hears_steps : (b : ℕ) (r : Reply) (before after : Console) → ((k : model.Console) → StandsFor before k → Answers (hear k b) after r)
+pub hears_steps : (b : ℕ) (r : Reply) (before after : Console) → ((k : model.Console) → ConsoleStandsFor before k → ConsoleAnswers (hear k b) after r)
     → Steps (Heard b) r.bytes.items before after
 hears_steps b r before after hears k stands =
     let a = hears k stands in (append-nil (message (hear k b).bytes) ∙ sym (ap message a.tells.bytes), a.stands)
 
 -- a wait that passes
-pub waits_steps : (r : Reply) (before after : Console) → ((k : model.Console) → StandsFor before k → Answers (tick k) after r) → Steps Quiet r.bytes.items before after
+pub waits_steps : (r : Reply) (before after : Console) → ((k : model.Console) → ConsoleStandsFor before k → ConsoleAnswers (tick k) after r) → Steps Quiet r.bytes.items before after
 waits_steps r before after ticks k stands =
     let a = ticks k stands in (append-nil (message (tick k).bytes) ∙ sym (ap message a.tells.bytes), a.stands)
 
@@ -112,13 +112,13 @@ turn_done came t a b x y z silent none some few counts keeps answers =
           record {
             said = said_items-append came t ∙ ap (λ (l : List TalkItem). l ++ said_items t) silent ∙ mute.items ∙ is.said ∙ sym (append-nil (replies k came))
                 ∙ ap (λ (l : List TalkItem). replies k came ++ l) (sym (mute.replies (console_after k came))) ∙ sym (replies_both k came t);
-            stands = subst (StandsFor b) (sym (after_both k came t ∙ mute.stays (console_after k came))) is.stands;
+            stands = subst (ConsoleStandsFor b) (sym (after_both k came t ∙ mute.stays (console_after k came))) is.stands;
           },
     )
 
 -- the same where the answers were cut off
 pub turn_cut : (came t : List TalkItem) (a b : Console) → said_items came ≡ [] → count_met came ≤ 256 → OnlySays t
-    → ((k : model.Console) → StandsFor a k → IsAnsweredInPart k b came t) → IsBrokenOff 1 a b (came ++ t)
+    → ((k : model.Console) → ConsoleStandsFor a k → IsAnsweredInPart k b came t) → IsBrokenOff 1 a b (came ++ t)
 turn_cut came t a b silent few only part =
     let mute = only_said t only in (
       omega (arith, few, heard_both came t, mute.heard, mute.waits, count_quiets-append came t),
@@ -166,7 +166,7 @@ serves_more turns s t a b c x y z before turn = (
       let now = turn.1 (console_after k s) was.stands in
       record {
         said = said_items-append s t ∙ ap (λ (l : List TalkItem). l ++ said_items t) was.said ∙ ap (λ (l : List TalkItem). replies k s ++ l) now.said ∙ sym (replies_both k s t);
-        stands = subst (StandsFor c) (sym (after_both k s t)) now.stands;
+        stands = subst (ConsoleStandsFor c) (sym (after_both k s t)) now.stands;
       },
 )
 
@@ -184,6 +184,6 @@ serves_cut turns most s t a b c x y below before turn = (
         said = subst (λ (l : List TalkItem). IsFrontOf l (replies k (s ++ now.met)))
             (sym (said_items-append s t ∙ ap (λ (l : List TalkItem). l ++ said_items t) was.said))
             (subst (IsFrontOf (replies k s ++ said_items t)) (sym (replies_both k s now.met)) (front_behind (replies k s) (said_items t) (replies (console_after k s) now.met) now.said));
-        stands = subst (StandsFor c) (sym (after_both k s now.met)) now.stands;
+        stands = subst (ConsoleStandsFor c) (sym (after_both k s now.met)) now.stands;
       },
 )

@@ -2,7 +2,7 @@
 use Rattle.std.specs.Prelude.{ℕ, ◌≡◌, ◌≤◌, ◌+◌, ◌*◌, List, [], ◌∷◌, length}
 use Rattle.causes.specs.Lists.{IsFrontOf}
 use Rattle.console_model.specs.Console as model
-use Rattle.console_model.specs.Standing.{StandsFor}
+use Rattle.console_model.specs.Standing.{ConsoleStandsFor}
 use Rattle.console_model.specs.declared.console.Console.{Console}
 use Rattle.serial_link.specs.Link.{IsFront}
 use Rattle.serial_link.specs.Talk.{count_quiets, message}
@@ -20,33 +20,33 @@ abbrev pub count_met : List TalkItem → ℕ
 count_met t = length (heard t) + count_quiets t
 
 -- Both counts were raised by the bytes heard and said. In each of so many turns a wait or up to 256 bytes came.
-pub record IsCounted (turns : ℕ) (old new : Served) (t : List TalkItem) : Type 0 where
+pub record TalkIsCounted (turns : ℕ) (old new : Served) (t : List TalkItem) : Type 0 where
   pub heard : new.heard ≡ old.heard + length (heard t)
   pub said : new.said ≡ old.said + length (said t)
   pub least : turns ≤ count_met t
   pub most : count_met t ≤ 256 * turns
 
 -- What was said is just the replies of this console to what came, and the console in memory is the one after that.
-pub record IsServed (k : model.Console) (after : Console) (t : List TalkItem) : Type 0 where
+pub record ConsoleIsServed (k : model.Console) (after : Console) (t : List TalkItem) : Type 0 where
   pub said : said_items t ≡ replies k t
-  pub stands : StandsFor after (console_after k t)
+  pub stands : ConsoleStandsFor after (console_after k t)
 
 -- The console met a prefix of what came, a prefix of its replies to that was said, and there the serving broke off.
-pub record BreaksOff (k : model.Console) (after : Console) (t : List TalkItem) : Type 0 where
+pub record ServingBreaksOff (k : model.Console) (after : Console) (t : List TalkItem) : Type 0 where
   pub met : List TalkItem
   pub came : IsFrontOf met t
   pub said : IsFrontOf (said_items t) (replies k met)
-  pub stands : StandsFor after (console_after k met)
+  pub stands : ConsoleStandsFor after (console_after k met)
 
 -- the same of whatever console the one in memory stood for, in so many turns at most
 abbrev pub IsBrokenOff : ℕ → Console → Console → List TalkItem → Type 0
 IsBrokenOff turns before after t =
-    (count_met t ≤ 256 * turns) × ((k : model.Console) → StandsFor before k → BreaksOff k after t)
+    (count_met t ≤ 256 * turns) × ((k : model.Console) → ConsoleStandsFor before k → ServingBreaksOff k after t)
 
 -- what serving a console for so many turns says and hears, by its end
 abbrev pub ServesTurns : ServeEnd → ℕ → Console → Console → Served → Served → List TalkItem → Type 0
 ServesTurns end.Done turns before after old new t =
-    IsCounted turns old new t × ((k : model.Console) → StandsFor before k → IsServed k after t)
+    TalkIsCounted turns old new t × ((k : model.Console) → ConsoleStandsFor before k → ConsoleIsServed k after t)
 ServesTurns end.LinkFault turns before after old new t = IsBrokenOff turns before after t
 ServesTurns end.OutOfMemory turns before after old new t = IsBrokenOff turns before after t
 
@@ -60,20 +60,20 @@ OnlySays (Quiet ∷ t) = ⊥
 -- These are the replies to what came before, and the console in memory is the one after that.
 pub record IsAnswered (k : model.Console) (after : Console) (came t : List TalkItem) : Type 0 where
   pub said : t ≡ replies k came
-  pub stands : StandsFor after (console_after k came)
+  pub stands : ConsoleStandsFor after (console_after k came)
 
 -- Of what came the console met a prefix, and this is a prefix of its replies to that.
 pub record IsAnsweredInPart (k : model.Console) (after : Console) (came t : List TalkItem) : Type 0 where
   pub met : List TalkItem
   pub front : IsFrontOf met came
   pub said : IsFrontOf t (replies k met)
-  pub stands : StandsFor after (console_after k met)
+  pub stands : ConsoleStandsFor after (console_after k met)
 
 -- the answers of a console to what came, by how they end
-abbrev pub Replies : ServeEnd → List TalkItem → Console → Console → List TalkItem → Type 0
-Replies end.Done came before after t = (k : model.Console) → StandsFor before k → IsAnswered k after came t
-Replies end.LinkFault came before after t = (k : model.Console) → StandsFor before k → IsAnsweredInPart k after came t
-Replies end.OutOfMemory came before after t = (k : model.Console) → StandsFor before k → IsAnsweredInPart k after came t
+abbrev pub ConsoleReplies : ServeEnd → List TalkItem → Console → Console → List TalkItem → Type 0
+ConsoleReplies end.Done came before after t = (k : model.Console) → ConsoleStandsFor before k → IsAnswered k after came t
+ConsoleReplies end.LinkFault came before after t = (k : model.Console) → ConsoleStandsFor before k → IsAnsweredInPart k after came t
+ConsoleReplies end.OutOfMemory came before after t = (k : model.Console) → ConsoleStandsFor before k → IsAnsweredInPart k after came t
 
 -- a reply is said as one message, and its bytes are counted, or a prefix of it is said
 abbrev pub SaysReply : ServeEnd → List ℕ → Served → Served → List TalkItem → Type 0
@@ -91,5 +91,5 @@ CountsSaid end.OutOfMemory old new t = Unit {0}
 pub record AnswersAll (end : ServeEnd) (came : List TalkItem) (before after : Console) (old new : Served)
     (t : List TalkItem) : Type 0 where
   pub only : OnlySays t
-  pub replies : Replies end came before after t
+  pub replies : ConsoleReplies end came before after t
   pub counted : CountsSaid end old new t

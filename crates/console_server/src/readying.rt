@@ -1,6 +1,6 @@
 ghost use Rattle.console_model.specs.Console as model;
-ghost use Rattle.console_model.specs.Standing.{StandsFor};
-ghost use Rattle.console_server.specs.Ready.{made_ready, ticked};
+ghost use Rattle.console_model.specs.Standing.{ConsoleStandsFor};
+ghost use Rattle.console_server.specs.Ready.{console_made_ready, ticked};
 
 use crate::run::run_falls_due;
 use console_model::Console;
@@ -11,7 +11,8 @@ use station_base::Period;
 ///
 /// An opening is passed over, and the records of a round do not fall due. What the console says to a tick is dropped.
 pub fn make_ready(console: &mut Console, steps: &[Step], period: Period)
-    ensures { (k : model.Console) → StandsFor console.old k → StandsFor console.new (made_ready period steps.now k) }
+    ensures { (k : model.Console) → ConsoleStandsFor console.old k
+        → ConsoleStandsFor console.new (console_made_ready period steps.now k) }
 {
     for step in steps {
         match step {
@@ -28,7 +29,7 @@ pub fn make_ready(console: &mut Console, steps: &[Step], period: Period)
 
 // So many ticks pass.
 fn pass_ticks(console: &mut Console, ticks: u8)
-    ensures { (k : model.Console) → StandsFor console.old k → StandsFor console.new (ticked ticks k) }
+    ensures { (k : model.Console) → ConsoleStandsFor console.old k → ConsoleStandsFor console.new (ticked ticks k) }
 {
     for _ in 0..ticks {
         let _ = console.tick();

@@ -1,6 +1,6 @@
 ghost use Rattle.std.specs.Prelude.{◌≡◌, Some};
 ghost use Rattle.console_model.specs.Console as model;
-ghost use Rattle.console_model.specs.Standing.{StandsFor};
+ghost use Rattle.console_model.specs.Standing.{ConsoleStandsFor};
 ghost use Rattle.console_server.specs.Runs.{run_from};
 ghost use Rattle.station_sim.specs.Line.{due_all};
 
@@ -10,8 +10,8 @@ use station_base::Period;
 
 // Lets the records of a run fall due: the first, and each next one a period later with the same values.
 pub fn run_falls_due(console: &mut Console, first: &Rec52, count: u32, period: Period)
-    ensures { (k : model.Console) → StandsFor console.old k
-        → StandsFor console.new (due_all (run_from period (Some first.now) count) k) }
+    ensures { (k : model.Console) → ConsoleStandsFor console.old k
+        → ConsoleStandsFor console.new (due_all (run_from period (Some first.now) count) k) }
 {
     let mut next = Some(*first);
     for _ in 0..count {

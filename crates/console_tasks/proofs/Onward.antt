@@ -14,9 +14,9 @@ use Rattle.wake_retry.proofs.Onward.{silent_wakes, some_first}
 use Rattle.wake_retry.specs.Parts.{answer_waits, wake_tries, settled_waits}
 use Rattle.console_tasks.specs.declared.end.TaskEnd.{TaskEnd}
 use Rattle.console_tasks.specs.declared.end.TaskEnd.TheVariants as task_end
-use Rattle.console_tasks.specs.Exchange.{Exchange, quiets_for, is_refusal, end_by, shows, answered}
+use Rattle.console_tasks.specs.Exchange.{Exchange, quiets_for, is_refusal, end_by, shows, answered_exchange}
 use Rattle.console_tasks.specs.TaskTalk.{Grammar, Exchanges, TaskTalk, HasEnd, IsCutTalk, Fails}
-use Rattle.console_tasks.specs.Parts.{Awaiting, Starts, IsAnswered, EndsTask, Completes}
+use Rattle.console_tasks.specs.Parts.{Awaiting, Starts, MessageIsAnswered, EndsTask, TaskCompletes}
 use Rattle.console_tasks.proofs.Troubles.{IsTrouble, not_done, short_trouble}
 
 -- after s and its answers, whatever completes the one grammar completes the other
@@ -68,7 +68,7 @@ fails_on on task_end.OutOfMemory t k = cut_on on t k
 -- what finishes behind it finishes the whole
 pub finishes_on : {T : Type 0} {A B : Grammar} {f : List (List ℕ)} {s : List TalkItem} → On A B f s
     → (answers : T → List (List ℕ)) (r : Result T TaskEnd) (t : List TalkItem)
-    → Completes B answers r t → Completes A (λ given. f ++ answers given) r (s ++ t)
+    → TaskCompletes B answers r t → TaskCompletes A (λ given. f ++ answers given) r (s ++ t)
 finishes_on {T} {A} {B} {f} {s} on answers (Ok given) t k = on.on t (answers given) task_end.Done k
 finishes_on on answers (Err end) t k = fails_on on end t k
 
@@ -201,32 +201,32 @@ start_cut_wake xs s w a still k = cut_wake xs s w k.0 a still k.1 k.2.0 k.2.1
 
 -- a whole answer without refusal shows what it is judged to be
 pub shows_judged : (said answer : List ℕ) (judge : List ℕ → TaskEnd) → is_refusal answer ≡ false
-    → shows (answered said (length answer) judge) answer ≡ judge answer
+    → shows (answered_exchange said (length answer) judge) answer ≡ judge answer
 shows_judged said answer judge r =
     end_whole (true && is_refusal answer) (nat_lt (length answer) (length answer)) answer (judge answer) r
     (le-ltb (length answer) (length answer) (omega arith))
 
 -- an exchange that was answered, and whose answer is well
 pub answered_on : (said answer : List ℕ) (judge : List ℕ → TaskEnd) (more : List Exchange) (t : List TalkItem)
-    → IsAnswered said answer t → judge answer ≡ task_end.Done
-    → On (Exchanges (answered said (length answer) judge ∷ more)) (Exchanges more) (answer ∷ []) t
+    → MessageIsAnswered said answer t → judge answer ≡ task_end.Done
+    → On (Exchanges (answered_exchange said (length answer) judge ∷ more)) (Exchanges more) (answer ∷ []) t
 answered_on said answer judge more t k well =
-    answer_on (answered said (length answer) judge) more t k.0 answer k.1 k.2 k.3 (shows_judged said answer judge k.4 ∙ well)
+    answer_on (answered_exchange said (length answer) judge) more t k.0 answer k.1 k.2 k.3 (shows_judged said answer judge k.4 ∙ well)
 
 -- one whose answer is not
 pub answered_ends : (said answer : List ℕ) (judge : List ℕ → TaskEnd) (end : TaskEnd) (t : List TalkItem)
-    → IsAnswered said answer t → judge answer ≡ end → IsTrouble end
-    → EndsTask (answered said (length answer) judge) end t
+    → MessageIsAnswered said answer t → judge answer ≡ end → IsTrouble end
+    → EndsTask (answered_exchange said (length answer) judge) end t
 answered_ends said answer judge end t k bad trouble more =
-    let x = answered said (length answer) judge in
+    let x = answered_exchange said (length answer) judge in
     answer_fails x more t k.0 end k.1 k.2 (ap (shows x) k.3 ∙ shows_judged said answer judge k.4 ∙ bad) trouble
 
 -- one that is cut off
 pub asking_cut : (said : List ℕ) (size : ℕ) (judge : List ℕ → TaskEnd) (more : List Exchange) (t : List TalkItem)
     → IsCutOff (Answered said (FallsShort answer_waits size)) t
-    → IsCutTalk (Exchanges (answered said size judge ∷ more)) t
+    → IsCutTalk (Exchanges (answered_exchange said size judge ∷ more)) t
 asking_cut said size judge more t k =
-    let x = answered said size judge in
+    let x = answered_exchange said size judge in
     let l = k.2 in
     (k.0, k.1, ([], shows x (heard l.0), short_ends x more (t ++ k.0) l.0 l.1 l.2))
 

@@ -11,7 +11,7 @@ use Rattle.crc_ccitt.proofs.Good.{good_when, not_good}
 use Rattle.loop_packet.specs.declared.packet.LoopPacket.{LoopPacket}
 use Rattle.loop_packet.specs.declared.fault.LoopFault.{LoopFault}
 use Rattle.loop_packet.specs.declared.fault.LoopFault.TheVariants.{BadMark, BadType, BadEnd, BadCheck}
-use Rattle.loop_packet.specs.Reading.{Tells, packet_bytes}
+use Rattle.loop_packet.specs.Reading.{TellsPacket, packet_bytes}
 use Rattle.serial_link.specs.declared.talk.TalkItem.{TalkItem}
 use Rattle.wake_retry.specs.Parts.{heard, IsFull, IsShort, FallsShort, IsCutOff}
 use Rattle.console_tasks.specs.declared.end.TaskEnd.{TaskEnd}
@@ -30,22 +30,22 @@ no_of true d n = absurd (n (d.0 refl))
 no_of false d n = refl
 
 -- what reading a packet tells of the test
-packet_true : (bytes : List ℕ) (read : LoopPacket) → Tells bytes (Ok read) → is_packet bytes ≡ true
+packet_true : (bytes : List ℕ) (read : LoopPacket) → TellsPacket bytes (Ok read) → is_packet bytes ≡ true
 packet_true bytes read k =
     and_from _ _ (and_from _ _ (and_from _ _ ((bytes_eq-Decides _ _).1 k.0) ((Decides-eqb _ _).1 k.1))
     ((bytes_eq-Decides _ _).1 k.2)) (good_when bytes k.3)
 
-packet_false : (bytes : List ℕ) (fault : LoopFault) → Tells bytes (Err fault) → is_packet bytes ≡ false
+packet_false : (bytes : List ℕ) (fault : LoopFault) → TellsPacket bytes (Err fault) → is_packet bytes ≡ false
 packet_false bytes BadMark k = and_left _ _ (and_left _ _ (and_left _ _ (no_of _ (bytes_eq-Decides _ _) k)))
 packet_false bytes (BadType kind) k =
     and_left _ _ (and_left _ _ (and_right _ _ (no_of _ (Decides-eqb _ _) (λ e. k.2 (sym k.1 ∙ e)))))
 packet_false bytes BadEnd k = and_left _ _ (and_right _ _ (no_of _ (bytes_eq-Decides _ _) k.2))
 packet_false bytes BadCheck k = and_right _ _ (not_good bytes k.3)
 
-pub packet_good : (bytes : List ℕ) (read : LoopPacket) → Tells bytes (Ok read) → judge_packet bytes ≡ task_end.Done
+pub packet_good : (bytes : List ℕ) (read : LoopPacket) → TellsPacket bytes (Ok read) → judge_packet bytes ≡ task_end.Done
 packet_good bytes read k = take_this (is_packet bytes) task_end.Done task_end.BadCheck (packet_true bytes read k)
 
-pub packet_bad : (bytes : List ℕ) (fault : LoopFault) → Tells bytes (Err fault) → judge_packet bytes ≡ task_end.BadCheck
+pub packet_bad : (bytes : List ℕ) (fault : LoopFault) → TellsPacket bytes (Err fault) → judge_packet bytes ≡ task_end.BadCheck
 packet_bad bytes fault k = take_that (is_packet bytes) task_end.Done task_end.BadCheck (packet_false bytes fault k)
 
 -- what the reading of 99 bytes answers

@@ -13,7 +13,7 @@ use Rattle.console_tasks.specs.Clock.{judge_clock}
 use Rattle.console_tasks.specs.Memory.{judge_back}
 use Rattle.console_tasks.specs.TaskTalk.{Exchanges, Fails}
 use Rattle.console_tasks.specs.Tasks.{said_line, reading_memory, reading_back, asking_time}
-use Rattle.console_tasks.specs.Parts.{EndsTask, FrameReplies, Completes}
+use Rattle.console_tasks.specs.Parts.{EndsTask, FrameReplies, TaskCompletes}
 use Rattle.console_tasks.proofs.Troubles.{IsTrouble, TellsTrouble}
 use Rattle.console_tasks.proofs.Comparing.{back_trouble}
 use Rattle.console_tasks.proofs.Replying.{frame_done, frame_ends}
@@ -47,7 +47,7 @@ compared_trouble at sent read (Err end) j = subst IsTrouble j.0 (back_trouble at
 pub back_finishes : (at m : ℕ) (sent answer read : List ℕ) (r : Result (Unit {0}) TaskEnd) (t : List TalkItem)
     → m ≡ length sent → length answer ≡ length sent + 3 → read ≡ take (length sent) (drop 1 answer)
     → IsCompared at sent read r → MemoryReplies at m answer (Ok tt) t
-    → Completes (Exchanges (reading_back at sent ∷ [])) (λ done. ack_frame sent ∷ []) r t
+    → TaskCompletes (Exchanges (reading_back at sent ∷ [])) (λ done. ack_frame sent ∷ []) r t
 back_finishes at m sent answer read (Ok done) t e size i j k =
     frame_done (said_line (EepromRead at (length sent))) answer (length sent) (judge_back at sent) sent t size
     (subst (λ x. MemoryReplies at x answer (Ok tt) t) e k) (ap (judge_back at sent) (sym i) ∙ j.0) (sym i ∙ j.1)
@@ -72,7 +72,7 @@ clock_trouble bytes (Err end) j = subst IsTrouble (sym j.0) tt
 
 pub clock_finishes : (answer bytes : List ℕ) (r : Result ClockTime TaskEnd) (t : List TalkItem) → length answer ≡ 9
     → bytes ≡ take 6 (drop 1 answer) → IsClock bytes r
-    → FrameReplies (said_line TimeGet) 6 answer (Ok tt) t → Completes (Exchanges asking_time)
+    → FrameReplies (said_line TimeGet) 6 answer (Ok tt) t → TaskCompletes (Exchanges asking_time)
     (λ time. ack_frame (clock_bytes time) ∷ []) r t
 clock_finishes answer bytes (Ok time) t size i j k =
     frame_done (said_line TimeGet) answer 6 judge_clock (clock_bytes time) t size k (ap judge_clock (sym i) ∙ j.1)

@@ -12,9 +12,9 @@ use Rattle.wake_retry.specs.Parts.{heard, IsFull, IsShort, answer_waits}
 use Rattle.console_tasks.specs.declared.end.TaskEnd.{TaskEnd}
 use Rattle.console_tasks.specs.declared.end.TaskEnd.TheVariants as task_end
 use Rattle.vantage_frames.specs.Ack.{ack}
-use Rattle.console_tasks.specs.Exchange.{is_refusal, end_by, shows, answered, checked, framed, ack_frame}
+use Rattle.console_tasks.specs.Exchange.{is_refusal, end_by, shows, answered_exchange, checked_end, framed, ack_frame}
 use Rattle.console_tasks.specs.TaskTalk.{Exchanges}
-use Rattle.console_tasks.specs.Parts.{IsAnswered, EndsTask, Replies, Commands, FrameReplies}
+use Rattle.console_tasks.specs.Parts.{MessageIsAnswered, EndsTask, ExchangeReplies, Commands, FrameReplies}
 use Rattle.console_tasks.proofs.Troubles.{IsTrouble, TellsTrouble, short_trouble}
 use Rattle.console_tasks.proofs.Onward.{answer_fails, answered_ends}
 use Rattle.console_tasks.proofs.Finishing.{last_done}
@@ -35,10 +35,10 @@ judged_trouble answer (Err end) j = subst IsTrouble (sym j.1) tt
 -- a whole answer, judged by its first byte
 pub full_replies : (said answer : List ℕ) (r : Result (Unit {0}) TaskEnd) (t u : List TalkItem) → t ≡ message said ++ u
     → IsFull answer_waits 0 u → heard u ≡ answer → IsJudged answer r
-    → Replies said (length answer) answer r t
+    → ExchangeReplies said (length answer) answer r t
 full_replies said answer (Ok done) t u e f h j = (u, e, inl (f, ap (λ (x : List ℕ). length x) h), h, j)
 full_replies said answer (Err end) t u e f h j = λ judge more.
-    let x = answered said (length answer) judge in
+    let x = answered_exchange said (length answer) judge in
     let s : shows x (heard u) ≡ end = ap (shows x) h ∙ end_refused (true && is_refusal answer)
     (nat_lt (length answer) (length answer)) answer (judge answer) j.0 ∙ sym j.1 in
     answer_fails x more t u end e (inl (f, ap (λ (x : List ℕ). length x) h)) s (subst IsTrouble (sym j.1) tt)
@@ -51,9 +51,9 @@ short_by false s answer one two e = rw e refl
 pub short_replies : (said answer : List ℕ) (size : ℕ) (end : TaskEnd) (t u : List TalkItem) → t ≡ message said ++ u
     → IsShort answer_waits 0 u → heard u ≡ answer → length answer < size
     → end ≡ end_by (is_refusal answer) true answer task_end.Done → (judge : List ℕ → TaskEnd)
-    → EndsTask (answered said size judge) end t
+    → EndsTask (answered_exchange said size judge) end t
 short_replies said answer size end t u e s h below is = λ judge more.
-    let x = answered said size judge in
+    let x = answered_exchange said size judge in
     let l : length (heard u) < size = subst (λ (y : List ℕ). length y < size) (sym h) below in
     let shown : shows x (heard u) ≡ end = ap (shows x) h ∙ short_by (true && is_refusal answer)
     (nat_lt (length answer) size) answer (judge answer) task_end.Done (lt-ltb (length answer) size below) ∙ sym is in
@@ -71,15 +71,15 @@ single (b ∷ c ∷ bs) l r = absurd (omega arith)
 
 -- an answer of one byte
 pub replies_command : (said answer : List ℕ) (r : Result (Unit {0}) TaskEnd) (t : List TalkItem) → length answer ≡ 1
-    → Replies said 1 answer r t → Commands said r t
-replies_command said answer (Ok done) t l k = subst (λ (x : List ℕ). IsAnswered said x t) (single answer l k.4) k
+    → ExchangeReplies said 1 answer r t → Commands said r t
+replies_command said answer (Ok done) t l k = subst (λ (x : List ℕ). MessageIsAnswered said x t) (single answer l k.4) k
 replies_command said answer (Err end) t l k = k (λ (answer : List ℕ). task_end.Done)
 
 -- a frame that is asked for, where the asking ended the task
 pub replies_frame : (said answer : List ℕ) (n size : ℕ) (end : TaskEnd) (t : List TalkItem) → size ≡ n + 3
-    → Replies said size answer (Err end) t → FrameReplies said n answer (Err end) t
+    → ExchangeReplies said size answer (Err end) t → FrameReplies said n answer (Err end) t
 replies_frame said answer n size end t e k judge =
-    let j = λ (a : List ℕ). checked n judge (drop 1 a) in subst (λ x. EndsTask (answered said x j) end t) e (k j)
+    let j = λ (a : List ℕ). checked_end n judge (drop 1 a) in subst (λ x. EndsTask (answered_exchange said x j) end t) e (k j)
 
 bad_check : (b : Bool) (end : TaskEnd) → b ≡ false → (if b then end else task_end.BadCheck) ≡ task_end.BadCheck
 bad_check b end e = rw e refl
@@ -88,17 +88,17 @@ good_check : (b : Bool) (end : TaskEnd) → b ≡ true → (if b then end else t
 good_check b end e = rw e refl
 
 -- one whose check is bad
-pub bad_frame : (said answer : List ℕ) (n : ℕ) (t : List TalkItem) → length answer ≡ n + 3 → IsAnswered said answer t
+pub bad_frame : (said answer : List ℕ) (n : ℕ) (t : List TalkItem) → length answer ≡ n + 3 → MessageIsAnswered said answer t
     → is_good (drop 1 answer) ≡ false → FrameReplies said n answer (Err task_end.BadCheck) t
 bad_frame said answer n t e k bad judge =
-    let j = λ (a : List ℕ). checked n judge (drop 1 a) in
-    subst (λ x. EndsTask (answered said x j) task_end.BadCheck t) e
+    let j = λ (a : List ℕ). checked_end n judge (drop 1 a) in
+    subst (λ x. EndsTask (answered_exchange said x j) task_end.BadCheck t) e
     (answered_ends said answer j task_end.BadCheck t k
     (bad_check (is_good (drop 1 answer)) (judge (take n (drop 1 answer))) bad) tt)
 
 -- a good frame is judged by its bytes
 frame_judged : (answer : List ℕ) (n : ℕ) (judge : List ℕ → TaskEnd) → is_good (drop 1 answer) ≡ true
-    → checked n judge (drop 1 answer) ≡ judge (take n (drop 1 answer))
+    → checked_end n judge (drop 1 answer) ≡ judge (take n (drop 1 answer))
 frame_judged answer n judge good = good_check (is_good (drop 1 answer)) (judge (take n (drop 1 answer))) good
 
 -- an answer that begins with 0x06 and whose rest is sealed
@@ -113,9 +113,9 @@ pub frame_done : (said answer : List ℕ) (n : ℕ) (judge : List ℕ → TaskEn
     → FrameReplies said n answer (Ok tt) t → judge (take n (drop 1 answer)) ≡ task_end.Done
     → take n (drop 1 answer) ≡ bytes → Exchanges (framed said n judge ∷ []) t (ack_frame bytes ∷ []) task_end.Done
 frame_done said answer n judge bytes t l k well is =
-    let j = λ (a : List ℕ). checked n judge (drop 1 a) in
-    subst (λ x. Exchanges (answered said x j ∷ []) t (ack_frame bytes ∷ []) task_end.Done) l
-    (subst (λ (x : List ℕ). Exchanges (answered said (length answer) j ∷ []) t (x ∷ []) task_end.Done) (k.2 ∙ ap ack_frame is)
+    let j = λ (a : List ℕ). checked_end n judge (drop 1 a) in
+    subst (λ x. Exchanges (answered_exchange said x j ∷ []) t (ack_frame bytes ∷ []) task_end.Done) l
+    (subst (λ (x : List ℕ). Exchanges (answered_exchange said (length answer) j ∷ []) t (x ∷ []) task_end.Done) (k.2 ∙ ap ack_frame is)
     (last_done said answer j t k.0 (frame_judged answer n judge k.1 ∙ well)))
 
 -- one that is not ends the task
@@ -124,8 +124,8 @@ pub frame_ends : (said answer : List ℕ) (n : ℕ) (judge : List ℕ → TaskEn
     → FrameReplies said n answer (Ok tt) t → judge (take n (drop 1 answer)) ≡ end → IsTrouble end
     → EndsTask (framed said n judge) end t
 frame_ends said answer n judge end t l k bad trouble =
-    let j = λ (a : List ℕ). checked n judge (drop 1 a) in
-    subst (λ x. EndsTask (answered said x j) end t) l
+    let j = λ (a : List ℕ). checked_end n judge (drop 1 a) in
+    subst (λ x. EndsTask (answered_exchange said x j) end t) l
     (answered_ends said answer j end t k.0 (frame_judged answer n judge k.1 ∙ bad) trouble)
 
 -- all but the first

@@ -36,20 +36,20 @@ abbrev pub shows : Exchange → List ℕ → TaskEnd
 shows x answer = end_by (x.begins && is_refusal answer) (nat_lt (length answer) x.size) answer (x.judge answer)
 
 -- a message that so many bytes answer, the first of them 0x06
-abbrev pub answered : List ℕ → ℕ → (List ℕ → TaskEnd) → Exchange
-answered said size judge = record { said = said; size = size; begins = true; judge = judge }
+abbrev pub answered_exchange : List ℕ → ℕ → (List ℕ → TaskEnd) → Exchange
+answered_exchange said size judge = record { said = said; size = size; begins = true; judge = judge }
 
 -- a message that 0x06 alone answers
 abbrev pub command : List ℕ → Exchange
-command said = answered said 1 (λ answer. Done)
+command said = answered_exchange said 1 (λ answer. Done)
 
 -- the end that bytes with their check behind them show: the check is judged first
-abbrev pub checked : ℕ → (List ℕ → TaskEnd) → List ℕ → TaskEnd
-checked n judge frame = if is_good frame then judge (take n frame) else BadCheck
+abbrev pub checked_end : ℕ → (List ℕ → TaskEnd) → List ℕ → TaskEnd
+checked_end n judge frame = if is_good frame then judge (take n frame) else BadCheck
 
 -- a message that 0x06, n bytes and their check answer
 abbrev pub framed : List ℕ → ℕ → (List ℕ → TaskEnd) → Exchange
-framed said n judge = answered said (n + 3) (λ answer. checked n judge (drop 1 answer))
+framed said n judge = answered_exchange said (n + 3) (λ answer. checked_end n judge (drop 1 answer))
 
 -- the answer of 0x06, bytes and their check
 abbrev pub ack_frame : List ℕ → List ℕ

@@ -12,7 +12,7 @@ use Rattle.wake_retry.specs.Parts.{heard, Still, Awaits, Wakes, answer_waits, wa
 use Rattle.console_tasks.specs.declared.end.TaskEnd.{TaskEnd}
 use Rattle.console_tasks.specs.declared.end.TaskEnd.TheVariants as task_end
 use Rattle.vantage_frames.specs.Ack.{ack}
-use Rattle.console_tasks.specs.Exchange.{Exchange, is_refusal, shows, answered, command, framed, ack_frame}
+use Rattle.console_tasks.specs.Exchange.{Exchange, is_refusal, shows, answered_exchange, command, framed, ack_frame}
 use Rattle.console_tasks.specs.TaskTalk.{Grammar, Exchanges, TaskTalk, Fails}
 use Rattle.console_tasks.specs.Tasks.{packet}
 
@@ -34,8 +34,8 @@ Starts (Ok done) t =
 Starts (Err end) t = (exchanges : List Exchange) → Awaiting exchanges → Fails (TaskTalk exchanges) end t
 
 -- a message was answered by these bytes
-abbrev pub IsAnswered : List ℕ → List ℕ → List TalkItem → Type 0
-IsAnswered said answer t =
+abbrev pub MessageIsAnswered : List ℕ → List ℕ → List TalkItem → Type 0
+MessageIsAnswered said answer t =
     (u : List TalkItem) × (t ≡ message said ++ u) × Awaits answer_waits (length answer) u
     × (heard u ≡ answer) × (is_refusal answer ≡ false)
 
@@ -45,19 +45,19 @@ EndsTask x end t = (more : List Exchange) → Fails (Exchanges (x ∷ more)) end
 
 -- what an exchange says and hears that 0x06 and more begin: the answer, or the end that it gives a task, however its
 -- answer is judged
-abbrev pub Replies : List ℕ → ℕ → List ℕ → Result (Unit {0}) TaskEnd → List TalkItem → Type 0
-Replies said size answer (Ok done) t = IsAnswered said answer t
-Replies said size answer (Err end) t = (judge : List ℕ → TaskEnd) → EndsTask (answered said size judge) end t
+abbrev pub ExchangeReplies : List ℕ → ℕ → List ℕ → Result (Unit {0}) TaskEnd → List TalkItem → Type 0
+ExchangeReplies said size answer (Ok done) t = MessageIsAnswered said answer t
+ExchangeReplies said size answer (Err end) t = (judge : List ℕ → TaskEnd) → EndsTask (answered_exchange said size judge) end t
 
 -- what a message says and hears that 0x06 alone answers
 abbrev pub Commands : List ℕ → Result (Unit {0}) TaskEnd → List TalkItem → Type 0
-Commands said (Ok done) t = IsAnswered said ack t
+Commands said (Ok done) t = MessageIsAnswered said ack t
 Commands said (Err end) t = EndsTask (command said) end t
 
 -- the same of n bytes and their check behind the 0x06
 abbrev pub FrameReplies : List ℕ → ℕ → List ℕ → Result (Unit {0}) TaskEnd → List TalkItem → Type 0
 FrameReplies said n answer (Ok done) t =
-    IsAnswered said answer t × (is_good (drop 1 answer) ≡ true) × (answer ≡ ack_frame (take n (drop 1 answer)))
+    MessageIsAnswered said answer t × (is_good (drop 1 answer) ≡ true) × (answer ≡ ack_frame (take n (drop 1 answer)))
 FrameReplies said n answer (Err end) t = (judge : List ℕ → TaskEnd) → EndsTask (framed said n judge) end t
 
 -- what the wait for a packet hears
@@ -67,6 +67,6 @@ HearsPacket (Ok read) t =
 HearsPacket (Err end) t = EndsTask packet end t
 
 -- what the rest of a task says and hears: it is done, with the answers that go with what it gives; or it ends so
-abbrev pub Completes : {A : Type 0} → Grammar → (A → List (List ℕ)) → Result A TaskEnd → List TalkItem → Type 0
-Completes Talk answers (Ok given) t = Talk t (answers given) task_end.Done
-Completes Talk answers (Err end) t = Fails Talk end t
+abbrev pub TaskCompletes : {A : Type 0} → Grammar → (A → List (List ℕ)) → Result A TaskEnd → List TalkItem → Type 0
+TaskCompletes Talk answers (Ok given) t = Talk t (answers given) task_end.Done
+TaskCompletes Talk answers (Err end) t = Fails Talk end t

@@ -8,7 +8,7 @@ use Rattle.vantage_frames.specs.declared.command.Command.TheVariants.{Kind, Loop
 use Rattle.vantage_frames.specs.declared.command.Command.TheVariants.{TimeGet, TimeSet, SetPeriod}
 use Rattle.vantage_frames.specs.LineWriting.{line_of}
 use Rattle.console_tasks.specs.declared.end.TaskEnd.TheVariants.{Done}
-use Rattle.console_tasks.specs.Exchange.{Exchange, answered, command, framed}
+use Rattle.console_tasks.specs.Exchange.{Exchange, answered_exchange, command, framed}
 use Rattle.console_tasks.specs.Clock.{judge_clock}
 use Rattle.console_tasks.specs.Memory.{judge_back}
 use Rattle.console_tasks.specs.Packet.{judge_packet}
@@ -57,4 +57,4 @@ setting_period minutes = command (said_line (SetPeriod minutes)) ∷ reading_bac
 
 -- the kind of station is asked for: 0x06, and one byte
 abbrev pub asking_kind : List Exchange
-asking_kind = answered (said_line Kind) 2 (λ answer. Done) ∷ []
+asking_kind = answered_exchange (said_line Kind) 2 (λ answer. Done) ∷ []

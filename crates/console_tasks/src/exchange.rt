@@ -1,7 +1,7 @@
 ghost use Rattle.std.specs.Prelude.{◌≡◌, ◌<◌, true, false, length, slice_index, MatchResult};
 ghost use Rattle.vantage_frames.specs.LineWriting.{CanBeSaid};
 ghost use Rattle.console_tasks.specs.Exchange.{is_refusal, end_by};
-ghost use Rattle.console_tasks.specs.Parts.{Steps, Replies, Commands};
+ghost use Rattle.console_tasks.specs.Parts.{Steps, ExchangeReplies, Commands};
 ghost use Rattle.console_tasks.specs.Tasks.{said_line};
 
 use crate::end::TaskEnd;
@@ -16,7 +16,7 @@ const ACK: u8 = 0x06;
 pub fn exchange<L: Link>(link: &mut L, message: &[u8], answer: &mut [u8]) -> Result<(), TaskEnd>
     requires message { 0 < length message.now }
     requires room { 0 < length answer.old }
-    ensures { Steps L.traffic link.old (Replies message.now (length answer.old) answer.new) result link.new }
+    ensures { Steps L.traffic link.old (ExchangeReplies message.now (length answer.old) answer.new) result link.new }
 {
     match ask(link, message, answer) {
         Asked::Full => acknowledged(answer),

@@ -1,5 +1,5 @@
 ghost use Rattle.std.specs.Prelude.{◌≡◌, ◌≢◌, ◌∷◌, []};
-ghost use Rattle.console_tasks.specs.Parts.{Steps, Completes};
+ghost use Rattle.console_tasks.specs.Parts.{Steps, TaskCompletes};
 ghost use Rattle.console_tasks.specs.TaskTalk.{DoesTask, TaskTalk};
 ghost use Rattle.console_tasks.specs.Tasks.{asking_kind};
 
@@ -28,7 +28,7 @@ pub fn station_kind<L: Link>(link: &mut L, into: &mut u8) -> TaskEnd
 // The kind, or the end of the task.
 fn ask_kind<L: Link>(link: &mut L) -> Result<u8, TaskEnd>
     ensures { Steps L.traffic link.old
-        (Completes (TaskTalk asking_kind) (λ kind. (6 ∷ kind ∷ []) ∷ [])) result link.new }
+        (TaskCompletes (TaskTalk asking_kind) (λ kind. (6 ∷ kind ∷ []) ∷ [])) result link.new }
 {
     start(link)?;
     let mut answer = [0; 2];

@@ -3,7 +3,7 @@ ghost use Rattle.vantage_frames.specs.declared.command.Command.{Command};
 ghost use Rattle.vantage_frames.specs.Ack.{ack};
 ghost use Rattle.console_tasks.specs.Exchange.{ack_frame};
 ghost use Rattle.console_tasks.specs.Memory.{AreWithin, judge_back};
-ghost use Rattle.console_tasks.specs.Parts.{Steps, Completes, FrameReplies};
+ghost use Rattle.console_tasks.specs.Parts.{Steps, TaskCompletes, FrameReplies};
 ghost use Rattle.console_tasks.specs.TaskTalk.{DoesTask, Exchanges, TaskTalk};
 ghost use Rattle.console_tasks.specs.Tasks.{reading_memory, reading_back, said_line, writing_memory};
 
@@ -34,7 +34,8 @@ pub fn read_eeprom<L: Link>(link: &mut L, at: u16, into: &mut [u8]) -> TaskEnd
 fn read_bytes<L: Link>(link: &mut L, at: u16, into: &mut [u8]) -> Result<(), TaskEnd>
     requires { AreWithin at (length into.old) }
     ensures task { Steps L.traffic link.old
-        (Completes (TaskTalk (reading_memory at (length into.old))) (λ done. ack_frame into.new ∷ [])) result link.new }
+        (TaskCompletes (TaskTalk (reading_memory at (length into.old)))
+        (λ done. ack_frame into.new ∷ [])) result link.new }
     ensures stays { IfErr result (λ end. into.new ≡ into.old) }
 {
     start(link)?;
@@ -64,7 +65,7 @@ pub fn write_eeprom<L: Link>(link: &mut L, at: u16, bytes: &[u8]) -> TaskEnd
 // The same, by its parts.
 fn write_bytes<L: Link>(link: &mut L, at: u16, bytes: &[u8]) -> Result<(), TaskEnd>
     requires { AreWithin at (length bytes.now) }
-    ensures { Steps L.traffic link.old (Completes (TaskTalk (writing_memory at bytes.now))
+    ensures { Steps L.traffic link.old (TaskCompletes (TaskTalk (writing_memory at bytes.now))
         (λ done. ack ∷ ack ∷ ack_frame bytes.now ∷ [])) result link.new }
 {
     start(link)?;
@@ -78,7 +79,8 @@ fn write_bytes<L: Link>(link: &mut L, at: u16, bytes: &[u8]) -> Result<(), TaskE
 pub(crate) fn read_back<L: Link>(link: &mut L, at: u16, bytes: &[u8]) -> Result<(), TaskEnd>
     requires { AreWithin at (length bytes.now) }
     ensures { Steps L.traffic link.old
-        (Completes (Exchanges (reading_back at bytes.now ∷ [])) (λ done. ack_frame bytes.now ∷ [])) result link.new }
+        (TaskCompletes (Exchanges (reading_back at bytes.now ∷ []))
+        (λ done. ack_frame bytes.now ∷ [])) result link.new }
 {
     let count = bytes.len();
     let mut room = [0; ANSWER_ROOM];

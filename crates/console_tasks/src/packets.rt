@@ -2,7 +2,7 @@ ghost use Rattle.std.specs.Prelude.{◌≡◌, ◌≢◌, ◌≤◌, ◌∷◌, 
 ghost use Rattle.loop_packet.specs.Reading.{packet_bytes};
 ghost use Rattle.vantage_frames.specs.Ack.{ack};
 ghost use Rattle.console_tasks.specs.Packet.{judge_packet};
-ghost use Rattle.console_tasks.specs.Parts.{Steps, Completes, HearsPacket};
+ghost use Rattle.console_tasks.specs.Parts.{Steps, TaskCompletes, HearsPacket};
 ghost use Rattle.console_tasks.specs.TaskTalk.{DoesTask, TaskTalk};
 ghost use Rattle.console_tasks.specs.Tasks.{looping};
 
@@ -54,7 +54,7 @@ fn hear_packets<L: Link>(
     requires most { count ≤ MOST_PACKETS }
     requires empty { into.old.items ≡ [] }
     ensures { Steps L.traffic link.old
-        (Completes (TaskTalk (looping count)) (λ done. ack ∷ map packet_bytes into.new.items)) result link.new }
+        (TaskCompletes (TaskTalk (looping count)) (λ done. ack ∷ map packet_bytes into.new.items)) result link.new }
 {
     start(link)?;
     say_command(link, &Command::LoopFor(u16::from(count)))?;

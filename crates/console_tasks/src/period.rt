@@ -1,7 +1,7 @@
 ghost use Rattle.std.specs.Prelude.{◌∷◌, []};
 ghost use Rattle.vantage_frames.specs.Ack.{ack};
 ghost use Rattle.console_tasks.specs.Exchange.{ack_frame};
-ghost use Rattle.console_tasks.specs.Parts.{Steps, Completes};
+ghost use Rattle.console_tasks.specs.Parts.{Steps, TaskCompletes};
 ghost use Rattle.console_tasks.specs.TaskTalk.{DoesTask, TaskTalk};
 ghost use Rattle.console_tasks.specs.Tasks.{setting_period};
 
@@ -30,7 +30,8 @@ pub fn set_period<L: Link>(link: &mut L, period: Period) -> TaskEnd
 // The same, by its parts.
 fn say_period<L: Link>(link: &mut L, period: Period) -> Result<(), TaskEnd>
     ensures { Steps L.traffic link.old
-        (Completes (TaskTalk (setting_period period)) (λ done. ack ∷ ack_frame (period ∷ []) ∷ [])) result link.new }
+        (TaskCompletes (TaskTalk (setting_period period))
+        (λ done. ack ∷ ack_frame (period ∷ []) ∷ [])) result link.new }
 {
     start(link)?;
     say_command(link, &Command::SetPeriod(period))?;

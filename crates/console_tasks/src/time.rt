@@ -3,7 +3,7 @@ ghost use Rattle.station_base.specs.ClockTime.{can_be_shown, clock_bytes};
 ghost use Rattle.console_tasks.specs.Clock.{judge_clock};
 ghost use Rattle.vantage_frames.specs.Ack.{ack};
 ghost use Rattle.console_tasks.specs.Exchange.{ack_frame};
-ghost use Rattle.console_tasks.specs.Parts.{Steps, Completes};
+ghost use Rattle.console_tasks.specs.Parts.{Steps, TaskCompletes};
 ghost use Rattle.console_tasks.specs.TaskTalk.{DoesTask, TaskTalk};
 ghost use Rattle.console_tasks.specs.Tasks.{asking_time, setting_time};
 
@@ -36,7 +36,7 @@ pub fn get_time<L: Link>(link: &mut L, into: &mut ClockTime) -> TaskEnd
 // The time that the clock shows, or the end of the task.
 fn ask_time<L: Link>(link: &mut L) -> Result<ClockTime, TaskEnd>
     ensures task { Steps L.traffic link.old
-        (Completes (TaskTalk asking_time) (λ time. ack_frame (clock_bytes time) ∷ [])) result link.new }
+        (TaskCompletes (TaskTalk asking_time) (λ time. ack_frame (clock_bytes time) ∷ [])) result link.new }
     ensures civil { IfOk result (λ time. can_be_shown time ≡ true) }
 {
     start(link)?;
@@ -76,7 +76,7 @@ pub fn set_time<L: Link>(link: &mut L, time: &ClockTime) -> TaskEnd
 fn say_time<L: Link>(link: &mut L, time: &ClockTime) -> Result<(), TaskEnd>
     requires { can_be_shown time.now ≡ true }
     ensures { Steps L.traffic link.old
-        (Completes (TaskTalk (setting_time time.now)) (λ done. ack ∷ ack ∷ [])) result link.new }
+        (TaskCompletes (TaskTalk (setting_time time.now)) (λ done. ack ∷ ack ∷ [])) result link.new }
 {
     start(link)?;
     say_command(link, &Command::TimeSet)?;

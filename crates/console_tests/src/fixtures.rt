@@ -1,5 +1,5 @@
-ghost use Rattle.console_model.specs.Console.{fresh};
-ghost use Rattle.console_model.specs.Standing.{StandsFor};
+ghost use Rattle.console_model.specs.Console.{fresh_console};
+ghost use Rattle.console_model.specs.Standing.{ConsoleStandsFor};
 ghost use Rattle.eeprom_map.specs.Memory.{new_memory};
 ghost use Rattle.std.specs.Prelude.{IfOk};
 
@@ -15,7 +15,7 @@ pub fn new_console(
     period: Period,
     packet: LoopPacket,
 ) -> Result<Console, OutOfMemory>
-    ensures { IfOk result (λ console. StandsFor console (fresh (new_memory period) packet)) }
+    ensures { IfOk result (λ console. ConsoleStandsFor console (fresh_console (new_memory period) packet)) }
 {
     let eeprom = Eeprom::new(alloc, period)?;
     Console::new(alloc, eeprom, packet)

@@ -5,7 +5,7 @@ use Rattle.std.proofs.lemmas.List.Sums.{fold-append}
 use Rattle.std.proofs.lemmas.Nat.{xor_comm, xor_lt, xor_mod}
 use lib.Bits.{xor_zero_r}
 use Rattle.crc_ccitt.specs.Check.{check, check_bytes, sealed, bits, divided}
-use Rattle.crc_ccitt.specs.Tables.{entry}
+use Rattle.crc_ccitt.specs.Tables.{table_entry}
 use Rattle.crc_ccitt.proofs.Division.{fold-divided_lt}
 use Rattle.crc_ccitt.proofs.Entries.{alone, byte_by_register, fold-divided-same}
 use Rattle.crc_ccitt.proofs.Unique.{same_from_xor}
@@ -18,13 +18,13 @@ step_back rest byte low small byte_small left =
     let low_small : rest % 256 < 256 = omega arith in
     let mixed : ℕ = bit_xor (rest / 256) byte in
     let mixed_small : mixed < 256 = xor_lt 8 (rest / 256) byte high_small byte_small in
-    let whole : bit_xor (rest % 256 * 256) (entry 0 mixed) ≡ low * 256 = sym (byte_by_register rest byte small byte_small) ∙ left in
-    let lows : bit_xor (rest % 256 * 256 % 256) (entry 0 mixed % 256) ≡ low * 256 % 256 =
-    sym (xor_mod (rest % 256 * 256) (entry 0 mixed) 8) ∙ ap (λ (n : ℕ). n % 256) whole in
+    let whole : bit_xor (rest % 256 * 256) (table_entry 0 mixed) ≡ low * 256 = sym (byte_by_register rest byte small byte_small) ∙ left in
+    let lows : bit_xor (rest % 256 * 256 % 256) (table_entry 0 mixed % 256) ≡ low * 256 % 256 =
+    sym (xor_mod (rest % 256 * 256) (table_entry 0 mixed) 8) ∙ ap (λ (n : ℕ). n % 256) whole in
     let no_left : rest % 256 * 256 % 256 ≡ 0 = omega arith in
     let no_right : low * 256 % 256 ≡ 0 = omega arith in
-    let none : bit_xor 0 (entry 0 mixed % 256) ≡ 0 = ap (λ (n : ℕ). bit_xor n (entry 0 mixed % 256)) (sym no_left) ∙ lows ∙ no_right in
-    let no_entry : entry 0 mixed % 256 ≡ 0 = sym (xor_zero_r (entry 0 mixed % 256)) ∙ xor_comm (entry 0 mixed % 256) 0 ∙ none in
+    let none : bit_xor 0 (table_entry 0 mixed % 256) ≡ 0 = ap (λ (n : ℕ). bit_xor n (table_entry 0 mixed % 256)) (sym no_left) ∙ lows ∙ no_right in
+    let no_entry : table_entry 0 mixed % 256 ≡ 0 = sym (xor_zero_r (table_entry 0 mixed % 256)) ∙ xor_comm (table_entry 0 mixed % 256) 0 ∙ none in
     let same : rest / 256 ≡ byte = same_from_xor (rest / 256) byte (alone mixed mixed_small no_entry) in
     let parts : rest ≡ byte * 256 + rest % 256 = omega arith in
     let again : rest % 256 * 256 ≡ low * 256 =

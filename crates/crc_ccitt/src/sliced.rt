@@ -1,6 +1,6 @@
 ghost use Rattle.std.specs.Prelude.{◌≡◌, ℕ, ◌<◌, fold};
 ghost use Rattle.std.specs.List.{concat};
-ghost use Rattle.crc_ccitt.specs.Tables.{entry};
+ghost use Rattle.crc_ccitt.specs.Tables.{table_entry};
 ghost use Rattle.crc_ccitt.specs.Check.{check, bits, IsRemainder, message_bits, divided};
 ghost use Rattle.crc_ccitt.specs.Words.{after_word};
 
@@ -100,10 +100,10 @@ fn after_chunk(rest: u16, chunk: &[u8; 8]) -> u16
 
 // The check of a byte with so many bytes of zeros behind it.
 #[inline]
-#[tactic(auto, unfolding(crate::specs::Tables::entry))]
+#[tactic(auto, unfolding(crate::specs::Tables::table_entry))]
 fn table_entry(zeros: usize, byte: u8) -> u16
     requires { zeros < 8 }
-    ensures { result ≡ entry zeros byte }
+    ensures { result ≡ table_entry zeros byte }
 {
     TABLES[zeros][byte as usize]
 }

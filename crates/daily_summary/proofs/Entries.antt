@@ -16,9 +16,9 @@ use Rattle.station_base.specs.CivilMinute.{CivilMinute, IsCivilMinute}
 use Rattle.station_base.specs.Stamp.{date_word_of, time_word_of, stamp_of_words}
 use Rattle.station_base.proofs.Words.{stamp_of_words-of, words_of-stamp}
 use Rattle.daily_summary.specs.declared.field_sum.FieldSum.{FieldSum}
-use Rattle.daily_summary.specs.Parts.{count_in, entry_of, stamp_at, sum_in, sum_with, IsTyped}
+use Rattle.daily_summary.specs.Parts.{count_in, field_entry, stamp_at, sum_in, sum_with, IsTyped}
 use Rattle.daily_summary.specs.Bounds.{IsSumOf}
-use Rattle.daily_summary.specs.WellFormed.{IsBlank, IsEntry}
+use Rattle.daily_summary.specs.WellFormed.{BytesAreBlank, IsEntry}
 use Rattle.std.specs.Option.{IsSomeAnd}
 use Rattle.std.specs.Prelude.{IfSome}
 use Rattle.daily_summary.proofs.Joining.{same_sum}
@@ -63,11 +63,11 @@ pub record IsReadOf (s : FieldSum) (b : List ℕ) : Type 0 where
 
 entry_by : (s : FieldSum) (n0 n4 n6 n8 n12 n14 n16 n24 n28 n36 : ℕ) → cast_unsigned w32 s.least ≡ n0 → date_word_of s.least_at ≡ n4 → time_word_of s.least_at ≡ n6 → cast_unsigned w32 s.greatest ≡ n8 →
     date_word_of s.greatest_at ≡ n12 → time_word_of s.greatest_at ≡ n14 → cast_unsigned w64 s.sum ≡ n16 → s.count ≡ n24 → cast_unsigned w64 s.wsum ≡ n28 → s.sumtime ≡ n36 →
-    entry_of (Some s) ≡ little_bytes 4 n0 ++ (little_bytes 2 n4 ++ (little_bytes 2 n6 ++ (little_bytes 4 n8 ++ (little_bytes 2 n12 ++ (little_bytes 2 n14 ++ (little_bytes 8 n16 ++ (little_bytes 4 n24 ++ (little_bytes 8 n28 ++ little_bytes 8 n36))))))))
+    field_entry (Some s) ≡ little_bytes 4 n0 ++ (little_bytes 2 n4 ++ (little_bytes 2 n6 ++ (little_bytes 4 n8 ++ (little_bytes 2 n12 ++ (little_bytes 2 n14 ++ (little_bytes 8 n16 ++ (little_bytes 4 n24 ++ (little_bytes 8 n28 ++ little_bytes 8 n36))))))))
 entry_by s n0 n4 n6 n8 n12 n14 n16 n24 n28 n36 e0 e4 e6 e8 e12 e14 e16 e24 e28 e36 = rw (e0, e4, e6, e8, e12, e14, e16, e24, e28, e36) refl
 
 -- what was read is written as these bytes
-pub entry_again : (s : FieldSum) (b : List ℕ) → length b ≡ 44 → AreBytes b → IsReadOf s b → entry_of (Some s) ≡ b
+pub entry_again : (s : FieldSum) (b : List ℕ) → length b ≡ 44 → AreBytes b → IsReadOf s b → field_entry (Some s) ≡ b
 entry_again s b long fits is =
     let w1 = words_of-stamp (number_at 2 4 b) (number_at 2 6 b) s.least_at is.least_at in
     let w2 = words_of-stamp (number_at 2 12 b) (number_at 2 14 b) s.greatest_at is.greatest_at in
@@ -115,9 +115,9 @@ read_stamp p q c b rest more civil one two =
     ap (λ (n : ℕ). stamp_of_words n (number_at 2 q b)) date ∙ ap (stamp_of_words (date_word_of c)) time ∙ stamp_of_words-of c civil
 
 -- the bytes of a sum are read as this sum
-read_here : (s : FieldSum) → IsTyped s → IsReadOf s (entry_of (Some s))
+read_here : (s : FieldSum) → IsTyped s → IsReadOf s (field_entry (Some s))
 read_here s is =
-    let b : List ℕ = entry_of (Some s) in
+    let b : List ℕ = field_entry (Some s) in
     record {
       least = read_32 0 s.least b (drop 4 b) is.least refl;
       least_at = read_stamp 4 6 s.least_at b (drop 6 b) (drop 8 b) is.least_at refl refl;
@@ -129,7 +129,7 @@ read_here s is =
       sumtime = read_number 8 36 s.sumtime b [] (omega (arith, is.sumtime)) refl;
     }
 
-pub read_of : (s : FieldSum) (b : List ℕ) → IsTyped s → entry_of (Some s) ≡ b → IsReadOf s b
+pub read_of : (s : FieldSum) (b : List ℕ) → IsTyped s → field_entry (Some s) ≡ b → IsReadOf s b
 read_of s b is same = subst (λ (xs : List ℕ). IsReadOf s xs) same (read_here s is)
 
 -- the sum that an entry tells is the one that is read of it
@@ -152,7 +152,7 @@ sum_read s b is =
     ∙ ap Some (same_sum _ s (sym is.least) refl (sym is.greatest) refl (sym is.sum) (sym is.count) (sym is.wsum) (sym is.sumtime))
 
 -- the bytes of a sum are not all 0
-pub count_read : (s : FieldSum) (b : List ℕ) → IsTyped s → entry_of (Some s) ≡ b → b ≡ replicate 44 0 → s.count ≡ 0
+pub count_read : (s : FieldSum) (b : List ℕ) → IsTyped s → field_entry (Some s) ≡ b → b ≡ replicate 44 0 → s.count ≡ 0
 count_read s b is same blank = (read_of s b is same).count ∙ ap (number_at 4 24) blank
 
 pub zeros : (b : List ℕ) (n : ℕ) → length b ≡ n → All (λ byte. byte ≡ 0) b → b ≡ replicate n 0
@@ -166,7 +166,7 @@ pub all_zeros : (n : ℕ) → All {X = ℕ} (λ byte. byte ≡ 0) (replicate n 0
 all_zeros n = let P : ℕ → Type 0 = λ byte. byte ≡ 0 in All-replicate P n 0 refl
 
 -- an entry that is not all 0 tells a sum
-pub sum_there : (rows : ℕ) (b : List ℕ) → IsEntry rows b → (IsBlank b → ⊥) → IsSomeAnd (sum_in b) (IsSumOf rows)
+pub sum_there : (rows : ℕ) (b : List ℕ) → IsEntry rows b → (BytesAreBlank b → ⊥) → IsSomeAnd (sum_in b) (IsSumOf rows)
 sum_there rows b is filled = by (count_in b) refl
   where
     by : (n : ℕ) → count_in b ≡ n → IsSomeAnd (sum_in b) (IsSumOf rows)
@@ -174,7 +174,7 @@ sum_there rows b is filled = by (count_in b) refl
     by (suc n) e = is.sum (λ none. absurd (omega arith))
 
 -- an entry that is all 0, and one that tells a sum
-pub blank_entry : (rows : ℕ) (b : List ℕ) → b ≡ replicate 44 0 → IsBlank b → IsEntry rows b
+pub blank_entry : (rows : ℕ) (b : List ℕ) → b ≡ replicate 44 0 → BytesAreBlank b → IsEntry rows b
 blank_entry rows b zeros blank =
     let none : count_in b ≡ 0 = ap count_in zeros in
     record { blank = λ e. blank; sum = λ filled. absurd (filled none) }
@@ -189,6 +189,6 @@ filled_entry rows b s is within =
     }
 
 -- no sum, or one beyond its bounds, is no entry
-pub no_entry : (rows : ℕ) (b : List ℕ) (o : Option FieldSum) → o ≡ sum_in b → (IsBlank b → ⊥) → IfSome o (λ s. IsSumOf rows s → ⊥) → IsEntry rows b → ⊥
+pub no_entry : (rows : ℕ) (b : List ℕ) (o : Option FieldSum) → o ≡ sum_in b → (BytesAreBlank b → ⊥) → IfSome o (λ s. IsSumOf rows s → ⊥) → IsEntry rows b → ⊥
 no_entry rows b None is filled bad entry = subst (λ (o : Option FieldSum). IsSomeAnd o (IsSumOf rows)) (sym is) (sum_there rows b entry filled)
 no_entry rows b (Some s) is filled bad entry = bad (subst (λ (o : Option FieldSum). IsSomeAnd o (IsSumOf rows)) (sym is) (sum_there rows b entry filled))

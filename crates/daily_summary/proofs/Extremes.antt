@@ -10,7 +10,7 @@ use Rattle.station_base.specs.CivilMinute.{CivilMinute, minute_of}
 use Rattle.station_base.specs.declared.row.Row.{Row}
 use Rattle.station_base.specs.LastStamp.{Rises}
 use Rattle.daily_summary.specs.Extremes.{RowsRise, IsReached, IsFirst, IsLeastAt, IsGreatestAt}
-use Rattle.daily_summary.specs.Readings.{Reading, reading, value_of, with_value, readings, least, greatest}
+use Rattle.daily_summary.specs.Readings.{Reading, row_reading, field_value, with_reading, readings, least_reading, greatest}
 use Rattle.daily_summary.specs.Summary.{field_sum}
 
 -- each is earlier than those behind it
@@ -29,18 +29,18 @@ later last (row ∷ rows) rise =
 -- what holds of rows holds of their readings
 of_readings : (m field : ℕ) (rows : List Row) → All (λ row. m < minute_of row.stamp) rows → All (λ r. m < minute_of r.stamp) (readings field rows)
 of_readings m field [] all = All-nil (λ r. m < minute_of r.stamp)
-of_readings m field (row ∷ rows) all = by (value_of field row) (of_readings m field rows (All-tail (λ r. m < minute_of r.stamp) row rows all))
+of_readings m field (row ∷ rows) all = by (field_value field row) (of_readings m field rows (All-tail (λ r. m < minute_of r.stamp) row rows all))
   where
-    by : (value : Option ℤ) → All (λ r. m < minute_of r.stamp) (readings field rows) → All (λ r. m < minute_of r.stamp) (with_value value row (readings field rows))
+    by : (value : Option ℤ) → All (λ r. m < minute_of r.stamp) (readings field rows) → All (λ r. m < minute_of r.stamp) (with_reading value row (readings field rows))
     by None more = more
-    by (Some v) more = All-cons (λ r. m < minute_of r.stamp) (reading row v) (readings field rows) (All-head (λ r. m < minute_of r.stamp) row rows all) more
+    by (Some v) more = All-cons (λ r. m < minute_of r.stamp) (row_reading row v) (readings field rows) (All-head (λ r. m < minute_of r.stamp) row rows all) more
 
 -- the readings of rows that rise are in the order of their stamps
 in_order : (field : ℕ) (last : Option CivilMinute) (rows : List Row) → Rises (λ row. Some row.stamp) last rows → Ordered (readings field rows)
 in_order field last [] rise = tt
-in_order field last (row ∷ rows) rise = by (value_of field row) (in_order field (Some row.stamp) rows rise.1)
+in_order field last (row ∷ rows) rise = by (field_value field row) (in_order field (Some row.stamp) rows rise.1)
   where
-    by : (value : Option ℤ) → Ordered (readings field rows) → Ordered (with_value value row (readings field rows))
+    by : (value : Option ℤ) → Ordered (readings field rows) → Ordered (with_reading value row (readings field rows))
     by None more = more
     by (Some v) more = (of_readings (minute_of row.stamp) field rows (later row.stamp rows rise.1), more)
 
@@ -54,13 +54,13 @@ record IsLeastOf (m : Reading) (rs : List Reading) : Type 0 where
   pub bound : All (λ r. m.value ≤ℤ r.value) rs
   pub first : All (λ r. r.value ≡ m.value → minute_of m.stamp ≤ minute_of r.stamp) rs
 
-least_is : (r : Reading) (rs : List Reading) → Ordered (r ∷ rs) → IsLeastOf (least r rs) (r ∷ rs)
+least_is : (r : Reading) (rs : List Reading) → Ordered (r ∷ rs) → IsLeastOf (least_reading r rs) (r ∷ rs)
 least_is r [] order = record {
   there = (0, omega arith, refl);
   bound = All-cons (λ s. r.value ≤ℤ s.value) r [] (omega (arith, ints)) (All-nil (λ s. r.value ≤ℤ s.value));
   first = All-cons (λ s. s.value ≡ r.value → minute_of r.stamp ≤ minute_of s.stamp) r [] (λ e. omega arith) (All-nil (λ s. s.value ≡ r.value → minute_of r.stamp ≤ minute_of s.stamp));
 }
-least_is r (next ∷ rs) order = by (least next rs) (least_is next rs order.1) (int_lt (least next rs).value r.value) refl
+least_is r (next ∷ rs) order = by (least_reading next rs) (least_is next rs order.1) (int_lt (least_reading next rs).value r.value) refl
   where
     by : (m : Reading) → IsLeastOf m (next ∷ rs) → (test : Bool) → int_lt m.value r.value ≡ test → IsLeastOf (cond test m r) (r ∷ next ∷ rs)
     by m rest true e = record {
@@ -105,12 +105,12 @@ greatest_is r (next ∷ rs) order = by (greatest next rs) (greatest_is next rs o
 -- a row has what a reading tells
 reached : (field : ℕ) (rows : List Row) (r : Reading) → Contains (readings field rows) r → IsReached field rows r.value r.stamp
 reached field [] r there = absurd (omega (arith, there.1))
-reached field (row ∷ rows) r there = by (value_of field row) refl (λ is. reached field rows r is) there
+reached field (row ∷ rows) r there = by (field_value field row) refl (λ is. reached field rows r is) there
   where
     further : IsReached field rows r.value r.stamp → IsReached field (row ∷ rows) r.value r.stamp
     further is = record { row = is.row; there = behind is.row row rows is.there; value_is = is.value_is; stamp_is = is.stamp_is }
 
-    here : (v : ℤ) → value_of field row ≡ Some v → reading row v ≡ r → IsReached field (row ∷ rows) r.value r.stamp
+    here : (v : ℤ) → field_value field row ≡ Some v → row_reading row v ≡ r → IsReached field (row ∷ rows) r.value r.stamp
     here v value same = record {
       row = row;
       there = (0, omega arith, refl);
@@ -118,23 +118,23 @@ reached field (row ∷ rows) r there = by (value_of field row) refl (λ is. reac
       stamp_is = ap (λ (s : Reading). s.stamp) same;
     }
 
-    by : (value : Option ℤ) → value_of field row ≡ value → (Contains (readings field rows) r → IsReached field rows r.value r.stamp)
-        → Contains (with_value value row (readings field rows)) r → IsReached field (row ∷ rows) r.value r.stamp
+    by : (value : Option ℤ) → field_value field row ≡ value → (Contains (readings field rows) r → IsReached field rows r.value r.stamp)
+        → Contains (with_reading value row (readings field rows)) r → IsReached field (row ∷ rows) r.value r.stamp
     by None e more is = further (more is)
     by (Some v) e more (zero, within, same) = here v e same
     by (Some v) e more (suc k, within, same) = further (more (k, (let small : k < length (readings field rows) = omega (arith, within) in small), same))
 
 -- what holds of all readings holds of each row that has a value
-of_rows : (P : Reading → Type 0) (field : ℕ) (rows : List Row) → All P (readings field rows) → All (λ row. IfSome (value_of field row) (λ v. P (reading row v))) rows
-of_rows P field [] all = All-nil (λ row. IfSome (value_of field row) (λ v. P (reading row v)))
-of_rows P field (row ∷ rows) all = by (value_of field row) refl (λ is. of_rows P field rows is) all
+of_rows : (P : Reading → Type 0) (field : ℕ) (rows : List Row) → All P (readings field rows) → All (λ row. IfSome (field_value field row) (λ v. P (row_reading row v))) rows
+of_rows P field [] all = All-nil (λ row. IfSome (field_value field row) (λ v. P (row_reading row v)))
+of_rows P field (row ∷ rows) all = by (field_value field row) refl (λ is. of_rows P field rows is) all
   where
-    by : (value : Option ℤ) → value_of field row ≡ value → (All P (readings field rows) → All (λ r. IfSome (value_of field r) (λ v. P (reading r v))) rows)
-        → All P (with_value value row (readings field rows)) → All (λ r. IfSome (value_of field r) (λ v. P (reading r v))) (row ∷ rows)
-    by None e more is = All-cons (λ r. IfSome (value_of field r) (λ v. P (reading r v))) row rows (subst (λ (o : Option ℤ). IfSome o (λ v. P (reading row v))) (sym e) tt) (more is)
+    by : (value : Option ℤ) → field_value field row ≡ value → (All P (readings field rows) → All (λ r. IfSome (field_value field r) (λ v. P (row_reading r v))) rows)
+        → All P (with_reading value row (readings field rows)) → All (λ r. IfSome (field_value field r) (λ v. P (row_reading r v))) (row ∷ rows)
+    by None e more is = All-cons (λ r. IfSome (field_value field r) (λ v. P (row_reading r v))) row rows (subst (λ (o : Option ℤ). IfSome o (λ v. P (row_reading row v))) (sym e) tt) (more is)
     by (Some v) e more is =
-        All-cons (λ r. IfSome (value_of field r) (λ v. P (reading r v))) row rows (subst (λ (o : Option ℤ). IfSome o (λ v. P (reading row v))) (sym e) (All-head P (reading row v) (readings field rows) is))
-        (more (All-tail P (reading row v) (readings field rows) is))
+        All-cons (λ r. IfSome (field_value field r) (λ v. P (row_reading r v))) row rows (subst (λ (o : Option ℤ). IfSome o (λ v. P (row_reading row v))) (sym e) (All-head P (row_reading row v) (readings field rows) is))
+        (more (All-tail P (row_reading row v) (readings field rows) is))
 
 -- what holds of a value that a row has
 at_value : (P : ℤ → Type 0) (o : Option ℤ) (v : ℤ) → IfSome o P → o ≡ Some v → P v
@@ -142,7 +142,7 @@ at_value P o v holds e = subst (λ (x : Option ℤ). IfSome x P) e holds
 
 firsts : (field : ℕ) (rows : List Row) (m : Reading) → All (λ r. r.value ≡ m.value → minute_of m.stamp ≤ minute_of r.stamp) (readings field rows) → IsFirst field rows m.value m.stamp
 firsts field rows m all k d h e =
-    at_value (λ v. v ≡ m.value → minute_of m.stamp ≤ minute_of (get_or rows k d).stamp) (value_of field (get_or rows k d)) m.value
+    at_value (λ v. v ≡ m.value → minute_of m.stamp ≤ minute_of (get_or rows k d).stamp) (field_value field (get_or rows k d)) m.value
     (of_rows (λ r. r.value ≡ m.value → minute_of m.stamp ≤ minute_of r.stamp) field rows all k d h) e refl
 
 pub least_first : (field : ℕ) (rows : List Row) → RowsRise rows → IfSome (field_sum (readings field rows)) (λ s. IsLeastAt field rows s.least s.least_at)
@@ -151,8 +151,8 @@ least_first field rows rise = by (readings field rows) refl
     by : (rs : List Reading) → readings field rows ≡ rs → IfSome (field_sum rs) (λ s. IsLeastAt field rows s.least s.least_at)
     by [] e = tt
     by (r ∷ rs) e =
-        let is : IsLeastOf (least r rs) (readings field rows) = subst (IsLeastOf (least r rs)) (sym e) (least_is r rs (subst Ordered e (in_order field None rows rise))) in
-        record { reached = reached field rows (least r rs) is.there; least = of_rows (λ s. (least r rs).value ≤ℤ s.value) field rows is.bound; first = firsts field rows (least r rs) is.first }
+        let is : IsLeastOf (least_reading r rs) (readings field rows) = subst (IsLeastOf (least_reading r rs)) (sym e) (least_is r rs (subst Ordered e (in_order field None rows rise))) in
+        record { reached = reached field rows (least_reading r rs) is.there; least = of_rows (λ s. (least_reading r rs).value ≤ℤ s.value) field rows is.bound; first = firsts field rows (least_reading r rs) is.first }
 
 pub greatest_first : (field : ℕ) (rows : List Row) → RowsRise rows → IfSome (field_sum (readings field rows)) (λ s. IsGreatestAt field rows s.greatest s.greatest_at)
 greatest_first field rows rise = by (readings field rows) refl

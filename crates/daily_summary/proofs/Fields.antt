@@ -12,7 +12,7 @@ use Rattle.station_base.specs.declared.row.Row.{Row}
 use Rattle.daily_summary.specs.declared.field_sum.FieldSum.{FieldSum}
 use Rattle.daily_summary.specs.declared.summary.DaySummary.{DaySummary}
 use Rattle.daily_summary.specs.Bounds.{IsSum, IsSumOf, IsInBounds}
-use Rattle.daily_summary.specs.Joined.{merged, count_of, sum_of_value}
+use Rattle.daily_summary.specs.Joined.{merged, value_count, sum_of_value}
 use Rattle.daily_summary.specs.Readings.{readings}
 use Rattle.daily_summary.specs.Summary.{field_sum, summary_of}
 use Rattle.daily_summary.proofs.Joining.{field-append, field_more}
@@ -49,14 +49,14 @@ sum_in s is field = by (get_or s.fields field None) (is.fields field)
     by None h = h
     by (Some x) h = h.sum_is
 
-pub count_in : (s : DaySummary) → IsInBounds s → (field : ℕ) → count_of (get_or s.fields field None) ≤ s.rows
+pub count_in : (s : DaySummary) → IsInBounds s → (field : ℕ) → value_count (get_or s.fields field None) ≤ s.rows
 count_in s is field = by (get_or s.fields field None) (is.fields field)
   where
-    by : (o : Option FieldSum) → IfSome o (IsSumOf s.rows) → count_of o ≤ s.rows
+    by : (o : Option FieldSum) → IfSome o (IsSumOf s.rows) → value_count o ≤ s.rows
     by None h = omega arith
     by (Some x) h = h.count
 
-pub sums_of : (n : ℕ) (o : Option FieldSum) → IfSome o (IsSumOf n) → IfSome o IsSum × (count_of o ≤ n)
+pub sums_of : (n : ℕ) (o : Option FieldSum) → IfSome o (IsSumOf n) → IfSome o IsSum × (value_count o ≤ n)
 sums_of n None h = (h, omega arith)
 sums_of n (Some x) h = (h.sum_is, h.count)
 

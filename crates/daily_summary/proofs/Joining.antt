@@ -6,7 +6,7 @@ use Rattle.std.proofs.lemmas.List.Sums.{sum_by-append}
 use Rattle.station_base.specs.CivilMinute.{CivilMinute}
 use Rattle.station_base.specs.declared.row.Row.{Row}
 use Rattle.daily_summary.specs.declared.field_sum.FieldSum.{FieldSum}
-use Rattle.daily_summary.specs.Readings.{Reading, reading, value_of, with_value, readings, lesser, greater, least, greatest, total, weighted, time}
+use Rattle.daily_summary.specs.Readings.{Reading, row_reading, field_value, with_reading, readings, lesser, greater, least_reading, greatest, readings_total, weighted, time}
 use Rattle.daily_summary.specs.Summary.{field_sum}
 use Rattle.daily_summary.specs.Joined.{joined, merged, sum_of_row, sum_of_value}
 
@@ -34,9 +34,9 @@ greater_by a b c false false r ep eq er = let t : int_lt a.value c.value ≡ fal
 greater_greater : (a b c : Reading) → greater a (greater b c) ≡ greater (greater a b) c
 greater_greater a b c = greater_by a b c _ _ _ refl refl refl
 
-least-append : (x : Reading) (xs : List Reading) (y : Reading) (ys : List Reading) → least x (xs ++ y ∷ ys) ≡ lesser (least x xs) (least y ys)
+least-append : (x : Reading) (xs : List Reading) (y : Reading) (ys : List Reading) → least_reading x (xs ++ y ∷ ys) ≡ lesser (least_reading x xs) (least_reading y ys)
 least-append x [] y ys = refl
-least-append x (z ∷ zs) y ys = ap (lesser x) (least-append z zs y ys) ∙ lesser_lesser x (least z zs) (least y ys)
+least-append x (z ∷ zs) y ys = ap (lesser x) (least-append z zs y ys) ∙ lesser_lesser x (least_reading z zs) (least_reading y ys)
 
 greatest-append : (x : Reading) (xs : List Reading) (y : Reading) (ys : List Reading) → greatest x (xs ++ y ∷ ys) ≡ greater (greatest x xs) (greatest y ys)
 greatest-append x [] y ys = refl
@@ -48,9 +48,9 @@ zero_sum a = omega (arith, ints)
 sum_sum : (a b c : ℤ) → a +ℤ (b +ℤ c) ≡ (a +ℤ b) +ℤ c
 sum_sum a b c = omega (arith, ints)
 
-total-append : (xs ys : List Reading) → total (xs ++ ys) ≡ total xs +ℤ total ys
-total-append [] ys = zero_sum (total ys)
-total-append (x ∷ xs) ys = ap (λ (z : ℤ). x.value +ℤ z) (total-append xs ys) ∙ sum_sum x.value (total xs) (total ys)
+total-append : (xs ys : List Reading) → readings_total (xs ++ ys) ≡ readings_total xs +ℤ readings_total ys
+total-append [] ys = zero_sum (readings_total ys)
+total-append (x ∷ xs) ys = ap (λ (z : ℤ). x.value +ℤ z) (total-append xs ys) ∙ sum_sum x.value (readings_total xs) (readings_total ys)
 
 weighted-append : (xs ys : List Reading) → weighted (xs ++ ys) ≡ weighted xs +ℤ weighted ys
 weighted-append [] ys = zero_sum (weighted ys)
@@ -81,11 +81,11 @@ chosen_stamp false a b = refl
 -- the sum of readings and later ones
 both : Reading → List Reading → FieldSum
 both x xs = record {
-  least = (least x xs).value;
-  least_at = (least x xs).stamp;
+  least = (least_reading x xs).value;
+  least_at = (least_reading x xs).stamp;
   greatest = (greatest x xs).value;
   greatest_at = (greatest x xs).stamp;
-  sum = total (x ∷ xs);
+  sum = readings_total (x ∷ xs);
   count = length (x ∷ xs);
   wsum = weighted (x ∷ xs);
   sumtime = time (x ∷ xs);
@@ -97,8 +97,8 @@ join_both x xs y ys =
     let lo = least-append x xs y ys in
     let hi = greatest-append x xs y ys in
     same_sum (both x (xs ++ y ∷ ys)) (joined (both x xs) (both y ys))
-    (ap (λ (r : Reading). r.value) lo ∙ chosen_value _ (least x xs) (least y ys))
-    (ap (λ (r : Reading). r.stamp) lo ∙ chosen_stamp _ (least x xs) (least y ys))
+    (ap (λ (r : Reading). r.value) lo ∙ chosen_value _ (least_reading x xs) (least_reading y ys))
+    (ap (λ (r : Reading). r.stamp) lo ∙ chosen_stamp _ (least_reading x xs) (least_reading y ys))
     (ap (λ (r : Reading). r.value) hi ∙ chosen_value _ (greatest x xs) (greatest y ys))
     (ap (λ (r : Reading). r.stamp) hi ∙ chosen_stamp _ (greatest x xs) (greatest y ys))
     (total-append (x ∷ xs) (y ∷ ys)) (length-append (x ∷ xs) (y ∷ ys)) (weighted-append (x ∷ xs) (y ∷ ys)) (sum_by-append (λ (r : Reading). r.seconds) (x ∷ xs) (y ∷ ys))
@@ -109,14 +109,14 @@ field_sum-append [] ys = refl
 field_sum-append (x ∷ xs) [] = ap field_sum (append-nil (x ∷ xs))
 field_sum-append (x ∷ xs) (y ∷ ys) = ap Some (join_both x xs y ys)
 
-with_value-append : (value : Option ℤ) (row : Row) (xs ys : List Reading) → with_value value row xs ++ ys ≡ with_value value row (xs ++ ys)
+with_value-append : (value : Option ℤ) (row : Row) (xs ys : List Reading) → with_reading value row xs ++ ys ≡ with_reading value row (xs ++ ys)
 with_value-append None row xs ys = refl
 with_value-append (Some v) row xs ys = refl
 
 pub readings-append : (field : ℕ) (rows more : List Row) → readings field (rows ++ more) ≡ readings field rows ++ readings field more
 readings-append field [] more = refl
 readings-append field (row ∷ rows) more =
-    ap (with_value (value_of field row) row) (readings-append field rows more) ∙ sym (with_value-append (value_of field row) row (readings field rows) (readings field more))
+    ap (with_reading (field_value field row) row) (readings-append field rows more) ∙ sym (with_value-append (field_value field row) row (readings field rows) (readings field more))
 
 no_more : (n : ℕ) → 0 + n ≡ n
 no_more n = omega arith
@@ -124,15 +124,15 @@ no_more n = omega arith
 zero_right : (a : ℤ) → a +ℤ pos 0 ≡ a
 zero_right a = omega (arith, ints)
 
-one_sum : (row : Row) (value : Option ℤ) → field_sum (with_value value row []) ≡ sum_of_value row value
+one_sum : (row : Row) (value : Option ℤ) → field_sum (with_reading value row []) ≡ sum_of_value row value
 unfolding both
 one_sum row None = refl
 one_sum row (Some v) =
-    ap Some (same_sum (both (reading row v) []) (sum_of_row row v) refl refl refl refl (zero_right v) refl (zero_right (v *ℤ pos (60 * row.interval))) (no_more (60 * row.interval)))
+    ap Some (same_sum (both (row_reading row v) []) (sum_of_row row v) refl refl refl refl (zero_right v) refl (zero_right (v *ℤ pos (60 * row.interval))) (no_more (60 * row.interval)))
 
 -- a field of more rows
 pub field-append : (field : ℕ) (rows more : List Row) → field_sum (readings field (rows ++ more)) ≡ merged (field_sum (readings field rows)) (field_sum (readings field more))
 field-append field rows more = ap field_sum (readings-append field rows more) ∙ field_sum-append (readings field rows) (readings field more)
 
-pub field_more : (field : ℕ) (rows : List Row) (row : Row) → field_sum (readings field (rows ++ row ∷ [])) ≡ merged (field_sum (readings field rows)) (sum_of_value row (value_of field row))
-field_more field rows row = field-append field rows (row ∷ []) ∙ ap (merged (field_sum (readings field rows))) (one_sum row (value_of field row))
+pub field_more : (field : ℕ) (rows : List Row) (row : Row) → field_sum (readings field (rows ++ row ∷ [])) ≡ merged (field_sum (readings field rows)) (sum_of_value row (field_value field row))
+field_more field rows row = field-append field rows (row ∷ []) ∙ ap (merged (field_sum (readings field rows))) (one_sum row (field_value field row))

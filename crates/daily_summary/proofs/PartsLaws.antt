@@ -1,7 +1,7 @@
 -- The parts of a summary, entry by entry.
 use Rattle.std.proofs.Common.{◌≡◌, ◌⊎◌, inl, inr, ◌≢◌, ℕ, zero, suc, ◌+◌, ◌-◌, ◌*◌, ◌≤◌, ◌<◌, List, [], ◌∷◌, ◌++◌, length, take, drop, get_or, set, replicate, Option, Some, None, refl, ap, sym, subst, ◌∙◌, arith, append_assoc, append-nil, below_more, get_or-set_other, get_or-set_same, length-set, length-append}
 use Rattle.std.specs.Prelude.{IfSome, flat_map, All}
-use Rattle.daily_summary.specs.WellFormed.{AreParts, IsBlank, IsEntry}
+use Rattle.daily_summary.specs.WellFormed.{AreParts, BytesAreBlank, IsEntry}
 use Rattle.std.specs.List.{range_with_len}
 use Rattle.std.proofs.Math.Seq.{take-append_seam, drop-append_seam}
 use Rattle.std.proofs.Math.ListN.{get_or-eq_default}
@@ -13,7 +13,7 @@ use Rattle.daily_summary.proofs.Pieces.{put_behind}
 use Rattle.daily_summary.specs.declared.field_sum.FieldSum.{FieldSum}
 use Rattle.daily_summary.specs.declared.summary.DaySummary.{DaySummary}
 use Rattle.daily_summary.specs.Bounds.{IsSumOf, IsInBounds}
-use Rattle.daily_summary.specs.Parts.{entry_of, entry_at, part_of, parts_of, IsTyped, AreTyped}
+use Rattle.daily_summary.specs.Parts.{field_entry, entry_at, summary_part, summary_parts, IsTyped, AreTyped}
 
 -- the bytes are chunks of 44
 chunks : (n a : ℕ) (f : ℕ → List ℕ) (xs : List ℕ) → length xs ≡ 44 * n → ((i : ℕ) → i < n → take 44 (drop (44 * i) xs) ≡ f (a + i)) → xs ≡ flat_map f (range_with_len a n)
@@ -38,7 +38,7 @@ chunk_at (suc n) a (suc i) f long within =
     ap (λ (k : ℕ). take 44 (drop k (f a ++ rest))) place ∙ ap (take 44) (sym (drop-drop (44 * i) 44 (f a ++ rest))) ∙ ap (λ (xs : List ℕ). take 44 (drop (44 * i) xs)) behind
     ∙ chunk_at n (a + 1) i f long (omega arith) ∙ ap f (let e : a + 1 + i ≡ a + suc i = omega arith in e)
 
-entry_long : (o : Option FieldSum) → length (entry_of o) ≡ 44
+entry_long : (o : Option FieldSum) → length (field_entry o) ≡ 44
 entry_long None = refl
 entry_long (Some s) = refl
 
@@ -50,19 +50,19 @@ entry_at_long s field = entry_long (get_or s.fields field None)
 entries_of : DaySummary → List ℕ
 entries_of s = flat_map (λ field. entry_at field s) (range_with_len 0 39)
 
-parts_entries : (s : DaySummary) → parts_of s ≡ entries_of s
+parts_entries : (s : DaySummary) → summary_parts s ≡ entries_of s
 unfolding entries_of
 parts_entries s = simp append_assoc
 
 -- the entry of a field stands in the parts
-pub entry_there : (s : DaySummary) (parts : List ℕ) (field : ℕ) → parts_of s ≡ parts → field < 39 → take 44 (drop (44 * field) parts) ≡ entry_of (get_or s.fields field None)
+pub entry_there : (s : DaySummary) (parts : List ℕ) (field : ℕ) → summary_parts s ≡ parts → field < 39 → take 44 (drop (44 * field) parts) ≡ field_entry (get_or s.fields field None)
 unfolding entries_of entry_at
 entry_there s parts field is within =
     ap (λ (xs : List ℕ). take 44 (drop (44 * field) xs)) (sym is ∙ parts_entries s) ∙ chunk_at 39 0 field (λ f. entry_at f s) (entry_at_long s) within
     ∙ ap (λ (k : ℕ). entry_at k s) (let e : 0 + field ≡ field = omega arith in e)
 
 -- parts whose entries are those of a summary
-pub parts_are : (s : DaySummary) (parts : List ℕ) → length parts ≡ 1716 → ((field : ℕ) → field < 39 → take 44 (drop (44 * field) parts) ≡ entry_of (get_or s.fields field None)) → parts_of s ≡ parts
+pub parts_are : (s : DaySummary) (parts : List ℕ) → length parts ≡ 1716 → ((field : ℕ) → field < 39 → take 44 (drop (44 * field) parts) ≡ field_entry (get_or s.fields field None)) → summary_parts s ≡ parts
 unfolding entries_of entry_at
 parts_are s parts long each =
     parts_entries s ∙ sym (chunks 39 0 (λ f. entry_at f s) parts (omega (arith, long)) (λ i h. each i h ∙ ap (λ (k : ℕ). entry_at k s) (let e : i ≡ 0 + i = omega arith in e)))
@@ -71,12 +71,12 @@ parts_are s parts long each =
 pub record AreRead (count rows : ℕ) (parts : List ℕ) (fields : List (Option FieldSum)) : Type 0 where
   pub long : length fields ≡ 37
   pub right : (k : ℕ) → k < count → IsEntry rows (take 44 (drop (44 * k) parts))
-  pub written : (k : ℕ) → k < count → take 44 (drop (44 * k) parts) ≡ entry_of (get_or fields k None)
+  pub written : (k : ℕ) → k < count → take 44 (drop (44 * k) parts) ≡ field_entry (get_or fields k None)
   pub bounds : (k : ℕ) → k < count → IfSome (get_or fields k None) (IsSumOf rows)
-  pub only : (k : ℕ) → k < count → (sum : Option FieldSum) → IfSome sum IsTyped → IfSome sum (IsSumOf rows) → entry_of sum ≡ take 44 (drop (44 * k) parts) → get_or fields k None ≡ sum
+  pub only : (k : ℕ) → k < count → (sum : Option FieldSum) → IfSome sum IsTyped → IfSome sum (IsSumOf rows) → field_entry sum ≡ take 44 (drop (44 * k) parts) → get_or fields k None ≡ sum
 
-pub more_read : (count size rows : ℕ) (parts : List ℕ) (fields : List (Option FieldSum)) (value : Option FieldSum) → count < 37 → size ≡ 44 → IsEntry rows (take size (drop (44 * count) parts)) → entry_of value ≡ take size (drop (44 * count) parts) → IfSome value (IsSumOf rows) →
-    ((sum : Option FieldSum) → IfSome sum IsTyped → IfSome sum (IsSumOf rows) → entry_of sum ≡ take size (drop (44 * count) parts) → Some value ≡ Some sum) → AreRead count rows parts fields →
+pub more_read : (count size rows : ℕ) (parts : List ℕ) (fields : List (Option FieldSum)) (value : Option FieldSum) → count < 37 → size ≡ 44 → IsEntry rows (take size (drop (44 * count) parts)) → field_entry value ≡ take size (drop (44 * count) parts) → IfSome value (IsSumOf rows) →
+    ((sum : Option FieldSum) → IfSome sum IsTyped → IfSome sum (IsSumOf rows) → field_entry sum ≡ take size (drop (44 * count) parts) → Some value ≡ Some sum) → AreRead count rows parts fields →
     AreRead (count + 1) rows parts (set fields count value)
 more_read count size rows parts fields value within is44 right written bound only are =
     let room : count < length fields = omega (arith, are.long) in
@@ -110,7 +110,7 @@ blank_chunk field xs from to blank =
 
 -- the summary of what was read
 pub found_parts : (rows : ℕ) (parts : List ℕ) (fields : List (Option FieldSum)) → length parts ≡ 1716 → rows ≤ 1048576 → AreRead 37 rows parts fields → drop 1628 parts ≡ replicate 88 0 →
-    let s : DaySummary = record { fields = fields; rows = rows } in IsInBounds s × (parts_of s ≡ parts)
+    let s : DaySummary = record { fields = fields; rows = rows } in IsInBounds s × (summary_parts s ≡ parts)
 found_parts rows parts fields long few are blank =
     let s : DaySummary = record { fields = fields; rows = rows } in
     (record { rows = few; fields = λ field. bounded field (cases_lt field 37) }, parts_are s parts long (λ field h. chunk field h (cases_lt field 37)))
@@ -119,14 +119,14 @@ found_parts rows parts fields long few are blank =
     bounded field (inl h) = are.bounds field h
     bounded field (inr h) = subst (λ (o : Option FieldSum). IfSome o (IsSumOf rows)) (sym (get_or-eq_default fields None {n = field} (omega (arith, are.long)))) tt
 
-    chunk : (field : ℕ) → field < 39 → (field < 37) ⊎ (37 ≤ field) → take 44 (drop (44 * field) parts) ≡ entry_of (get_or fields field None)
+    chunk : (field : ℕ) → field < 39 → (field < 37) ⊎ (37 ≤ field) → take 44 (drop (44 * field) parts) ≡ field_entry (get_or fields field None)
     chunk field within (inl h) = are.written field h
-    chunk field within (inr h) = blank_chunk field parts h within blank ∙ ap entry_of (sym (get_or-eq_default fields None {n = field} (omega (arith, are.long))))
+    chunk field within (inr h) = blank_chunk field parts h within blank ∙ ap field_entry (sym (get_or-eq_default fields None {n = field} (omega (arith, are.long))))
 
 made : List (Option FieldSum) → ℕ → DaySummary
 made fields rows = record { fields = fields; rows = rows }
 
-pub only_parts : (rows : ℕ) (parts : List ℕ) (fields : List (Option FieldSum)) (s : DaySummary) → AreRead 37 rows parts fields → s.rows ≡ rows → IsInBounds s → AreTyped s → parts_of s ≡ parts →
+pub only_parts : (rows : ℕ) (parts : List ℕ) (fields : List (Option FieldSum)) (s : DaySummary) → AreRead 37 rows parts fields → s.rows ≡ rows → IsInBounds s → AreTyped s → summary_parts s ≡ parts →
     record { fields = fields; rows = rows } ≡ s
 unfolding made
 only_parts rows parts fields s are count within stored is =
@@ -136,18 +136,18 @@ only_parts rows parts fields s are count within stored is =
     let e : made fields rows ≡ made s.fields s.rows = rw (same, count) refl in e
 
 -- the bytes past the last field
-pub rest_there : (s : DaySummary) (parts : List ℕ) → length parts ≡ 1716 → length s.fields ≡ 37 → parts_of s ≡ parts → drop 1628 parts ≡ replicate 88 0
+pub rest_there : (s : DaySummary) (parts : List ℕ) → length parts ≡ 1716 → length s.fields ≡ 37 → summary_parts s ≡ parts → drop 1628 parts ≡ replicate 88 0
 unfolding entry_at
 rest_there s parts long fields is =
     let ys : List ℕ = drop 1628 parts in
     let two : ys ≡ flat_map (λ f. entry_at f s) (range_with_len 37 2) =
     chunks 2 37 (λ f. entry_at f s) ys (omega (arith, length-drop 1628 parts))
     (λ i h. ap (take 44) (drop-drop (44 * i) 1628 parts ∙ ap (λ (k : ℕ). drop k parts) (let e : 1628 + 44 * i ≡ 44 * (37 + i) = omega arith in e)) ∙ entry_there s parts (37 + i) is (omega arith)) in
-    two ∙ ap (λ (o : Option FieldSum). entry_of o ++ (entry_of (get_or s.fields 38 None) ++ [])) (blank_at s 37 fields (omega arith))
-    ∙ ap (λ (o : Option FieldSum). replicate 44 0 ++ (entry_of o ++ [])) (blank_at s 38 fields (omega arith))
+    two ∙ ap (λ (o : Option FieldSum). field_entry o ++ (field_entry (get_or s.fields 38 None) ++ [])) (blank_at s 37 fields (omega arith))
+    ∙ ap (λ (o : Option FieldSum). replicate 44 0 ++ (field_entry o ++ [])) (blank_at s 38 fields (omega arith))
 
-pub field_only : (rows : ℕ) (parts : List ℕ) (s : DaySummary) (field size : ℕ) (read : Option (Option FieldSum)) → field < 37 → size ≡ 44 → s.rows ≡ rows → IsInBounds s → AreTyped s → parts_of s ≡ parts → read ≡ None →
-    ((sum : Option FieldSum) → IfSome sum IsTyped → IfSome sum (IsSumOf rows) → entry_of sum ≡ take size (drop (44 * field) parts) → read ≡ Some sum) → ⊥
+pub field_only : (rows : ℕ) (parts : List ℕ) (s : DaySummary) (field size : ℕ) (read : Option (Option FieldSum)) → field < 37 → size ≡ 44 → s.rows ≡ rows → IsInBounds s → AreTyped s → summary_parts s ≡ parts → read ≡ None →
+    ((sum : Option FieldSum) → IfSome sum IsTyped → IfSome sum (IsSumOf rows) → field_entry sum ≡ take size (drop (44 * field) parts) → read ≡ Some sum) → ⊥
 field_only rows parts s field size read small is44 count within stored is none only =
     let e = only (get_or s.fields field None) (stored.each field) (subst (λ (n : ℕ). IfSome (get_or s.fields field None) (IsSumOf n)) count (within.fields field)) (sym (entry_there s parts field is (omega arith)) ∙ ap (λ (n : ℕ). take n (drop (44 * field) parts)) (sym is44)) in
     cc
@@ -160,13 +160,13 @@ all_blank parts long all =
     let size : length (drop 1628 parts) ≡ 88 = omega (arith, length-drop 1628 parts) in
     zeros (drop 1628 parts) 88 size (subst (λ (xs : List ℕ). All {X = ℕ} (λ byte. byte ≡ 0) xs) (take_all 88 (drop 1628 parts) (omega (arith, size))) all)
 
-pub part_long : (k : ℕ) (s : DaySummary) → length (part_of k s) ≡ 132
+pub part_long : (k : ℕ) (s : DaySummary) → length (summary_part k s) ≡ 132
 part_long k s =
     omega (arith, length-append (entry_at (3 * k) s ++ entry_at (3 * k + 1) s) (entry_at (3 * k + 2) s), length-append (entry_at (3 * k) s) (entry_at (3 * k + 1) s), entry_at_long s (3 * k), entry_at_long s (3 * k + 1), entry_at_long s (3 * k + 2))
 
 -- the parts of a whole summary are right
 pub right_parts : (rows : ℕ) (parts : List ℕ) (fields : List (Option FieldSum)) → length parts ≡ 1716 → rows ≤ 1048576 → AreRead 37 rows parts fields → drop 1628 parts ≡ replicate 88 0 → AreParts rows parts
-right_parts rows parts fields long few are blank = record { few = few; entries = are.right; past = subst IsBlank (sym blank) (all_zeros 88) }
+right_parts rows parts fields long few are blank = record { few = few; entries = are.right; past = subst BytesAreBlank (sym blank) (all_zeros 88) }
 
 -- so many entries from a field on, in front of zeros in place of those that are still to be written
 pub record AreWritten (s : DaySummary) (first count : ℕ) (part : List ℕ) : Type 0 where
@@ -202,11 +202,11 @@ one_written s first count size part new is44 are new_is =
           ∙ ap (λ (xs : List ℕ). xs ++ drop (44 * (count + 1)) blank) (sym (entries_more s first count) ∙ ap (λ (k : ℕ). flat_map (λ field. entry_at field s) (range_with_len first k)) (let e : suc count ≡ count + 1 = omega arith in e));
     }
 
-pub part_written : (s : DaySummary) (k count : ℕ) (part : List ℕ) → count ≡ 3 → AreWritten s (3 * k) count part → part ≡ part_of k s
+pub part_written : (s : DaySummary) (k count : ℕ) (part : List ℕ) → count ≡ 3 → AreWritten s (3 * k) count part → part ≡ summary_part k s
 part_written s k count part all are =
     let three = subst (λ (n : ℕ). AreWritten s (3 * k) n part) all are in
     three.bytes ∙ ap (λ (n : ℕ). (entry_at (3 * k) s ++ (entry_at (3 * k + 1) s ++ (entry_at n s ++ []))) ++ []) (let e : 3 * k + 1 + 1 ≡ 3 * k + 2 = omega arith in e) ∙ simp (append_assoc, append-nil)
 
 -- the bytes past the last field, as the code takes them
-pub blank_front : (parts : List ℕ) → length parts ≡ 1716 → IsBlank (drop 1628 parts) → IsBlank (take 88 (drop 1628 parts))
-blank_front parts long blank = subst IsBlank (sym (take_all 88 (drop 1628 parts) (omega (arith, length-drop 1628 parts)))) blank
+pub blank_front : (parts : List ℕ) → length parts ≡ 1716 → BytesAreBlank (drop 1628 parts) → BytesAreBlank (take 88 (drop 1628 parts))
+blank_front parts long blank = subst BytesAreBlank (sym (take_all 88 (drop 1628 parts) (omega (arith, length-drop 1628 parts)))) blank

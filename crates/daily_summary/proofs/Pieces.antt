@@ -4,7 +4,7 @@ use Rattle.std.specs.Prelude.{ℤ, FitsSigned, Some}
 use Rattle.byteorder.specs.Endian.{little_bytes}
 use Rattle.station_base.specs.Stamp.{date_word_of, time_word_of}
 use Rattle.daily_summary.specs.declared.field_sum.FieldSum.{FieldSum}
-use Rattle.daily_summary.specs.Parts.{entry_of}
+use Rattle.daily_summary.specs.Parts.{field_entry}
 use Rattle.std.specs.Int.{w32, w64, cast_signed, cast_unsigned}
 use Rattle.std.proofs.Math.Seq.{take-append_seam, drop-append_seam}
 use Rattle.std.proofs.lemmas.Int.{to_z-of_z}
@@ -33,7 +33,7 @@ again_64 z fits = ap (cast_unsigned w64) (to_z-of_z w64 z fits)
 pub entry_made : (s : FieldSum) (least greatest sum wsum d1 t1 d2 t2 : ℕ) → least ≡ cast_unsigned w32 s.least → greatest ≡ cast_unsigned w32 s.greatest → sum ≡ cast_unsigned w64 s.sum →
     wsum ≡ cast_unsigned w64 s.wsum → d1 ≡ date_word_of s.least_at → t1 ≡ time_word_of s.least_at → d2 ≡ date_word_of s.greatest_at → t2 ≡ time_word_of s.greatest_at →
     (((((((((little_bytes 4 least ++ little_bytes 2 d1) ++ little_bytes 2 t1) ++ little_bytes 4 greatest) ++ little_bytes 2 d2) ++ little_bytes 2 t2) ++ little_bytes 8 sum) ++ little_bytes 4 s.count)
-    ++ little_bytes 8 wsum) ++ little_bytes 8 s.sumtime) ++ [] ≡ entry_of (Some s)
+    ++ little_bytes 8 wsum) ++ little_bytes 8 s.sumtime) ++ [] ≡ field_entry (Some s)
 entry_made s least greatest sum wsum d1 t1 d2 t2 e1 e2 e3 e4 e5 e6 e7 e8 = rw (e1, e2, e3, e4, e5, e6, e7, e8) refl
 
 -- bytes put behind others

@@ -16,7 +16,7 @@ use Rattle.daily_summary.specs.declared.field_sum.FieldSum.{FieldSum}
 use Rattle.daily_summary.specs.Bounds.{IsSumOf, IsInBounds}
 use Rattle.daily_summary.specs.Measured.{IsMeasured}
 use Rattle.daily_summary.specs.Parts.{IsTyped, AreTyped}
-use Rattle.daily_summary.specs.Readings.{Reading, value_of, with_value, readings, least, greatest, total, weighted, time}
+use Rattle.daily_summary.specs.Readings.{Reading, field_value, with_reading, readings, least_reading, greatest, readings_total, weighted, time}
 use Rattle.daily_summary.specs.Summary.{field_sum, summary_of}
 use Rattle.daily_summary.proofs.Fields.{field_is, printable_at}
 use Rattle.daily_summary.proofs.Summing.{abs_add, near, near_times, fits_below, least_period}
@@ -35,9 +35,9 @@ AreReads (r ∷ rs) = IsRead r × AreReads rs
 -- the readings of rows that were measured are such, and not more than the rows
 are_read : (field : ℕ) (rows : List Row) → All IsMeasured rows → AreReads (readings field rows)
 are_read field [] all = tt
-are_read field (row ∷ rows) all = by (value_of field row) (printable_at row.values field (All-head IsMeasured row rows all).values) (are_read field rows (All-tail IsMeasured row rows all))
+are_read field (row ∷ rows) all = by (field_value field row) (printable_at row.values field (All-head IsMeasured row rows all).values) (are_read field rows (All-tail IsMeasured row rows all))
   where
-    by : (value : Option ℤ) → IsPrintable value → AreReads (readings field rows) → AreReads (with_value value row (readings field rows))
+    by : (value : Option ℤ) → IsPrintable value → AreReads (readings field rows) → AreReads (with_reading value row (readings field rows))
     by None printable more = more
     by (Some v) printable more =
         let measured = All-head IsMeasured row rows all in
@@ -46,18 +46,18 @@ are_read field (row ∷ rows) all = by (value_of field row) (printable_at row.va
 
 pub few_readings : (field : ℕ) (rows : List Row) → length (readings field rows) ≤ length rows
 few_readings field [] = omega arith
-few_readings field (row ∷ rows) = by (value_of field row) (few_readings field rows)
+few_readings field (row ∷ rows) = by (field_value field row) (few_readings field rows)
   where
-    by : (value : Option ℤ) → length (readings field rows) ≤ length rows → length (with_value value row (readings field rows)) ≤ suc (length rows)
+    by : (value : Option ℤ) → length (readings field rows) ≤ length rows → length (with_reading value row (readings field rows)) ≤ suc (length rows)
     by None few = omega arith
     by (Some v) few = omega arith
 
 -- an extreme is one of them
-least_read : (r : Reading) (rs : List Reading) → IsRead r → AreReads rs → IsRead (least r rs)
+least_read : (r : Reading) (rs : List Reading) → IsRead r → AreReads rs → IsRead (least_reading r rs)
 least_read r [] one all = one
-least_read r (next ∷ rs) one all = by (int_lt (least next rs).value r.value) (least_read next rs all.0 all.1)
+least_read r (next ∷ rs) one all = by (int_lt (least_reading next rs).value r.value) (least_read next rs all.0 all.1)
   where
-    by : (test : Bool) → IsRead (least next rs) → IsRead (cond test (least next rs) r)
+    by : (test : Bool) → IsRead (least_reading next rs) → IsRead (cond test (least_reading next rs) r)
     by true more = more
     by false more = one
 
@@ -70,9 +70,9 @@ greatest_read r (next ∷ rs) one all = by (int_lt r.value (greatest next rs).va
     by false more = one
 
 -- the sums
-total_near : (rs : List Reading) → AreReads rs → unsigned_abs (total rs) ≤ 2000000 * length rs
+total_near : (rs : List Reading) → AreReads rs → unsigned_abs (readings_total rs) ≤ 2000000 * length rs
 total_near [] all = omega arith
-total_near (r ∷ rs) all = let sum = abs_add r.value (total rs) 2000000 (2000000 * length rs) all.0.value (total_near rs all.1) in omega (arith, sum)
+total_near (r ∷ rs) all = let sum = abs_add r.value (readings_total rs) 2000000 (2000000 * length rs) all.0.value (total_near rs all.1) in omega (arith, sum)
 
 time-cons : (r : Reading) (rs : List Reading) → time (r ∷ rs) ≡ r.seconds + time rs
 time-cons r rs = sum_by-cons (λ (s : Reading). s.seconds) r rs
@@ -111,11 +111,11 @@ sum_typed (r ∷ rs) all few =
     let lo = least_read r rs all.0 all.1 in let hi = greatest_read r rs all.0 all.1 in
     let long = time_long (r ∷ rs) all in let sum = total_near (r ∷ rs) all in let wsum = weighted_near (r ∷ rs) all in
     record {
-      least = fits_signed_from_abs w32 (least r rs).value (let v = lo.value in omega (arith, v));
+      least = fits_signed_from_abs w32 (least_reading r rs).value (let v = lo.value in omega (arith, v));
       least_at = lo.stamp;
       greatest = fits_signed_from_abs w32 (greatest r rs).value (let v = hi.value in omega (arith, v));
       greatest_at = hi.stamp;
-      sum = fits_below (total (r ∷ rs)) _ sum (omega (arith, few));
+      sum = fits_below (readings_total (r ∷ rs)) _ sum (omega (arith, few));
       count = omega (arith, few);
       wsum = fits_below (weighted (r ∷ rs)) _ wsum (omega (arith, few, long));
       sumtime = omega (arith, few, long);

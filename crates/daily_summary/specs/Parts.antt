@@ -16,9 +16,9 @@ abbrev pub stamp_bytes : CivilMinute → List ℕ
 stamp_bytes stamp = little_bytes 2 (date_word_of stamp) ++ little_bytes 2 (time_word_of stamp)
 
 -- the 44 bytes of a field: the numbers with their low bytes first, or zeros where it has no value
-abbrev pub entry_of : Option FieldSum → List ℕ
-entry_of None = replicate 44 0
-entry_of (Some s) =
+abbrev pub field_entry : Option FieldSum → List ℕ
+field_entry None = replicate 44 0
+field_entry (Some s) =
     little_bytes 4 (cast_unsigned w32 s.least) ++ (stamp_bytes s.least_at
     ++ (little_bytes 4 (cast_unsigned w32 s.greatest) ++ (stamp_bytes s.greatest_at
     ++ (little_bytes 8 (cast_unsigned w64 s.sum) ++ (little_bytes 4 s.count
@@ -26,15 +26,15 @@ entry_of (Some s) =
 
 -- the entry of a field by its number; zeros past the last
 unfoldable pub entry_at : ℕ → DaySummary → List ℕ
-entry_at field s = entry_of (slice_index_or s.fields field None)
+entry_at field s = field_entry (slice_index_or s.fields field None)
 
 -- part k: the entries of the fields 3 * k, 3 * k + 1 and 3 * k + 2
-abbrev pub part_of : ℕ → DaySummary → List ℕ
-part_of k s = entry_at (3 * k) s ++ entry_at (3 * k + 1) s ++ entry_at (3 * k + 2) s
+abbrev pub summary_part : ℕ → DaySummary → List ℕ
+summary_part k s = entry_at (3 * k) s ++ entry_at (3 * k + 1) s ++ entry_at (3 * k + 2) s
 
 -- all parts one behind another
-abbrev pub parts_of : DaySummary → List ℕ
-parts_of s = flat_map (λ k. part_of k s) (range_with_len 0 13)
+abbrev pub summary_parts : DaySummary → List ℕ
+summary_parts s = flat_map (λ k. summary_part k s) (range_with_len 0 13)
 
 -- the entry of a field in the bytes of all parts
 abbrev pub entry_in : ℕ → List ℕ → List ℕ

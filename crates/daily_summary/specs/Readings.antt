@@ -12,22 +12,22 @@ pub record Reading : Type 0 where
   pub seconds : ℕ
 
 -- a row's reading of this value
-abbrev pub reading : Row → ℤ → Reading
-reading row value = record { value = value; stamp = row.stamp; seconds = 60 * row.interval }
+abbrev pub row_reading : Row → ℤ → Reading
+row_reading row value = record { value = value; stamp = row.stamp; seconds = 60 * row.interval }
 
 -- the value of a field, if the row has one
-abbrev pub value_of : ℕ → Row → Option ℤ
-value_of field row = slice_index_or row.values field None
+abbrev pub field_value : ℕ → Row → Option ℤ
+field_value field row = slice_index_or row.values field None
 
 -- the row's reading in front of others, where it has the value
-abbrev pub with_value : Option ℤ → Row → List Reading → List Reading
-with_value None row others = others
-with_value (Some value) row others = reading row value ∷ others
+abbrev pub with_reading : Option ℤ → Row → List Reading → List Reading
+with_reading None row others = others
+with_reading (Some value) row others = row_reading row value ∷ others
 
 -- the readings of a field, in the order of the rows; a row without a value is left out
 abbrev pub readings : ℕ → List Row → List Reading
 readings field [] = []
-readings field (row ∷ rows) = with_value (value_of field row) row (readings field rows)
+readings field (row ∷ rows) = with_reading (field_value field row) row (readings field rows)
 
 -- of two readings the one with the lesser value, and of equal ones the earlier
 abbrev pub lesser : Reading → Reading → Reading
@@ -38,9 +38,9 @@ abbrev pub greater : Reading → Reading → Reading
 greater earlier later = if int_lt earlier.value later.value then later else earlier
 
 -- the earliest of those with the least value, of a reading and more
-abbrev pub least : Reading → List Reading → Reading
-least first [] = first
-least first (next ∷ more) = lesser first (least next more)
+abbrev pub least_reading : Reading → List Reading → Reading
+least_reading first [] = first
+least_reading first (next ∷ more) = lesser first (least_reading next more)
 
 -- the earliest of those with the greatest value
 abbrev pub greatest : Reading → List Reading → Reading
@@ -48,9 +48,9 @@ greatest first [] = first
 greatest first (next ∷ more) = greater first (greatest next more)
 
 -- the sum of the values
-abbrev pub total : List Reading → ℤ
-total [] = pos 0
-total (r ∷ more) = r.value +ℤ total more
+abbrev pub readings_total : List Reading → ℤ
+readings_total [] = pos 0
+readings_total (r ∷ more) = r.value +ℤ readings_total more
 
 -- the sum of the values, each times its seconds
 abbrev pub weighted : List Reading → ℤ

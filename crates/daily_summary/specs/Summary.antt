@@ -9,17 +9,17 @@ use Rattle.station_base.specs.CivilMinute.{archive_day_of}
 use Rattle.station_base.specs.declared.row.Row.{Row}
 use Rattle.daily_summary.specs.declared.field_sum.FieldSum.{FieldSum}
 use Rattle.daily_summary.specs.declared.summary.DaySummary.{DaySummary}
-use Rattle.daily_summary.specs.Readings.{Reading, readings, least, greatest, total, weighted, time}
+use Rattle.daily_summary.specs.Readings.{Reading, readings, least_reading, greatest, readings_total, weighted, time}
 
 -- what readings come to, if there are any
 abbrev pub field_sum : List Reading → Option FieldSum
 field_sum [] = None
 field_sum (first ∷ more) = Some (record {
-  least = (least first more).value;
-  least_at = (least first more).stamp;
+  least = (least_reading first more).value;
+  least_at = (least_reading first more).stamp;
   greatest = (greatest first more).value;
   greatest_at = (greatest first more).stamp;
-  sum = total (first ∷ more);
+  sum = readings_total (first ∷ more);
   count = length (first ∷ more);
   wsum = weighted (first ∷ more);
   sumtime = time (first ∷ more);

@@ -3,8 +3,8 @@ ghost use Rattle.std.specs.Int.{w32, w64, cast_signed};
 ghost use Rattle.std.specs.declared.option.Option.{Option};
 ghost use Rattle.row_slot.specs.Slot.{number_at};
 ghost use Rattle.daily_summary.specs.Bounds.{IsSumOf};
-ghost use Rattle.daily_summary.specs.Parts.{entry_of, stamp_at, sum_in, IsTyped};
-ghost use Rattle.daily_summary.specs.WellFormed.{IsBlank, IsEntry};
+ghost use Rattle.daily_summary.specs.Parts.{field_entry, stamp_at, sum_in, IsTyped};
+ghost use Rattle.daily_summary.specs.WellFormed.{BytesAreBlank, IsEntry};
 ghost use Rattle.daily_summary.specs.declared.field_sum.FieldSum.{FieldSum};
 
 use crate::field_sum::FieldSum;
@@ -41,7 +41,7 @@ const LONGEST: u64 = 7_200;
 
 // The bytes of what a field comes to, or zeros where it has no value.
 pub(crate) fn entry_of(sum: &Option<FieldSum>) -> [u8; ENTRY]
-    ensures { result ≡ entry_of sum.now }
+    ensures { result ≡ field_entry sum.now }
 {
     match sum {
         Some(sum) => spelled(sum),
@@ -51,7 +51,7 @@ pub(crate) fn entry_of(sum: &Option<FieldSum>) -> [u8; ENTRY]
 
 // The same where there is a value.
 fn spelled(sum: &FieldSum) -> [u8; ENTRY]
-    ensures { result ≡ entry_of (Some sum.now) }
+    ensures { result ≡ field_entry (Some sum.now) }
 {
     let mut bytes = [0; ENTRY];
     LittleEndian::write_i32(&mut bytes[LEAST..], sum.least);
@@ -73,9 +73,9 @@ pub(crate) fn entry_in(bytes: &[u8], rows: u32) -> Option<Option<FieldSum>>
     requires long { length bytes.now ≡ 44 }
     requires rows { rows ≤ 1048576 }
     ensures well_formed { IsSome result ↔ IsEntry rows bytes.now }
-    ensures found { IfSome result (λ sum. (entry_of sum ≡ bytes.now) × IfSome sum (IsSumOf rows)) }
+    ensures found { IfSome result (λ sum. (field_entry sum ≡ bytes.now) × IfSome sum (IsSumOf rows)) }
     ensures only { (sum : Option FieldSum) → IfSome sum IsTyped → IfSome sum (IsSumOf rows)
-        → entry_of sum ≡ bytes.now → result ≡ Some sum }
+        → field_entry sum ≡ bytes.now → result ≡ Some sum }
 {
     if is_blank(bytes) {
         return Some(None);
@@ -89,7 +89,7 @@ pub(crate) fn entry_in(bytes: &[u8], rows: u32) -> Option<Option<FieldSum>>
 
 // Whether all of them are 0.
 pub(crate) fn is_blank(bytes: &[u8]) -> bool
-    ensures { IsTrue result ↔ IsBlank bytes.now }
+    ensures { IsTrue result ↔ BytesAreBlank bytes.now }
 {
     bytes.iter().all(|byte| *byte == 0)
 }

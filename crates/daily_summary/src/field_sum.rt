@@ -2,7 +2,7 @@ ghost use Rattle.std.specs.Prelude.{◌≡◌, ◌+◌, ◌*◌, ◌≤◌, ◌<
 ghost use Rattle.station_base.specs.Period.{IsPeriod};
 ghost use Rattle.station_base.specs.RowLine.{IsPrintable};
 ghost use Rattle.daily_summary.specs.Bounds.{IsSum, IsSumOf};
-ghost use Rattle.daily_summary.specs.Joined.{AreEqualButGreatest, AreEqualButLeast, count_of, joined, merged, sum_of_row, sum_of_value};
+ghost use Rattle.daily_summary.specs.Joined.{AreEqualButGreatest, AreEqualButLeast, value_count, joined, merged, sum_of_row, sum_of_value};
 
 use station_base::{Row, Stamp};
 
@@ -118,10 +118,10 @@ impl FieldSum {
 // Adds a value of a row behind those that were added, if the row has it.
 pub(crate) fn add(sum: &mut Option<FieldSum>, row: &Row, value: Option<i32>)
     requires earlier { IfSome sum.old IsSum }
-    requires fewer { count_of sum.old < 1048576 }
+    requires fewer { value_count sum.old < 1048576 }
     requires printable { IsPrintable value }
     ensures exact { sum.new ≡ merged sum.old (sum_of_value row.now value) }
-    ensures bounds { IfSome sum.new (IsSumOf (count_of sum.old + 1)) }
+    ensures bounds { IfSome sum.new (IsSumOf (value_count sum.old + 1)) }
 {
     let Some(value) = value else {
         return;
@@ -136,9 +136,9 @@ pub(crate) fn add(sum: &mut Option<FieldSum>, row: &Row, value: Option<i32>)
 pub(crate) fn merge(sum: &mut Option<FieldSum>, later: &Option<FieldSum>)
     requires earlier { IfSome sum.old IsSum }
     requires later { IfSome later.now IsSum }
-    requires few { count_of sum.old + count_of later.now ≤ 1048576 }
+    requires few { value_count sum.old + value_count later.now ≤ 1048576 }
     ensures exact { sum.new ≡ merged sum.old later.now }
-    ensures bounds { IfSome sum.new (IsSumOf (count_of sum.old + count_of later.now)) }
+    ensures bounds { IfSome sum.new (IsSumOf (value_count sum.old + value_count later.now)) }
 {
     let Some(later) = later else {
         return;

@@ -1,5 +1,5 @@
 ghost use Rattle.std.specs.Prelude.{◌≡◌, ◌<◌, ◌↔◌, IfSome, IsSome, Some};
-ghost use Rattle.daily_summary.specs.Parts.{entry_at, part_of, AreTyped};
+ghost use Rattle.daily_summary.specs.Parts.{entry_at, summary_part, AreTyped};
 ghost use Rattle.daily_summary.specs.WellFormed.{AreParts, IsStoredAs};
 ghost use Rattle.daily_summary.specs.declared.summary.DaySummary.{DaySummary};
 
@@ -26,7 +26,7 @@ impl DaySummary {
     /// zeros in place of an entry past the last field. There are 13 parts. (The layout is this project's own.)
     pub fn part(&self, k: u8) -> [u8; PART_SIZE]
         requires { k < 13 }
-        ensures { result ≡ part_of k self.now }
+        ensures { result ≡ summary_part k self.now }
     {
         let mut part = [0; PART_SIZE];
         for place in 0..FIELDS_OF_PART {

@@ -35,7 +35,8 @@ impl DaySummary {
         requires bounds { IsInBounds self.old }
         requires fewer { self.old.rows < 1048576 }
         requires printable { All IsPrintable row.now.values }
-        ensures summary { (rows : List Row) → self.old ≡ summary_of rows → self.new ≡ summary_of (rows ++ row.now ∷ []) }
+        ensures summary { (rows : List Row) → self.old ≡ summary_of rows
+            → self.new ≡ summary_of (rows ++ row.now ∷ []) }
         ensures bounds { IsInBounds self.new }
         ensures rows { self.new.rows ≡ self.old.rows + 1 }
     {

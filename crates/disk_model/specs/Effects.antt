@@ -4,7 +4,7 @@ use Rattle.std.proofs.Common.{ap, sym, subst, ◌∙◌}
 use Rattle.std.proofs.lemmas.List.{append_assoc}
 use Rattle.disk_model.specs.Calls.{DiskCall, wrote, synced, one_byte}
 use Rattle.disk_model.specs.DiskState.{DiskState, WentBy, must_fail, and_after, after_calls, went_by_joins}
-use Rattle.disk_model.specs.Platter.{Platter, Step, write, sync, take_step}
+use Rattle.disk_model.specs.Platter.{Platter, PlatterStep, write, sync, take_step}
 
 -- a write that took effect, with its place, its length, and its byte where it is of one; or a sync
 pub data Effect : Type 0 where
@@ -12,7 +12,7 @@ pub data Effect : Type 0 where
   sync_of : Effect
 
 -- the change is such a one
-abbrev pub IsEffect : Step → Effect → Type 0
+abbrev pub IsEffect : PlatterStep → Effect → Type 0
 IsEffect (write place bytes) (write_of at len byte) = (place ≡ at) × (length bytes ≡ len) × (one_byte bytes ≡ byte)
 IsEffect sync sync_of = Unit {0}
 IsEffect other effect = ⊥
@@ -20,7 +20,7 @@ IsEffect other effect = ⊥
 -- changes such as these made the one platter of the other
 abbrev pub Took : Platter → List Effect → Platter → Type 0
 Took old [] new = new ≡ old
-Took old (effect ∷ more) new = (s : Step) × IsEffect s effect × Took (take_step old s) more new
+Took old (effect ∷ more) new = (s : PlatterStep) × IsEffect s effect × Took (take_step old s) more new
 
 -- a platter after a write that fails, or takes effect
 abbrev pub written_unless : Bool → ℕ → List ℕ → Platter → Platter

@@ -10,10 +10,10 @@ use Rattle.vantage_frames.specs.StampFrame.{stamp_frame_of}
 use Rattle.dmpaft_pump.specs.declared.outcome.DumpEnd.{DumpEnd}
 use Rattle.dmpaft_pump.specs.declared.outcome.DumpEnd.TheVariants as dump_end
 use Rattle.dmpaft_driver.specs.Attempt.{Pages, Heads, Requests, Attempt, End}
-use Rattle.dmpaft_pump.specs.Batch.{slots, rising, newest, add, batches, answered, EndsGiving}
+use Rattle.dmpaft_pump.specs.Batch.{slots_in_page, rising, newest, add, batches, answered_batches, EndsGiving}
 use Rattle.dmpaft_pump.specs.Keeper.{kept_in}
 use Rattle.dmpaft_driver.specs.Outcome.{Ended}
-use Rattle.dmpaft_driver.specs.Gathered.{keeper_answer, steps_of}
+use Rattle.dmpaft_driver.specs.Gathered.{keeper_answer, dump_batches}
 use Rattle.dmpaft_driver.specs.OneAttempt.{OneAttempt, OneFront, AcknowledgedAreKept, TakenAreAcknowledged}
 use Rattle.serial_link.specs.Talk.{message}
 use Rattle.dmpaft_pump.specs.Command.{dmpaft}
@@ -61,8 +61,8 @@ add_behind (r ∷ rows) more rest = refl
 batches_first : (last : Option CivilMinute) (place : ℕ) (A more : List (List ℕ)) → (rest : List (List (List ℕ))) × (batches last place (A ++ more) ≡ batches last place A ++ rest)
 batches_first last place [] more = (batches last place more, refl)
 batches_first last place (page ∷ A) more =
-    let b = batches_first (newest last (slots place page)) 0 A more in
-    (b.0, ap (λ (x : List (List (List ℕ))). add (rising last (slots place page)) x) b.1 ∙ add_behind (rising last (slots place page)) (batches (newest last (slots place page)) 0 A) b.0)
+    let b = batches_first (newest last (slots_in_page place page)) 0 A more in
+    (b.0, ap (λ (x : List (List (List ℕ))). add (rising last (slots_in_page place page)) x) b.1 ∙ add_behind (rising last (slots_in_page place page)) (batches (newest last (slots_in_page place page)) 0 A) b.0)
 
 add_some : (rows : List (List ℕ)) (more : List (List (List ℕ))) → rows ≢ [] → add rows more ≢ []
 add_some [] more some e = some refl
@@ -74,10 +74,10 @@ add_more (r ∷ rows) more some e = cc
 
 gives_some : (last : Option CivilMinute) (place : ℕ) (taken : List (List ℕ)) → EndsGiving last place taken → batches last place taken ≢ []
 gives_some last place [] x = absurd x
-gives_some last place (page ∷ []) x = add_some (rising last (slots place page)) [] x
-gives_some last place (page ∷ next ∷ more) x = add_more (rising last (slots place page)) (batches (newest last (slots place page)) 0 (next ∷ more)) (gives_some (newest last (slots place page)) 0 (next ∷ more) x)
+gives_some last place (page ∷ []) x = add_some (rising last (slots_in_page place page)) [] x
+gives_some last place (page ∷ next ∷ more) x = add_more (rising last (slots_in_page place page)) (batches (newest last (slots_in_page place page)) 0 (next ∷ more)) (gives_some (newest last (slots_in_page place page)) 0 (next ∷ more) x)
 
-gives_next : (last : Option CivilMinute) (place : ℕ) (page : List ℕ) (A more : List (List ℕ)) → more ≢ [] → EndsGiving last place (page ∷ (A ++ more)) → EndsGiving (newest last (slots place page)) 0 (A ++ more)
+gives_next : (last : Option CivilMinute) (place : ℕ) (page : List ℕ) (A more : List (List ℕ)) → more ≢ [] → EndsGiving last place (page ∷ (A ++ more)) → EndsGiving (newest last (slots_in_page place page)) 0 (A ++ more)
 gives_next last place page [] [] some x = absurd (some refl)
 gives_next last place page [] (next ∷ more) some x = x
 gives_next last place page (next ∷ A) more some x = x
@@ -86,11 +86,11 @@ gives_next last place page (next ∷ A) more some x = x
 batches_behind : (last : Option CivilMinute) (place : ℕ) (A more : List (List ℕ)) → more ≢ [] → EndsGiving last place (A ++ more) → (rest : List (List (List ℕ))) × (rest ≢ []) × (batches last place (A ++ more) ≡ batches last place A ++ rest)
 batches_behind last place [] more some x = (batches last place more, gives_some last place more x, refl)
 batches_behind last place (page ∷ A) more some x =
-    let b = batches_behind (newest last (slots place page)) 0 A more some (gives_next last place page A more some x) in
-    (b.0, b.1, ap (λ (z : List (List (List ℕ))). add (rising last (slots place page)) z) b.2 ∙ add_behind (rising last (slots place page)) (batches (newest last (slots place page)) 0 A) b.0)
+    let b = batches_behind (newest last (slots_in_page place page)) 0 A more some (gives_next last place page A more some x) in
+    (b.0, b.1, ap (λ (z : List (List (List ℕ))). add (rising last (slots_in_page place page)) z) b.2 ∙ add_behind (rising last (slots_in_page place page)) (batches (newest last (slots_in_page place page)) 0 A) b.0)
 
 -- batches before others were kept
-kept_first : (answer : Stored) (bs rest : List (List (List ℕ))) → rest ≢ [] → kept_in (answered answer (bs ++ rest)) ≡ bs ++ kept_in (answered answer rest)
+kept_first : (answer : Stored) (bs rest : List (List (List ℕ))) → rest ≢ [] → kept_in (answered_batches answer (bs ++ rest)) ≡ bs ++ kept_in (answered_batches answer rest)
 kept_first answer [] rest some = refl
 kept_first answer (b ∷ []) [] some = absurd (some refl)
 kept_first answer (b ∷ []) (r ∷ rest) some = refl
@@ -98,22 +98,22 @@ kept_first answer (b ∷ c ∷ bs) rest some = ap (λ (x : List (List (List ℕ)
 
 -- pages that are the first of those taken, where no batch was refused
 front_kept : (after : Option CivilMinute) (p q : ℕ) (pages more taken : List (List ℕ)) (end : DumpEnd) → keeper_answer end ≡ stored.Done → taken ≡ pages ++ more → p ≡ q
-    → IsFrontOf (batches after p pages) (kept_in (steps_of end after q taken))
+    → IsFrontOf (batches after p pages) (kept_in (dump_batches end after q taken))
 front_kept after p q pages more taken end done e same =
     let b = batches_first after p pages more in (
       b.0,
       sym b.1 ∙ ap (λ (x : List (List ℕ)). batches after p x) (sym e) ∙ ap (λ n. batches after n taken) same ∙ sym (kept_in_all (batches after q taken))
-          ∙ ap kept_in (sym (kept_answered (batches after q taken))) ∙ ap (λ (x : Stored). kept_in (answered x (batches after q taken))) (sym done),
+          ∙ ap kept_in (sym (kept_answered (batches after q taken))) ∙ ap (λ (x : Stored). kept_in (answered_batches x (batches after q taken))) (sym done),
     )
 
 -- and where the last batch was refused, and others were taken after them
 front_kept_refused : (after : Option CivilMinute) (p q : ℕ) (pages more taken : List (List ℕ)) (end : DumpEnd) → EndsGiving after q taken → more ≢ [] → taken ≡ pages ++ more → p ≡ q
-    → IsFrontOf (batches after p pages) (kept_in (steps_of end after q taken))
+    → IsFrontOf (batches after p pages) (kept_in (dump_batches end after q taken))
 front_kept_refused after p q pages more taken end gives some e same =
     let b = batches_behind after p pages more some (subst (λ n. EndsGiving after n (pages ++ more)) (sym same) (subst (λ (x : List (List ℕ)). EndsGiving after q x) e gives)) in (
-      kept_in (answered (keeper_answer end) b.0),
-      sym (kept_first (keeper_answer end) (batches after p pages) b.0 b.1) ∙ ap (λ (x : List (List (List ℕ))). kept_in (answered (keeper_answer end) x)) (sym b.2)
-          ∙ ap (λ (x : List (List ℕ)). kept_in (answered (keeper_answer end) (batches after p x))) (sym e) ∙ ap (λ n. kept_in (answered (keeper_answer end) (batches after n taken))) same,
+      kept_in (answered_batches (keeper_answer end) b.0),
+      sym (kept_first (keeper_answer end) (batches after p pages) b.0 b.1) ∙ ap (λ (x : List (List (List ℕ))). kept_in (answered_batches (keeper_answer end) x)) (sym b.2)
+          ∙ ap (λ (x : List (List ℕ)). kept_in (answered_batches (keeper_answer end) (batches after p x))) (sym e) ∙ ap (λ n. kept_in (answered_batches (keeper_answer end) (batches after n taken))) same,
     )
 
 heads_some : (frame : List ℕ) (t : List TalkItem) (p : ℕ) (taken : List (List ℕ)) → Heads frame t p taken End.Refused → taken ≢ []
@@ -137,13 +137,13 @@ module _ (after : Option CivilMinute) (p q : ℕ) (taken pages : List (List ℕ)
 
   -- within a talk in which no batch was refused
   unrefused : (end : DumpEnd) (talk : List TalkItem) (e : End) → keeper_answer end ≡ stored.Done → front ++ rest ≡ talk → Attempt (stamp_frame_of after) talk q taken e
-      → IsFrontOf (batches after p pages) (kept_in (steps_of end after q taken))
+      → IsFrontOf (batches after p pages) (kept_in (dump_batches end after q taken))
   unrefused end talk e done is x =
       let o = attempt_goes (stamp_frame_of after) front talk rest p q pages taken End.Refused e g x is in
       front_kept after p q pages o.more taken end done o.first (o.places some_pages)
 
   refused : (end : DumpEnd) (talk : List TalkItem) → EndsGiving after q taken → rest ≢ [] → front ++ rest ≡ talk → Attempt (stamp_frame_of after) talk q taken End.Refused
-      → IsFrontOf (batches after p pages) (kept_in (steps_of end after q taken))
+      → IsFrontOf (batches after p pages) (kept_in (dump_batches end after q taken))
   refused end talk gives some is x =
       let o = attempt_goes (stamp_frame_of after) front talk rest p q pages taken End.Refused End.Refused g x is in
       front_kept_refused after p q pages o.more taken end gives (λ none. some (o.refused refl none)) o.first (o.places some_pages)
@@ -158,7 +158,7 @@ acknowledged_are_kept after talk place place' taken pages end x (front, rest, e,
     some = λ none. cc
 
     go : (end : DumpEnd) → Ended (λ t ps n. Attempt (stamp_frame_of after) t place ps n) end talk taken → (keeper_answer end ≢ stored.Done → EndsGiving after place taken)
-        → IsFrontOf (batches after place' pages) (kept_in (steps_of end after place taken))
+        → IsFrontOf (batches after place' pages) (kept_in (dump_batches end after place taken))
     go dump_end.Whole h r = unrefused after place' place taken pages front behind g dump_end.Whole talk End.Whole refl (sym e) h
     go (dump_end.Failed trouble) h r = unrefused after place' place taken pages front behind g (dump_end.Failed trouble) talk (End.Failed trouble) refl (sym e) h
     go dump_end.Flood h r = unrefused after place' place taken pages front behind g dump_end.Flood talk End.Flooded refl (sym e) h

@@ -9,7 +9,7 @@ use Rattle.wake_retry.proofs.Endings.{one_answer, one_still, one_flood, still_or
 use Rattle.dmpaft_pump.specs.declared.outcome.Trouble.{Trouble}
 use Rattle.dmpaft_pump.specs.declared.outcome.Trouble.TheVariants.{PageLost, PageAhead}
 use Rattle.dmpaft_pump.specs.Page.{is_page_for, is_ahead, next_said}
-use Rattle.dmpaft_driver.specs.Attempt.{Takes, Misses, AskFloods}
+use Rattle.dmpaft_driver.specs.Attempt.{TakesPage, Misses, AskFloods}
 
 -- what came of the askings for a page
 pub data Came : Type 0 where
@@ -19,7 +19,7 @@ pub data Came : Type 0 where
 
 -- within so many askings for page k, of which the first says b, this comes
 abbrev pub Askings : ℕ → ℕ → ℕ → List TalkItem → Came → Type 0
-Askings left k b talk (Came.Page bytes) = Takes left k b talk bytes
+Askings left k b talk (Came.Page bytes) = TakesPage left k b talk bytes
 Askings left k b talk (Came.Missed trouble) = Misses left k b talk trouble
 Askings left k b talk Came.Floods = AskFloods left k b talk
 

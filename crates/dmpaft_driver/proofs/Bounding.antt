@@ -16,7 +16,7 @@ use Rattle.dmpaft_pump.specs.declared.outcome.DumpEnd.TheVariants as dump_end
 use Rattle.dmpaft_pump.specs.declared.outcome.Trouble.{Trouble}
 use Rattle.dmpaft_pump.specs.declared.outcome.Trouble.TheVariants.{Asleep, NoAck}
 use Rattle.dmpaft_pump.specs.Header.{IsHeader, IsNoHeader, first_of}
-use Rattle.dmpaft_driver.specs.Attempt.{Attempt, Takes, Misses, AskFloods, Pages, Heads, Requests, End, esc, last_said}
+use Rattle.dmpaft_driver.specs.Attempt.{Attempt, TakesPage, Misses, AskFloods, Pages, Heads, Requests, End, esc, last_said}
 use Rattle.dmpaft_pump.specs.Command.{dmpaft}
 use Rattle.dmpaft_driver.specs.Bounds.{AttemptsAreBounded, most_heard, most_said}
 use Rattle.dmpaft_driver.specs.Outcome.{Ended, IsCutAfter}
@@ -73,7 +73,7 @@ next_asking left b talk t rest s more is answer split settled some others =
     (bounded_joins page_size 0 (flood_size + (asked_and_settled * left - flood_size)) (0 + left) t (s ++ more) answer
     (bounded_joins flood_size 0 (asked_and_settled * left - flood_size) left s more settled others)))))
 
-takes : (left k b : ℕ) (talk : List TalkItem) (bytes : List ℕ) → Takes left k b talk bytes → (1 ≤ left) × AreAskings left talk
+takes : (left k b : ℕ) (talk : List TalkItem) (bytes : List ℕ) → TakesPage left k b talk bytes → (1 ≤ left) × AreAskings left talk
 takes zero k b talk bytes x = absurd x
 takes (suc left) k b talk bytes (t, rest, is, w, inl (page, none, same)) = (omega arith, last_asking left b talk t rest is (bounds_answer answer_waits page_size t w) none)
 takes (suc left) k b talk bytes (t, rest, is, w, inr (other, near, (s, more, split, still, x))) =

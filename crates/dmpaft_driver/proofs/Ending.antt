@@ -12,33 +12,33 @@ use Rattle.dmpaft_pump.specs.declared.outcome.DumpEnd.{DumpEnd}
 use Rattle.dmpaft_pump.specs.declared.outcome.Tally.{Tally}
 use Rattle.dmpaft_pump.specs.declared.pump.Pump.{Pump}
 use Rattle.dmpaft_driver.specs.Attempt.{Attempt}
-use Rattle.dmpaft_pump.specs.Batch.{batches, answered, EndsGiving}
+use Rattle.dmpaft_pump.specs.Batch.{batches, answered_batches, EndsGiving}
 use Rattle.dmpaft_pump.specs.Keeper.{Handed, count, last_kept}
 use Rattle.dmpaft_driver.specs.Outcome.{Ended}
-use Rattle.dmpaft_driver.specs.Gathered.{Gathers, keeper_answer, steps_of}
+use Rattle.dmpaft_driver.specs.Gathered.{Gathers, keeper_answer, dump_batches}
 use Rattle.dmpaft_driver.specs.Dump.{host, Dumped}
 use Rattle.dmpaft_pump.specs.Ledger.{Ledger}
 use Rattle.serial_link.specs.Traffic.{Traffic}
-use Rattle.dmpaft_pump.specs.Pump.{State, Over, pump_after}
-use Rattle.dmpaft_pump.specs.Shown.{Tallied, all_kept, answer_of, Shows}
-use Rattle.dmpaft_driver.specs.Standing.{handed, gives}
-use Rattle.dmpaft_driver.specs.Turning.{Desk, Turns, EndsAt, CutsAt}
+use Rattle.dmpaft_pump.specs.Pump.{AttemptState, Over, pump_after}
+use Rattle.dmpaft_pump.specs.Shown.{Tallied, all_kept, pump_answer, PumpShows}
+use Rattle.dmpaft_driver.specs.Standing.{handed_over, gives}
+use Rattle.dmpaft_driver.specs.Turning.{DumpDesk, Turns, EndsAt, CutsAt}
 use Rattle.dmpaft_driver.proofs.Dumping.{none_given, batches_few, kept_few, over_shown, cut_shown, ended_as, ended_cut, cut_answer, answer_same, shown_no_astray, cut_front}
 use Rattle.dmpaft_driver.proofs.Exactly.{sound}
 use Rattle.dmpaft_pump.proofs.Keeping.{kept_answered, count_kept}
 use Rattle.dmpaft_pump.proofs.Pumping.{all_few}
 
-module _ {L K : Type 0} (traffic : Traffic L) (ledger : Ledger K) (start : Tally) (a : Option CivilMinute) (l0 : L) (k0 : K) (old new : Desk L K)
-    (t : List TalkItem) (ks : List Stored) (s : State) (at : pump_after a t ks ≡ s) (adds : Adds traffic l0 t old.link) (shown : Shows start a s old.pump)
-    (given : ledger.keeps k0 (handed a s) old.keeper) (end : DumpEnd) (v : Turns traffic ledger (Some end) start a s old new) where
+module _ {L K : Type 0} (traffic : Traffic L) (ledger : Ledger K) (start : Tally) (a : Option CivilMinute) (l0 : L) (k0 : K) (old new : DumpDesk L K)
+    (t : List TalkItem) (ks : List Stored) (s : AttemptState) (at : pump_after a t ks ≡ s) (adds : Adds traffic l0 t old.link) (shown : PumpShows start a s old.pump)
+    (given : ledger.keeps k0 (handed_over a s) old.keeper) (end : DumpEnd) (v : Turns traffic ledger (Some end) start a s old new) where
   -- where nothing is answered, that is with the keeper which was handed over before
-  given_now : (steps : Handed) → v.answers ≡ [] → handed a s ≡ steps → ledger.keeps k0 steps new.keeper
-  given_now steps none e = subst (λ (y : Handed). ledger.keeps k0 y new.keeper) e (subst (λ (y : K). ledger.keeps k0 (handed a s) y) (sym (v.still (ap (gives a s) none ∙ none_given a s))) given)
+  given_now : (steps : Handed) → v.answers ≡ [] → handed_over a s ≡ steps → ledger.keeps k0 steps new.keeper
+  given_now steps none e = subst (λ (y : Handed). ledger.keeps k0 y new.keeper) e (subst (λ (y : K). ledger.keeps k0 (handed_over a s) y) (sym (v.still (ap (gives a s) none ∙ none_given a s))) given)
 
-  gathered : (place : ℕ) (taken : List (List ℕ)) (steps : Handed) → steps ≡ steps_of end a place taken → v.answers ≡ [] → handed a s ≡ steps → new.pump ≡ old.pump → Tallied start a place taken steps old.pump
+  gathered : (place : ℕ) (taken : List (List ℕ)) (steps : Handed) → steps ≡ dump_batches end a place taken → v.answers ≡ [] → handed_over a s ≡ steps → new.pump ≡ old.pump → Tallied start a place taken steps old.pump
       → (keeper_answer end ≢ stored.Done → EndsGiving a place taken) → Gathers ledger end a place taken k0 start new.keeper new.pump.tally
   gathered place taken steps e none h same tallied refused = record {
-    handed = given_now (steps_of end a place taken) none (h ∙ e);
+    handed = given_now (dump_batches end a place taken) none (h ∙ e);
     refused = refused;
     pages = ap (λ (x : Pump). x.tally.pages) same ∙ tallied.pages;
     skipped = ap (λ (x : Pump). x.tally.skipped) same ∙ tallied.skipped;
@@ -49,7 +49,7 @@ module _ {L K : Type 0} (traffic : Traffic L) (ledger : Ledger K) (start : Tally
   dumped_by (same, inl (place, taken, e, is, end_is, none, noks)) =
       let tells = over_shown start a s place taken e old.pump shown is in
       let whole : pump_after a (t ++ v.said) ks ≡ Over place taken e = ap (λ (y : List TalkItem). pump_after a (t ++ y) ks) none ∙ ap (λ (y : List TalkItem). pump_after a y ks) (append-nil t) ∙ at ∙ is in
-      let answer : answer_of e ≡ keeper_answer end = answer_same e ∙ ap keeper_answer (sym end_is) in
+      let answer : pump_answer e ≡ keeper_answer end = answer_same e ∙ ap keeper_answer (sym end_is) in
       record {
         said = t ++ v.said;
         place = place;
@@ -57,7 +57,7 @@ module _ {L K : Type 0} (traffic : Traffic L) (ledger : Ledger K) (start : Tally
         ends = subst (λ (y : DumpEnd). Ended (λ u pages x. Attempt (stamp_frame_of a) u place pages x) y (t ++ v.said) taken) (sym end_is)
             (ended_as (λ u pages x. Attempt (stamp_frame_of a) u place pages x) e (t ++ v.said) taken (sound a (t ++ v.said) ks place taken e whole));
         adds = adds_joins adds v.adds;
-        gathers = gathered place taken (answered (answer_of e) (batches a place taken)) (ap (λ (y : Stored). answered y (batches a place taken)) answer) noks (ap (handed a) is) same tells.0 (λ ne. tells.1 (λ z. ne (sym answer ∙ z)));
+        gathers = gathered place taken (answered_batches (pump_answer e) (batches a place taken)) (ap (λ (y : Stored). answered_batches y (batches a place taken)) answer) noks (ap (handed_over a) is) same tells.0 (λ ne. tells.1 (λ z. ne (sym answer ∙ z)));
       }
   dumped_by (same, inr (cut, noks, talks, stays, says)) =
       let c = cut_shown start a s old.pump shown talks in
@@ -68,7 +68,7 @@ module _ {L K : Type 0} (traffic : Traffic L) (ledger : Ledger K) (start : Tally
         taken = c.1;
         ends = ended_cut (λ u pages x. Attempt (stamp_frame_of a) u c.0 pages x) end cut (t ++ v.said) c.1 f;
         adds = adds_joins adds v.adds;
-        gathers = gathered c.0 c.1 (all_kept a c.0 c.1) (sym (kept_answered (batches a c.0 c.1)) ∙ ap (λ (y : Stored). answered y (batches a c.0 c.1)) (sym (cut_answer end cut))) noks c.4 same c.3 (λ ne. absurd (ne (cut_answer end cut)));
+        gathers = gathered c.0 c.1 (all_kept a c.0 c.1) (sym (kept_answered (batches a c.0 c.1)) ∙ ap (λ (y : Stored). answered_batches y (batches a c.0 c.1)) (sym (cut_answer end cut))) noks c.4 same c.3 (λ ne. absurd (ne (cut_answer end cut)));
       }
 
   pub dumped : Dumped (Attempt (stamp_frame_of a)) traffic ledger a end (host l0 k0 start) (host new.link new.keeper new.pump.tally)
@@ -77,11 +77,11 @@ module _ {L K : Type 0} (traffic : Traffic L) (ledger : Ledger K) (start : Tally
   Few : Type 0
   Few = (ledger.room k0 ≤ ledger.room new.keeper + most_pages) × (new.pump.tally.pages ≤ start.pages + most_pages) × (new.pump.tally.skipped ≤ start.skipped + 5 * most_pages)
 
-  few_by : ledger.room k0 ≤ ledger.room old.keeper + count (handed a s) → (new.pump ≡ old.pump) × (EndsAt end s v.said v.answers ⊎ CutsAt end a s v.said v.answers old.pump) → Few
+  few_by : ledger.room k0 ≤ ledger.room old.keeper + count (handed_over a s) → (new.pump ≡ old.pump) × (EndsAt end s v.said v.answers ⊎ CutsAt end a s v.said v.answers old.pump) → Few
   unfolding Few
   few_by r (same, inl (place, taken, e, is, end_is, none, noks)) =
       let tells = over_shown start a s place taken e old.pump shown is in (
-        omega (arith, r, v.few, ap count (ap (λ (y : List Stored). gives a s y) noks ∙ none_given a s), ap count (ap (handed a) is), kept_few (answer_of e) a place taken, tells.0.bounded),
+        omega (arith, r, v.few, ap count (ap (λ (y : List Stored). gives a s y) noks ∙ none_given a s), ap count (ap (handed_over a) is), kept_few (pump_answer e) a place taken, tells.0.bounded),
         omega (arith, ap (λ (x : Pump). x.tally.pages) same, tells.0.pages, tells.0.bounded),
         omega (arith, ap (λ (x : Pump). x.tally.skipped) same, tells.0.skipped, all_few place taken, tells.0.bounded),
       )
@@ -93,6 +93,6 @@ module _ {L K : Type 0} (traffic : Traffic L) (ledger : Ledger K) (start : Tally
       )
 
   -- one dump takes no more than one dump can
-  pub few : ledger.room k0 ≤ ledger.room old.keeper + count (handed a s) → (ledger.room k0 ≤ ledger.room new.keeper + most_pages) × (new.pump.tally.pages ≤ start.pages + most_pages) × (new.pump.tally.skipped ≤ start.skipped + 5 * most_pages)
+  pub few : ledger.room k0 ≤ ledger.room old.keeper + count (handed_over a s) → (ledger.room k0 ≤ ledger.room new.keeper + most_pages) × (new.pump.tally.pages ≤ start.pages + most_pages) × (new.pump.tally.skipped ≤ start.skipped + 5 * most_pages)
   unfolding Few
   few r = few_by r v.turns

@@ -11,8 +11,8 @@ use Rattle.dmpaft_pump.specs.declared.outcome.Trouble.{Trouble}
 use Rattle.dmpaft_pump.specs.declared.pump_end.PumpEnd.{PumpEnd}
 use Rattle.dmpaft_pump.specs.declared.pump_end.PumpEnd.TheVariants as pump_end
 use Rattle.dmpaft_driver.specs.Attempt.{End}
-use Rattle.dmpaft_pump.specs.Pump.{saying, Part, Settling, Waking, Calling, Heading, Asking, Resettling, Acking, GivingUp, Next, Goes, Keeps, Empty, Floods, State, Hearing, Keeping, Over, Astray, words, quiets, most, onward, next, told, begun, at, pump_from}
-use Rattle.dmpaft_driver.specs.Exact.{end_of, AllDone, RefusesGiven, Sound, Complete}
+use Rattle.dmpaft_pump.specs.Pump.{saying, AttemptPart, Settling, Waking, Calling, Heading, Asking, Resettling, Acking, GivingUp, Next, Goes, Keeps, Empty, Floods, AttemptState, Hearing, Keeping, Over, Astray, words, quiets, most, onward, next_after_part, words_said, begun, state_at, pump_from}
+use Rattle.dmpaft_driver.specs.Exact.{attempt_end, AllDone, RefusesGiven, Sound, Complete}
 use Rattle.dmpaft_pump.proofs.Hears.{HearsFrom, hears_some}
 use Rattle.dmpaft_pump.proofs.Walking.{no_astray, over_is, said_out, Within, Passed, passes, said_in, heard_in}
 use Rattle.dmpaft_driver.proofs.Rest.{Likeness, Rest, RestAt, Listens, onward_pages, pages_onward, out}
@@ -26,7 +26,7 @@ Exact taken place at = place ≡ at
 abbrev Loose : Likeness
 Loose taken place at = (taken ≡ []) ⊎ (place ≡ at)
 
-pub some_quiets : (p : Part) → 0 < quiets p
+pub some_quiets : (p : AttemptPart) → 0 < quiets p
 some_quiets Settling = omega arith
 some_quiets (Waking left) = omega arith
 some_quiets Calling = omega arith
@@ -36,7 +36,7 @@ some_quiets (Resettling more at taken left b) = omega arith
 some_quiets (Acking at taken) = omega arith
 some_quiets (GivingUp at taken trouble) = omega arith
 
-pub some_bytes : (p : Part) → 0 < most p
+pub some_bytes : (p : AttemptPart) → 0 < most p
 some_bytes Settling = omega arith
 some_bytes (Waking left) = omega arith
 some_bytes Calling = omega arith
@@ -46,7 +46,7 @@ some_bytes (Resettling more at taken left b) = omega arith
 some_bytes (Acking at taken) = omega arith
 some_bytes (GivingUp at taken trouble) = omega arith
 
-pub told_is : (p : Part) → Listens p → told p ≡ Hearing p [] 0
+pub told_is : (p : AttemptPart) → Listens p → words_said p ≡ Hearing p [] 0
 told_is Settling is = refl
 told_is (Waking left) is = refl
 told_is Calling is = refl
@@ -63,11 +63,11 @@ module _ (p q : ℕ) (ps qs : List (List ℕ)) (x y : PumpEnd) (e : Over p ps x 
   pub same_pages : qs ≡ ps
   same_pages = cc
 
-  pub same_end : end_of y ≡ end_of x
-  same_end = let z : y ≡ x = cc in ap end_of z
+  pub same_end : attempt_end y ≡ attempt_end x
+  same_end = let z : y ≡ x = cc in ap attempt_end z
 
 -- what is left of a talk behind a part is shorter
-pub less_left : (a : Option CivilMinute) (p : Part) (t u rest : List TalkItem) (full : Bool) (n : ℕ) → t ≡ message (words a p) ++ (u ++ rest) → HearsFrom (quiets p) (most p) 0 0 u full → length t < suc n → length rest < n
+pub less_left : (a : Option CivilMinute) (p : AttemptPart) (t u rest : List TalkItem) (full : Bool) (n : ℕ) → t ≡ message (words a p) ++ (u ++ rest) → HearsFrom (quiets p) (most p) 0 0 u full → length t < suc n → length rest < n
 less_left a p t u rest full n f h l =
     let size : length t ≡ length (message (words a p)) + (length u + length rest) = ap length f ∙ omega (arith, length-append (message (words a p)) (u ++ rest), length-append u rest) in
     omega (arith, size, l, hears_some (quiets p) (most p) 0 0 u full h)
@@ -84,23 +84,23 @@ module _ (a : Option CivilMinute) where
   over_ne place all end = λ z. cc
 
   module _ (ks : List Stored) (place : ℕ) (all : List (List ℕ)) (end : PumpEnd) where
-    not_within : (p : Part) → Within a ks (Over place all end) (over_ne place all end) p → ⊥
+    not_within : (p : AttemptPart) → Within a ks (Over place all end) (over_ne place all end) p → ⊥
     not_within p (inl x) = let z = x.2 in cc
     not_within p (inr x) = let z = x.2 in cc
 
-    spoken_over : (p : Part) (l t : List TalkItem) → pump_from a (saying p l) t ks ≡ Over place all end → (u : List TalkItem) × (t ≡ l ++ u) × (pump_from a (told p) u ks ≡ Over place all end)
+    spoken_over : (p : AttemptPart) (l t : List TalkItem) → pump_from a (saying p l) t ks ≡ Over place all end → (u : List TalkItem) × (t ≡ l ++ u) × (pump_from a (words_said p) u ks ≡ Over place all end)
     spoken_over p l t e = go (said_out a ks (Over place all end) (over_ne place all end) p l t e)
       where
-        go : Within a ks (Over place all end) (over_ne place all end) p ⊎ ((u : List TalkItem) × (t ≡ l ++ u) × (pump_from a (told p) u ks ≡ Over place all end)) → (u : List TalkItem) × (t ≡ l ++ u) × (pump_from a (told p) u ks ≡ Over place all end)
+        go : Within a ks (Over place all end) (over_ne place all end) p ⊎ ((u : List TalkItem) × (t ≡ l ++ u) × (pump_from a (words_said p) u ks ≡ Over place all end)) → (u : List TalkItem) × (t ≡ l ++ u) × (pump_from a (words_said p) u ks ≡ Over place all end)
         go (inl x) = absurd (not_within p x)
         go (inr y) = y
 
   abbrev Holds : ℕ → Type 0
-  Holds n = (p : Part) (t : List TalkItem) (ks : List Stored) (place : ℕ) (all : List (List ℕ)) (end : PumpEnd) → length t < n → pump_from a (begun a p) t ks ≡ Over place all end → Rest Exact a p t place all (end_of end)
+  Holds n = (p : AttemptPart) (t : List TalkItem) (ks : List Stored) (place : ℕ) (all : List (List ℕ)) (end : PumpEnd) → length t < n → pump_from a (begun a p) t ks ≡ Over place all end → Rest Exact a p t place all (attempt_end end)
 
   module _ (n : ℕ) (ih : Holds n) where
-    refused_at : (more at : ℕ) (taken : List (List ℕ)) (page : List ℕ) (x : PumpEnd) → end_of x ≡ End.Refused → (t : List TalkItem) (ks : List Stored) (place : ℕ) (all : List (List ℕ)) (end : PumpEnd)
-        → pump_from a (Over at (taken ++ page ∷ []) x) t ks ≡ Over place all end → RestAt Exact a (Keeps more at taken page) t place all (end_of end)
+    refused_at : (more at : ℕ) (taken : List (List ℕ)) (page : List ℕ) (x : PumpEnd) → attempt_end x ≡ End.Refused → (t : List TalkItem) (ks : List Stored) (place : ℕ) (all : List (List ℕ)) (end : PumpEnd)
+        → pump_from a (Over at (taken ++ page ∷ []) x) t ks ≡ Over place all end → RestAt Exact a (Keeps more at taken page) t place all (attempt_end end)
     refused_at more at taken page x r t ks place all end e =
         let y = over_is a at (taken ++ page ∷ []) x t ks place all end e in (
           same_place at place (taken ++ page ∷ []) all x end y.2,
@@ -109,7 +109,7 @@ module _ (a : Option CivilMinute) where
           inr (y.0, refl, same_end at place (taken ++ page ∷ []) all x end y.2 ∙ r),
         )
 
-    sound_at : (x : Next) (t : List TalkItem) (ks : List Stored) (place : ℕ) (all : List (List ℕ)) (end : PumpEnd) → length t < n → pump_from a (at a x) t ks ≡ Over place all end → RestAt Exact a x t place all (end_of end)
+    sound_at : (x : Next) (t : List TalkItem) (ks : List Stored) (place : ℕ) (all : List (List ℕ)) (end : PumpEnd) → length t < n → pump_from a (state_at a x) t ks ≡ Over place all end → RestAt Exact a x t place all (attempt_end end)
     sound_at (Goes p) t ks place all end l e = ih p t ks place all end l e
     sound_at (Empty at) t ks place all end l e =
         let y = over_is a at [] pump_end.Whole t ks place all end e in
@@ -120,7 +120,7 @@ module _ (a : Option CivilMinute) where
     sound_at (Keeps more at taken page) [] [] place all end l e = cc
     sound_at (Keeps more at taken page) (i ∷ t) [] place all end l e = absurd (no_astray a t [] place all end e)
     sound_at (Keeps more at taken page) t (stored.Done ∷ ks) place all end l e =
-        onward_pages Exact a more at taken page t place all (end_of end) (ih (onward more at (taken ++ page ∷ [])) t ks place all end l (sym (kept_done more at taken page t ks) ∙ e))
+        onward_pages Exact a more at taken page t place all (attempt_end end) (ih (onward more at (taken ++ page ∷ [])) t ks place all end l (sym (kept_done more at taken page t ks) ∙ e))
     sound_at (Keeps more at taken page) [] (stored.Full ∷ ks) place all end l e = refused_at more at taken page pump_end.Full refl [] ks place all end e
     sound_at (Keeps more at taken page) (i ∷ t) (stored.Full ∷ ks) place all end l e = refused_at more at taken page pump_end.Full refl (i ∷ t) ks place all end e
     sound_at (Keeps more at taken page) [] (stored.Stale ∷ ks) place all end l e = refused_at more at taken page pump_end.Stale refl [] ks place all end e
@@ -128,13 +128,13 @@ module _ (a : Option CivilMinute) where
     sound_at (Keeps more at taken page) [] (stored.DiskFault ∷ ks) place all end l e = refused_at more at taken page pump_end.DiskFault refl [] ks place all end e
     sound_at (Keeps more at taken page) (i ∷ t) (stored.DiskFault ∷ ks) place all end l e = refused_at more at taken page pump_end.DiskFault refl (i ∷ t) ks place all end e
 
-    sound_passed : (p : Part) → Listens p → (t : List TalkItem) (ks : List Stored) (place : ℕ) (all : List (List ℕ)) (end : PumpEnd) → length t < suc n
-        → Within a ks (Over place all end) (over_ne place all end) p ⊎ Passed a ks (Over place all end) (over_ne place all end) p t → Rest Exact a p t place all (end_of end)
+    sound_passed : (p : AttemptPart) → Listens p → (t : List TalkItem) (ks : List Stored) (place : ℕ) (all : List (List ℕ)) (end : PumpEnd) → length t < suc n
+        → Within a ks (Over place all end) (over_ne place all end) p ⊎ Passed a ks (Over place all end) (over_ne place all end) p t → Rest Exact a p t place all (attempt_end end)
     sound_passed p is t ks place all end l (inl x) = absurd (not_within ks place all end p x)
     sound_passed p is t ks place all end l (inr (u, rest, full, f, h, g)) =
-        out Exact (λ taken place at x. x) a t place all (end_of end) p is (u, rest, full, f, h, sound_at (next a p full (heard u)) rest ks place all end (less_left a p t u rest full n f h l) g)
+        out Exact (λ taken place at x. x) a t place all (attempt_end end) p is (u, rest, full, f, h, sound_at (next_after_part a p full (heard u)) rest ks place all end (less_left a p t u rest full n f h l) g)
 
-    sound_part : (p : Part) → Listens p → (t : List TalkItem) (ks : List Stored) (place : ℕ) (all : List (List ℕ)) (end : PumpEnd) → length t < suc n → pump_from a (begun a p) t ks ≡ Over place all end → Rest Exact a p t place all (end_of end)
+    sound_part : (p : AttemptPart) → Listens p → (t : List TalkItem) (ks : List Stored) (place : ℕ) (all : List (List ℕ)) (end : PumpEnd) → length t < suc n → pump_from a (begun a p) t ks ≡ Over place all end → Rest Exact a p t place all (attempt_end end)
     sound_part p is t ks place all end l e = sound_passed p is t ks place all end l (passes a ks (Over place all end) (over_ne place all end) p (told_is p is) (some_quiets p) (some_bytes p) t e)
 
     sound_more : Holds (suc n)
@@ -161,10 +161,10 @@ module _ (a : Option CivilMinute) where
   sound talk answers place taken end e = holds (suc (length talk)) Settling talk answers place taken end (omega arith) e
 
   -- the pump ends by some answers
-  abbrev pub Found : State → List TalkItem → ℕ → List (List ℕ) → PumpEnd → Type 0
-  Found s t place all end = (ks : List Stored) × (at : ℕ) × (pump_from a s t ks ≡ Over at all end) × ((all ≡ []) ⊎ (place ≡ at)) × (end_of end ≢ End.Refused → AllDone ks)
+  abbrev pub Found : AttemptState → List TalkItem → ℕ → List (List ℕ) → PumpEnd → Type 0
+  Found s t place all end = (ks : List Stored) × (at : ℕ) × (pump_from a s t ks ≡ Over at all end) × ((all ≡ []) ⊎ (place ≡ at)) × (attempt_end end ≢ End.Refused → AllDone ks)
 
-  pub whole_is : (end : PumpEnd) → end_of end ≡ End.Whole → pump_end.Whole ≡ end
+  pub whole_is : (end : PumpEnd) → attempt_end end ≡ End.Whole → pump_end.Whole ≡ end
   whole_is pump_end.Whole e = refl
   whole_is (pump_end.Failed trouble) e = cc
   whole_is pump_end.Full e = cc
@@ -172,7 +172,7 @@ module _ (a : Option CivilMinute) where
   whole_is pump_end.DiskFault e = cc
   whole_is pump_end.Flood e = cc
 
-  pub flooded_is : (end : PumpEnd) → end_of end ≡ End.Flooded → pump_end.Flood ≡ end
+  pub flooded_is : (end : PumpEnd) → attempt_end end ≡ End.Flooded → pump_end.Flood ≡ end
   flooded_is pump_end.Whole e = cc
   flooded_is (pump_end.Failed trouble) e = cc
   flooded_is pump_end.Full e = cc
@@ -180,7 +180,7 @@ module _ (a : Option CivilMinute) where
   flooded_is pump_end.DiskFault e = cc
   flooded_is pump_end.Flood e = refl
 
-  pub failed_is : (trouble : Trouble) (end : PumpEnd) → end_of end ≡ End.Failed trouble → pump_end.Failed trouble ≡ end
+  pub failed_is : (trouble : Trouble) (end : PumpEnd) → attempt_end end ≡ End.Failed trouble → pump_end.Failed trouble ≡ end
   failed_is trouble pump_end.Whole e = cc
   failed_is trouble (pump_end.Failed other) e = let z : trouble ≡ other = cc in ap (λ (y : Trouble). pump_end.Failed y) z
   failed_is trouble pump_end.Full e = cc
@@ -189,14 +189,14 @@ module _ (a : Option CivilMinute) where
   failed_is trouble pump_end.Flood e = cc
 
   abbrev Finds : ℕ → Type 0
-  Finds n = (p : Part) (t : List TalkItem) (place : ℕ) (all : List (List ℕ)) (end : PumpEnd) → length t < n → RefusesGiven a place all (end_of end) → Rest Loose a p t place all (end_of end) → Found (begun a p) t place all end
+  Finds n = (p : AttemptPart) (t : List TalkItem) (place : ℕ) (all : List (List ℕ)) (end : PumpEnd) → length t < n → RefusesGiven a place all (attempt_end end) → Rest Loose a p t place all (attempt_end end) → Found (begun a p) t place all end
 
   found_over : (at : ℕ) (taken : List (List ℕ)) (x : PumpEnd) (t : List TalkItem) (place : ℕ) (all : List (List ℕ)) (end : PumpEnd) → t ≡ [] → (taken ≡ []) ⊎ (place ≡ at) → all ≡ taken → x ≡ end → Found (Over at taken x) t place all end
   found_over at taken x t place all end e w f g =
       ([], at, ap (λ (y : List TalkItem). pump_from a (Over at taken x) y []) e ∙ ap (λ (y : PumpEnd). Over at taken y) g ∙ ap (λ (y : List (List ℕ)). Over at y end) (sym f), subst (λ (y : List (List ℕ)). (y ≡ []) ⊎ (place ≡ at)) (sym f) w, λ ne. tt)
 
   module _ (n : ℕ) (ih : Finds n) where
-    refused_by : (more at : ℕ) (taken : List (List ℕ)) (page : List ℕ) (place : ℕ) (all : List (List ℕ)) (end : PumpEnd) → end_of end ≡ End.Refused → place ≡ at → all ≡ taken ++ page ∷ [] → Found (Keeping more at taken page) [] place all end
+    refused_by : (more at : ℕ) (taken : List (List ℕ)) (page : List ℕ) (place : ℕ) (all : List (List ℕ)) (end : PumpEnd) → attempt_end end ≡ End.Refused → place ≡ at → all ≡ taken ++ page ∷ [] → Found (Keeping more at taken page) [] place all end
     refused_by more at taken page place all pump_end.Full r e f = (stored.Full ∷ [], at, ap (λ (y : List (List ℕ)). Over at y pump_end.Full) (sym f), inr e, λ ne. absurd (ne refl))
     refused_by more at taken page place all pump_end.Stale r e f = (stored.Stale ∷ [], at, ap (λ (y : List (List ℕ)). Over at y pump_end.Stale) (sym f), inr e, λ ne. absurd (ne refl))
     refused_by more at taken page place all pump_end.DiskFault r e f = (stored.DiskFault ∷ [], at, ap (λ (y : List (List ℕ)). Over at y pump_end.DiskFault) (sym f), inr e, λ ne. absurd (ne refl))
@@ -204,26 +204,26 @@ module _ (a : Option CivilMinute) where
     refused_by more at taken page place all (pump_end.Failed trouble) r e f = cc
     refused_by more at taken page place all pump_end.Flood r e f = cc
 
-    found_at : (x : Next) (t : List TalkItem) (place : ℕ) (all : List (List ℕ)) (end : PumpEnd) → length t < n → RefusesGiven a place all (end_of end) → RestAt Loose a x t place all (end_of end) → Found (at a x) t place all end
+    found_at : (x : Next) (t : List TalkItem) (place : ℕ) (all : List (List ℕ)) (end : PumpEnd) → length t < n → RefusesGiven a place all (attempt_end end) → RestAt Loose a x t place all (attempt_end end) → Found (state_at a x) t place all end
     found_at (Goes p) t place all end l s x = ih p t place all end l s x
     found_at (Empty at) t place all end l s x = found_over at [] pump_end.Whole t place all end x.0 x.1 x.2 (whole_is end x.3)
     found_at (Floods at taken) t place all end l s x = found_over at taken pump_end.Flood t place all end x.0 x.1 x.2 (flooded_is end x.3)
     found_at (Keeps more at taken page) t place all end l s (e, later, f, inl pages) =
-        let y = ih (onward more at (taken ++ page ∷ [])) t place all end l s (pages_onward Loose a more at taken later page t place all (end_of end) e f pages) in
+        let y = ih (onward more at (taken ++ page ∷ [])) t place all end l s (pages_onward Loose a more at taken later page t place all (attempt_end end) e f pages) in
         (stored.Done ∷ y.0, y.1, kept_done more at taken page t y.0 ∙ y.2, y.3, λ ne. (refl, y.4 ne))
     found_at (Keeps more at taken page) t place all end l s (e, later, f, inr x) =
         subst (λ (y : List TalkItem). Found (Keeping more at taken page) y place all end) (sym x.0)
         (refused_by more at taken page place all end x.2 e (f ∙ ap (λ (y : List (List ℕ)). (taken ++ page ∷ []) ++ y) x.1 ∙ append-nil (taken ++ page ∷ [])))
 
-    found_part : (p : Part) → Listens p → (t : List TalkItem) (place : ℕ) (all : List (List ℕ)) (end : PumpEnd) → length t < suc n → RefusesGiven a place all (end_of end) → Rest Loose a p t place all (end_of end) → Found (begun a p) t place all end
+    found_part : (p : AttemptPart) → Listens p → (t : List TalkItem) (place : ℕ) (all : List (List ℕ)) (end : PumpEnd) → length t < suc n → RefusesGiven a place all (attempt_end end) → Rest Loose a p t place all (attempt_end end) → Found (begun a p) t place all end
     found_part p is t place all end l s x =
-        let went = into Loose (λ taken place at e. inr e) (λ place. inl refl) a t place all (end_of end) p is s x in
+        let went = into Loose (λ taken place at e. inr e) (λ place. inl refl) a t place all (attempt_end end) p is s x in
         let size : length t ≡ length (message (words a p)) + (length went.0 + length went.1) = ap length went.3 ∙ omega (arith, length-append (message (words a p)) (went.0 ++ went.1), length-append went.0 went.1) in
         let less : length went.1 < n = omega (arith, size, l, hears_some (quiets p) (most p) 0 0 went.0 went.2 went.4) in
-        let y = found_at (next a p went.2 (heard went.0)) went.1 place all end less s went.5 in (
+        let y = found_at (next_after_part a p went.2 (heard went.0)) went.1 place all end less s went.5 in (
           y.0,
           y.1,
-          ap (λ (z : List TalkItem). pump_from a (begun a p) z y.0) went.3 ∙ said_in a p (words a p) (went.0 ++ went.1) y.0 ∙ ap (λ (z : State). pump_from a z (went.0 ++ went.1) y.0) (told_is p is) ∙ heard_in a p [] 0 went.0 went.1 went.2 y.0 went.4 ∙ y.2,
+          ap (λ (z : List TalkItem). pump_from a (begun a p) z y.0) went.3 ∙ said_in a p (words a p) (went.0 ++ went.1) y.0 ∙ ap (λ (z : AttemptState). pump_from a z (went.0 ++ went.1) y.0) (told_is p is) ∙ heard_in a p [] 0 went.0 went.1 went.2 y.0 went.4 ∙ y.2,
           y.3,
           y.4,
         )

@@ -4,7 +4,7 @@ use Rattle.serial_link.specs.Talk.{message}
 use Rattle.serial_link.specs.declared.talk.TalkItem.{TalkItem}
 use Rattle.wake_retry.specs.Parts.{heard}
 use Rattle.wake_retry.proofs.Endings.{heard-append}
-use Rattle.dmpaft_driver.specs.Attempt.{Takes, Pages, Heads, Requests, End}
+use Rattle.dmpaft_driver.specs.Attempt.{TakesPage, Pages, Heads, Requests, End}
 use Rattle.dmpaft_pump.specs.Command.{dmpaft}
 use Rattle.dmpaft_pump.specs.Pump.{most_askings}
 use Rattle.dmpaft_driver.specs.OneAttempt.{StandIn, TakenWereHeard}
@@ -22,7 +22,7 @@ stand_later : (pages : List (List ℕ)) (talk s t : List TalkItem) → talk ≡ 
 stand_later pages talk s t e h = subst (λ (x : List ℕ). StandIn pages x) (sym (ap heard e ∙ heard-append s t)) (stand_behind pages (heard s) (heard t) h)
 
 -- a page that is taken is heard last
-takes_heard : (left k b : ℕ) (talk : List TalkItem) (page : List ℕ) → Takes left k b talk page → (before : List ℕ) × (heard talk ≡ before ++ page)
+takes_heard : (left k b : ℕ) (talk : List TalkItem) (page : List ℕ) → TakesPage left k b talk page → (before : List ℕ) × (heard talk ≡ before ++ page)
 takes_heard zero k b talk page x = absurd x
 takes_heard (suc left) k b talk page (t, rest, e, w, inl (is, none, same)) =
     ([], ap heard e ∙ ap (λ (x : List TalkItem). heard (t ++ x)) none ∙ ap heard (append-nil t) ∙ sym same)

@@ -6,7 +6,7 @@ use Rattle.serial_link.specs.declared.talk.TalkItem.{TalkItem}
 use Rattle.serial_link.specs.declared.talk.TalkItem.TheVariants.{Said}
 use Rattle.causes.specs.declared.stored.Stored.{Stored}
 use Rattle.causes.specs.declared.stored.Stored.TheVariants as stored
-use Rattle.dmpaft_pump.specs.Pump.{Part, State, Saying, Hearing, Keeping, Over, Astray, saying, said_if, is_said, step, pump_from, answered_by}
+use Rattle.dmpaft_pump.specs.Pump.{AttemptPart, AttemptState, Saying, Hearing, Keeping, Over, Astray, saying, said_if, is_said, attempt_step, pump_from, answered_by}
 use Rattle.dmpaft_pump.proofs.Walking.{astray_stays, said_refl}
 use Rattle.dmpaft_driver.proofs.Exactly.{kept_done}
 use Rattle.dmpaft_pump.proofs.Steps.{rest_same}
@@ -23,18 +23,18 @@ module _ (a : Option CivilMinute) where
   kept_joins more at taken page stored.DiskFault (i ∷ u) js = refl
 
   -- one talk and its answers after another are one talk and its answers
-  pub joins : (s : State) (t u : List TalkItem) (ks js : List Stored) → pump_from a s t ks ≢ Astray → pump_from a s (t ++ u) (ks ++ js) ≡ pump_from a (pump_from a s t ks) u js
+  pub joins : (s : AttemptState) (t u : List TalkItem) (ks js : List Stored) → pump_from a s t ks ≢ Astray → pump_from a s (t ++ u) (ks ++ js) ≡ pump_from a (pump_from a s t ks) u js
   joins (Saying p i l) [] u [] js ne = refl
   joins (Saying p i l) [] u (k ∷ ks) js ne = absurd (ne refl)
   joins (Saying p i l) (x ∷ t) u ks js ne = joins (said_if p l (is_said i x)) t u ks js ne
   joins (Hearing p bs r) [] u [] js ne = refl
   joins (Hearing p bs r) [] u (k ∷ ks) js ne = absurd (ne refl)
-  joins (Hearing p bs r) (x ∷ t) u ks js ne = joins (step a (Hearing p bs r) x) t u ks js ne
+  joins (Hearing p bs r) (x ∷ t) u ks js ne = joins (attempt_step a (Hearing p bs r) x) t u ks js ne
   joins (Keeping more at taken page) [] u [] js ne = refl
   joins (Keeping more at taken page) [] u (k ∷ []) js ne = kept_joins more at taken page k u js
   joins (Keeping more at taken page) [] u (k ∷ m ∷ ks) js ne = absurd (ne refl)
   joins (Keeping more at taken page) (x ∷ t) u [] js ne = absurd (ne (astray_stays a t []))
-  joins (Keeping more at taken page) (x ∷ t) u (k ∷ ks) js ne = joins (step a (answered_by a more at (taken ++ page ∷ []) k) x) t u ks js ne
+  joins (Keeping more at taken page) (x ∷ t) u (k ∷ ks) js ne = joins (attempt_step a (answered_by a more at (taken ++ page ∷ []) k) x) t u ks js ne
   joins (Over at taken end) [] u [] js ne = refl
   joins (Over at taken end) [] u (k ∷ ks) js ne = absurd (ne refl)
   joins (Over at taken end) (x ∷ t) u ks js ne = absurd (ne (astray_stays a t ks))
@@ -47,7 +47,7 @@ module _ (a : Option CivilMinute) where
   nothing_left (x ∷ u) v e = cc
 
   -- a front of a message is said, and the rest of it is one
-  pub said_front : (p : Part) (bytes : List ℕ) (u v : List TalkItem) → u ++ v ≡ message bytes
+  pub said_front : (p : AttemptPart) (bytes : List ℕ) (u v : List TalkItem) → u ++ v ≡ message bytes
       → (left : List ℕ) × (v ≡ message left) × (pump_from a (saying p (message bytes)) u [] ≡ saying p (message left))
   said_front p bytes [] v e = (bytes, e, here bytes)
     where

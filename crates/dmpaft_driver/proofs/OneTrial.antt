@@ -8,9 +8,9 @@ use Rattle.dmpaft_pump.specs.declared.pump_end.PumpEnd.TheVariants as pump_end
 use Rattle.dmpaft_driver.specs.declared.trying.TrialEnd.{TrialEnd}
 use Rattle.dmpaft_driver.specs.declared.trying.TrialEnd.TheVariants as trial_end
 use Rattle.dmpaft_driver.specs.Attempt.{Attempt, End}
-use Rattle.dmpaft_driver.specs.Exact.{end_of}
+use Rattle.dmpaft_driver.specs.Exact.{attempt_end}
 use Rattle.dmpaft_pump.specs.Pump.{Over}
-use Rattle.dmpaft_driver.specs.Trial.{GoesOn, Begins, Tried}
+use Rattle.dmpaft_driver.specs.Trial.{AttemptGoesOn, BeginsAttempt, TalkIsTried}
 use Rattle.dmpaft_driver.proofs.Acknowledging.{one_attempt}
 use Rattle.dmpaft_driver.proofs.Exactly.{complete, whole_is, flooded_is, failed_is}
 use Rattle.dmpaft_driver.proofs.Stuck.{stuck}
@@ -26,7 +26,7 @@ longer_front (y ∷ f) (x ∷ g) i j r s e l =
     (m.0, ap (λ (w : TalkItem). w ∷ g) z ∙ ap (λ (w : List TalkItem). y ∷ w) m.1)
 
 module _ (a : Option CivilMinute) where
-  same_end : (e f : PumpEnd) → end_of e ≢ End.Refused → end_of e ≡ end_of f → e ≡ f
+  same_end : (e f : PumpEnd) → attempt_end e ≢ End.Refused → attempt_end e ≡ attempt_end f → e ≡ f
   same_end pump_end.Whole f mild e = whole_is a f (sym e)
   same_end (pump_end.Failed trouble) f mild e = failed_is a trouble f (sym e)
   same_end pump_end.Flood f mild e = flooded_is a f (sym e)
@@ -35,24 +35,24 @@ module _ (a : Option CivilMinute) where
   same_end pump_end.DiskFault f mild e = absurd (mild refl)
 
   -- an attempt in which no batch is refused goes on by nothing
-  no_more : (talk : List TalkItem) (place : ℕ) (taken : List (List ℕ)) (end : PumpEnd) → Attempt (stamp_frame_of a) talk place taken (end_of end) → end_of end ≢ End.Refused
-      → (rest : List TalkItem) → rest ≢ [] → GoesOn a talk rest → ⊥
+  no_more : (talk : List TalkItem) (place : ℕ) (taken : List (List ℕ)) (end : PumpEnd) → Attempt (stamp_frame_of a) talk place taken (attempt_end end) → attempt_end end ≢ End.Refused
+      → (rest : List TalkItem) → rest ≢ [] → AttemptGoesOn a talk rest → ⊥
   no_more talk place taken end whole mild [] some on = some refl
   no_more talk place taken end whole mild (i ∷ rest) some on =
       let c = complete a talk place taken end whole (λ z. absurd (mild z)) in
       stuck a talk c.0 (Over c.1 taken end) i c.2 (c.4 mild) (λ z. cc) (λ more. refl) rest on.place on.taken on.end on.kept on.whole
 
-  whole_goes : (talk : List TalkItem) (place : ℕ) (taken : List (List ℕ)) (end : PumpEnd) → Attempt (stamp_frame_of a) talk place taken (end_of end) → end_of end ≢ End.Refused → GoesOn a talk []
+  whole_goes : (talk : List TalkItem) (place : ℕ) (taken : List (List ℕ)) (end : PumpEnd) → Attempt (stamp_frame_of a) talk place taken (attempt_end end) → attempt_end end ≢ End.Refused → AttemptGoesOn a talk []
   whole_goes talk place taken end whole mild = record {
     place = place;
     taken = taken;
-    end = end_of end;
-    whole = subst (λ (y : List TalkItem). Attempt (stamp_frame_of a) y place taken (end_of end)) (sym (append-nil talk)) whole;
+    end = attempt_end end;
+    whole = subst (λ (y : List TalkItem). Attempt (stamp_frame_of a) y place taken (attempt_end end)) (sym (append-nil talk)) whole;
     kept = mild;
   }
 
   -- what begins an attempt has fronts that do
-  front_begins : (talk front : List TalkItem) (i : TalkItem) (rest more : List TalkItem) → talk ≡ front ++ i ∷ rest → GoesOn a talk more → Begins a (front ++ i ∷ [])
+  front_begins : (talk front : List TalkItem) (i : TalkItem) (rest more : List TalkItem) → talk ≡ front ++ i ∷ rest → AttemptGoesOn a talk more → BeginsAttempt a (front ++ i ∷ [])
   front_begins talk front i rest more e on =
       let f : talk ++ more ≡ (front ++ i ∷ []) ++ (rest ++ more) = ap (λ (y : List TalkItem). y ++ more) e ∙ append_assoc front (i ∷ rest) more ∙ sym (append_assoc front (i ∷ []) (rest ++ more)) in (
         rest ++ more,
@@ -65,14 +65,14 @@ module _ (a : Option CivilMinute) where
         },
       )
 
-  not_longer : (talk f g : List TalkItem) (i j : TalkItem) (r s : List TalkItem) → talk ≡ f ++ i ∷ r → talk ≡ g ++ j ∷ s → (Begins a (f ++ i ∷ []) → ⊥) → Begins a g → length f < length g → ⊥
+  not_longer : (talk f g : List TalkItem) (i j : TalkItem) (r s : List TalkItem) → talk ≡ f ++ i ∷ r → talk ≡ g ++ j ∷ s → (BeginsAttempt a (f ++ i ∷ []) → ⊥) → BeginsAttempt a g → length f < length g → ⊥
   not_longer talk f g i j r s d e stops begins l =
       let m = longer_front f g i j r s (sym d ∙ e) l in
       stops (front_begins g f i m.0 begins.0 m.1 begins.1)
 
-  pub one_trial : (talk : List TalkItem) (x y : TrialEnd) → Tried a talk x → Tried a talk y → x ≡ y
+  pub one_trial : (talk : List TalkItem) (x y : TrialEnd) → TalkIsTried a talk x → TalkIsTried a talk y → x ≡ y
   one_trial talk (trial_end.Attempt e) (trial_end.Attempt f) x y =
-      let z = (one_attempt (stamp_frame_of a) talk x.0 y.0 x.1 y.1 (end_of e) (end_of f) x.2 y.2).ends in
+      let z = (one_attempt (stamp_frame_of a) talk x.0 y.0 x.1 y.1 (attempt_end e) (attempt_end f) x.2 y.2).ends in
       ap (λ (w : PumpEnd). trial_end.Attempt w) (same_end e f x.3 z)
   one_trial talk (trial_end.Attempt e) trial_end.Unfinished x y = absurd (no_more talk x.0 x.1 e x.2 x.3 y.0 y.1 y.2)
   one_trial talk (trial_end.Attempt e) (trial_end.Not n) x (front, i, rest, is, l, begins, no_next) = absurd (no_next (front_begins talk front i rest [] is (whole_goes talk x.0 x.1 e x.2 x.3)))

@@ -14,10 +14,10 @@ use Rattle.dmpaft_pump.specs.declared.outcome.Trouble.{Trouble}
 use Rattle.dmpaft_pump.specs.declared.outcome.Trouble.TheVariants.{Asleep, PageLost, PageAhead}
 use Rattle.dmpaft_pump.specs.Header.{IsHeader}
 use Rattle.dmpaft_pump.specs.Page.{is_page_for, is_ahead, next_said}
-use Rattle.dmpaft_driver.specs.Attempt.{Takes, Misses, AskFloods, Pages, Heads, Requests, Attempt, End, esc, last_said}
+use Rattle.dmpaft_driver.specs.Attempt.{TakesPage, Misses, AskFloods, Pages, Heads, Requests, Attempt, End, esc, last_said}
 use Rattle.dmpaft_pump.specs.Command.{dmpaft}
 use Rattle.dmpaft_pump.specs.Reply.{Reply, Header, NoHeader, reply_of}
-use Rattle.dmpaft_pump.specs.Pump.{Part, Settling, Waking, Calling, Heading, Asking, Resettling, Acking, GivingUp, Next, Goes, Keeps, Empty, Floods, words, quiets, most, batch_of, onward, batched, woken, called, headed, asked_again, judged, next}
+use Rattle.dmpaft_pump.specs.Pump.{AttemptPart, Settling, Waking, Calling, Heading, Asking, Resettling, Acking, GivingUp, Next, Goes, Keeps, Empty, Floods, words, quiets, most, batch_of, onward, batched, woken, called, headed, asked_again, page_judged, next_after_part}
 use Rattle.dmpaft_pump.proofs.Hears.{HearsFrom, hears_still, flood_hears, hears_flood, hears_awaits}
 use Rattle.dmpaft_pump.proofs.Replies.{Replies, reply_is}
 use Rattle.dmpaft_pump.specs.Pump.{most_askings}
@@ -29,7 +29,7 @@ Later more k t later end = Pages more k t later end ⊎ ((t ≡ []) × (later �
 -- from an asking for page k on, with so many more pages after it and so many more askings
 abbrev pub AskRest : ℕ → ℕ → ℕ → ℕ → List TalkItem → List (List ℕ) → End → Type 0
 AskRest more k left b t fresh end =
-    ((u : List TalkItem) × (rest : List TalkItem) × (bytes : List ℕ) × (later : List (List ℕ)) × (t ≡ u ++ rest) × Takes (suc left) k b u bytes × (fresh ≡ bytes ∷ later)
+    ((u : List TalkItem) × (rest : List TalkItem) × (bytes : List ℕ) × (later : List (List ℕ)) × (t ≡ u ++ rest) × TakesPage (suc left) k b u bytes × (fresh ≡ bytes ∷ later)
     × Later more (k + 1) rest later end)
     ⊎ ((u : List TalkItem) × (trouble : Trouble) × (t ≡ u ++ esc) × Misses (suc left) k b u trouble × (fresh ≡ []) × (end ≡ End.Failed trouble))
     ⊎ (AskFloods (suc left) k b t × (fresh ≡ []) × (end ≡ End.Flooded))
@@ -42,7 +42,7 @@ abbrev pub Likeness : Type 1
 Likeness = List (List ℕ) → ℕ → ℕ → Type 0
 
 -- from a part on: the talk, the place, all pages of the attempt, and its end
-abbrev pub Rest : Likeness → Option CivilMinute → Part → List TalkItem → ℕ → List (List ℕ) → End → Type 0
+abbrev pub Rest : Likeness → Option CivilMinute → AttemptPart → List TalkItem → ℕ → List (List ℕ) → End → Type 0
 Rest W a Settling t place all end = Attempt (stamp_frame_of a) t place all end
 Rest W a (Waking left) t place all end =
     ((u : List TalkItem) × (rest : List TalkItem) × (awake : Bool) × (t ≡ u ++ rest) × Wakes (suc left) u awake × Woke a awake rest place all end)
@@ -64,12 +64,12 @@ RestAt W a (Empty at) t place all end = (t ≡ []) × W [] place at × (all ≡ 
 RestAt W a (Floods at taken) t place all end = (t ≡ []) × W taken place at × (all ≡ taken) × (end ≡ End.Flooded)
 
 -- a part says its words and hears to its end, and the rest is that of what is next
-abbrev pub Unrolled : Likeness → Option CivilMinute → Part → List TalkItem → ℕ → List (List ℕ) → End → Type 0
+abbrev pub Unrolled : Likeness → Option CivilMinute → AttemptPart → List TalkItem → ℕ → List (List ℕ) → End → Type 0
 Unrolled W a p t place all end = (u : List TalkItem) × (rest : List TalkItem) × (full : Bool) × (t ≡ message (words a p) ++ (u ++ rest)) × HearsFrom (quiets p) (most p) 0 0 u full
-    × RestAt W a (next a p full (heard u)) rest place all end
+    × RestAt W a (next_after_part a p full (heard u)) rest place all end
 
 -- the last parts hear nothing
-abbrev pub Listens : Part → Type 0
+abbrev pub Listens : AttemptPart → Type 0
 Listens Settling = Unit {0}
 Listens (Waking left) = Unit {0}
 Listens Calling = Unit {0}
@@ -182,14 +182,14 @@ module _ (W : Likeness) (exact : (taken : List (List ℕ)) (place at : ℕ) → 
         (pe, fresh, ea, inr (inr ((u, rest, e, w, p, q, inr (s, rest2, se, still, floods)), fe, en)))
 
     asking_out : (more at : ℕ) (taken : List (List ℕ)) (left b : ℕ) → t ≡ Said b true ∷ u ++ rest → Awaits answer_waits page_size u → (x y : Bool) → is_page_for (length taken) (heard u) ≡ x → is_ahead (length taken) (heard u) ≡ y
-        → RestAt W a (judged a more at taken left (heard u) x y) rest place all end → Rest W a (Asking more at taken left b) t place all end
+        → RestAt W a (page_judged a more at taken left (heard u) x y) rest place all end → Rest W a (Asking more at taken left b) t place all end
     asking_out more at taken left b e w true y p q x = batched_out more at taken left b e w p (batch_of a at taken (heard u)) x
     asking_out more at taken left b e w false true p q x =
         (exact taken place at x.1, [], x.2 ∙ sym (append-nil taken), inr (inl (Said b true ∷ u, PageAhead (length taken) (slice_index (heard u) 0), e ∙ ap (λ (y : List TalkItem). Said b true ∷ u ++ y) x.0, (u, [], alone more at taken left b e w, w, p, inl (q, refl, refl)), refl, x.3)))
     asking_out more at taken left b e w false false p q x = again_out more at taken left b e w p q x
 
   -- what is unrolled is a rest
-  pub out : (p : Part) → Listens p → Unrolled W a p t place all end → Rest W a p t place all end
+  pub out : (p : AttemptPart) → Listens p → Unrolled W a p t place all end → Rest W a p t place all end
   out Settling is (u, rest, true, e, h, x) = inr (inl (subst (λ (y : List TalkItem). Flooding settled_waits y) (nothing_after t u rest e x.0) (hears_flooding settled_waits u h), x.2, x.3))
   out Settling is (u, rest, false, e, h, inl (v, rest2, awake, ve, wakes, woke)) =
       inl (u, v, rest2, awake, e ∙ ap (λ (y : List TalkItem). u ++ y) ve, hears_still settled_waits flood_size 0 0 u refl (omega arith) (omega arith) h, wakes, woke)

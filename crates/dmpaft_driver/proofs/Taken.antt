@@ -16,8 +16,8 @@ use Rattle.dmpaft_driver.specs.Attempt.{Attempt, End}
 use Rattle.dmpaft_driver.specs.Outcome.{WereTaken}
 use Rattle.dmpaft_pump.specs.Page.{is_page_for, is_ahead, next_said}
 use Rattle.dmpaft_pump.specs.Reply.{Reply, Header, NoHeader, reply_of}
-use Rattle.dmpaft_pump.specs.Pump.{Part, Settling, Waking, Calling, Heading, Asking, Resettling, Acking, GivingUp, Next, Goes, Keeps, Empty, Floods, State, Over, Astray, words, quiets, most, next, batched, woken, called, headed, asked_again, judged, onward, told, begun, at, batch_of, pump_from, pump_after}
-use Rattle.dmpaft_driver.specs.Standing.{place_in, taken_in, HasTaken}
+use Rattle.dmpaft_pump.specs.Pump.{AttemptPart, Settling, Waking, Calling, Heading, Asking, Resettling, Acking, GivingUp, Next, Goes, Keeps, Empty, Floods, AttemptState, Over, Astray, words, quiets, most, next_after_part, batched, woken, called, headed, asked_again, page_judged, onward, words_said, begun, state_at, batch_of, pump_from, pump_after}
+use Rattle.dmpaft_driver.specs.Standing.{place_of_part, taken_in, HasTaken}
 use Rattle.dmpaft_driver.proofs.Exactly.{Exact, kept_done, told_is, some_quiets, some_bytes, less_left}
 use Rattle.dmpaft_pump.proofs.Hears.{HearsFrom, hears_awaits}
 use Rattle.dmpaft_driver.proofs.Rest.{Rest, RestAt, Listens, onward_pages, out, taken_out}
@@ -25,7 +25,7 @@ use Rattle.dmpaft_pump.proofs.Walking.{astray_stays, Within, Passed, passes, sai
 
 -- the place of the header and the pages taken, at what comes next
 abbrev place_at : Next → ℕ
-place_at (Goes p) = place_in p
+place_at (Goes p) = place_of_part p
 place_at (Keeps more at taken page) = at
 place_at (Empty at) = at
 place_at (Floods at taken) = at
@@ -56,17 +56,17 @@ module _ (more at : ℕ) (taken : List (List ℕ)) where
   again_at zero b = (refl, refl)
   again_at (suc left) b = (refl, refl)
 
-  onward_at : (taken_in (onward more at taken) ≡ taken) × (place_in (onward more at taken) ≡ at)
+  onward_at : (taken_in (onward more at taken) ≡ taken) × (place_of_part (onward more at taken) ≡ at)
   onward_at = go more
     where
-      go : (n : ℕ) → (taken_in (onward n at taken) ≡ taken) × (place_in (onward n at taken) ≡ at)
+      go : (n : ℕ) → (taken_in (onward n at taken) ≡ taken) × (place_of_part (onward n at taken) ≡ at)
       go zero = (refl, refl)
       go (suc n) = (refl, refl)
 
   batched_at : (page : List ℕ) (rows : List (List ℕ)) → (taken_at (batched more at taken page rows) ≡ taken ++ page ∷ []) × (place_at (batched more at taken page rows) ≡ at)
   batched_at page [] = go more
     where
-      go : (n : ℕ) → (taken_in (onward n at (taken ++ page ∷ [])) ≡ taken ++ page ∷ []) × (place_in (onward n at (taken ++ page ∷ [])) ≡ at)
+      go : (n : ℕ) → (taken_in (onward n at (taken ++ page ∷ [])) ≡ taken ++ page ∷ []) × (place_of_part (onward n at (taken ++ page ∷ [])) ≡ at)
       go zero = (refl, refl)
       go (suc n) = (refl, refl)
   batched_at page (r ∷ rows) = (refl, refl)
@@ -80,41 +80,41 @@ abbrev Has : List (List ℕ) → ℕ → List (List ℕ) → ℕ → Type 0
 Has all place taken at = (all ≡ taken) × ((all ≡ []) ⊎ (place ≡ at))
 
 -- a run of a pump that ends at s, which has taken these pages
-module _ (a : Option CivilMinute) (s : State) (ne : s ≢ Astray) (place : ℕ) (all : List (List ℕ)) (has : HasTaken s place all) where
+module _ (a : Option CivilMinute) (s : AttemptState) (ne : s ≢ Astray) (place : ℕ) (all : List (List ℕ)) (has : HasTaken s place all) where
   -- they were taken before, or in a front of the talk
-  abbrev Had : Part → List TalkItem → Type 0
-  Had p t = Has all place (taken_in p) (place_in p) ⊎ ((front : List TalkItem) × (back : List TalkItem) × (front ++ back ≡ t) × Rest Exact a p front place all End.Refused)
+  abbrev Had : AttemptPart → List TalkItem → Type 0
+  Had p t = Has all place (taken_in p) (place_of_part p) ⊎ ((front : List TalkItem) × (back : List TalkItem) × (front ++ back ≡ t) × Rest Exact a p front place all End.Refused)
 
   abbrev HadAt : Next → List TalkItem → Type 0
   HadAt x t = Has all place (taken_at x) (place_at x) ⊎ ((front : List TalkItem) × (back : List TalkItem) × (front ++ back ≡ t) × RestAt Exact a x front place all End.Refused)
 
   at_over : (p : ℕ) (pages : List (List ℕ)) (e : PumpEnd) (t : List TalkItem) (ks : List Stored) → pump_from a (Over p pages e) t ks ≡ s → Has all place pages p
-  at_over p pages e [] [] is = let h = subst (λ (x : State). HasTaken x place all) (sym is) has in (h.1, inr h.0)
+  at_over p pages e [] [] is = let h = subst (λ (x : AttemptState). HasTaken x place all) (sym is) has in (h.1, inr h.0)
   at_over p pages e [] (k ∷ ks) is = absurd (ne (sym is))
   at_over p pages e (i ∷ t) ks is = absurd (ne (sym is ∙ astray_stays a t ks))
 
-  within_has : (ks : List Stored) (p : Part) → Within a ks s ne p → Has all place (taken_in p) (place_in p)
-  within_has ks p (inl x) = let h = subst (λ (y : State). HasTaken y place all) x.2 has in (h.1, inr h.0)
-  within_has ks p (inr x) = let h = subst (λ (y : State). HasTaken y place all) x.2 has in (h.1, inr h.0)
+  within_has : (ks : List Stored) (p : AttemptPart) → Within a ks s ne p → Has all place (taken_in p) (place_of_part p)
+  within_has ks p (inl x) = let h = subst (λ (y : AttemptState). HasTaken y place all) x.2 has in (h.1, inr h.0)
+  within_has ks p (inr x) = let h = subst (λ (y : AttemptState). HasTaken y place all) x.2 has in (h.1, inr h.0)
 
   as_has : (taken more : List (List ℕ)) (p q : ℕ) → taken ≡ more → p ≡ q → Has all place taken p → Has all place more q
   as_has taken more p q e f h = subst (λ (y : List (List ℕ)). Has all place y q) e (subst (λ n. Has all place taken n) f h)
 
   abbrev Holds : ℕ → Type 0
-  Holds n = (p : Part) (t : List TalkItem) (ks : List Stored) → length t < n → pump_from a (begun a p) t ks ≡ s → Had p t
+  Holds n = (p : AttemptPart) (t : List TalkItem) (ks : List Stored) → length t < n → pump_from a (begun a p) t ks ≡ s → Had p t
 
   module _ (n : ℕ) (ih : Holds n) where
     kept_at : (more at : ℕ) (taken : List (List ℕ)) (page : List ℕ) (t : List TalkItem) → Had (onward more at (taken ++ page ∷ [])) t → HadAt (Keeps more at taken page) t
     kept_at more at taken page t (inl h) =
         let o = onward_at more at (taken ++ page ∷ []) in
-        inl (as_has (taken_in (onward more at (taken ++ page ∷ []))) (taken ++ page ∷ []) (place_in (onward more at (taken ++ page ∷ []))) at o.0 o.1 h)
+        inl (as_has (taken_in (onward more at (taken ++ page ∷ []))) (taken ++ page ∷ []) (place_of_part (onward more at (taken ++ page ∷ []))) at o.0 o.1 h)
     kept_at more at taken page t (inr (front, back, e, rest)) = inr (front, back, e, onward_pages Exact a more at taken page front place all End.Refused rest)
 
-    had_at : (x : Next) (t : List TalkItem) (ks : List Stored) → length t < n → pump_from a (at a x) t ks ≡ s → HadAt x t
+    had_at : (x : Next) (t : List TalkItem) (ks : List Stored) → length t < n → pump_from a (state_at a x) t ks ≡ s → HadAt x t
     had_at (Goes p) t ks l e = ih p t ks l e
     had_at (Empty at) t ks l e = inl (at_over at [] pump_end.Whole t ks e)
     had_at (Floods at taken) t ks l e = inl (at_over at taken pump_end.Flood t ks e)
-    had_at (Keeps more at taken page) [] [] l e = let h = subst (λ (x : State). HasTaken x place all) (sym e) has in inl (h.1, inr h.0)
+    had_at (Keeps more at taken page) [] [] l e = let h = subst (λ (x : AttemptState). HasTaken x place all) (sym e) has in inl (h.1, inr h.0)
     had_at (Keeps more at taken page) (i ∷ t) [] l e = absurd (ne (sym e ∙ astray_stays a t []))
     had_at (Keeps more at taken page) t (stored.Done ∷ ks) l e = kept_at more at taken page t (ih (onward more at (taken ++ page ∷ [])) t ks l (sym (kept_done a more at taken page t ks) ∙ e))
     had_at (Keeps more at taken page) [] (stored.Full ∷ ks) l e = inl (at_over at (taken ++ page ∷ []) pump_end.Full [] ks e)
@@ -129,7 +129,7 @@ module _ (a : Option CivilMinute) (s : State) (ne : s ≢ Astray) (place : ℕ) 
 
     module _ (t u rest : List TalkItem) where
       judged_at : (more at : ℕ) (taken : List (List ℕ)) (left b : ℕ) → t ≡ Said b true ∷ u ++ rest → (full : Bool) → HearsFrom answer_waits page_size 0 0 u full → (x y : Bool) → is_page_for (length taken) (heard u) ≡ x
-          → Has all place (taken_at (judged a more at taken left (heard u) x y)) (place_at (judged a more at taken left (heard u) x y)) → Had (Asking more at taken left b) t
+          → Has all place (taken_at (page_judged a more at taken left (heard u) x y)) (place_at (page_judged a more at taken left (heard u) x y)) → Had (Asking more at taken left b) t
       judged_at more at taken left b e full h true y p x =
           let o = batched_at more at taken (heard u) (batch_of a at taken (heard u)) in
           let is : all ≡ taken ++ heard u ∷ [] = x.0 ∙ o.0 in
@@ -147,8 +147,8 @@ module _ (a : Option CivilMinute) (s : State) (ne : s ≢ Astray) (place : ℕ) 
           let o = again_at more at taken left (next_said (length taken) (heard u)) in
           inl (as_has (taken_at (asked_again more at taken left (next_said (length taken) (heard u)))) taken (place_at (asked_again more at taken left (next_said (length taken) (heard u)))) at o.0 o.1 x)
 
-      had_next : (p : Part) → Listens p → (full : Bool) → t ≡ message (words a p) ++ (u ++ rest) → HearsFrom (quiets p) (most p) 0 0 u full
-          → Has all place (taken_at (next a p full (heard u))) (place_at (next a p full (heard u))) → Had p t
+      had_next : (p : AttemptPart) → Listens p → (full : Bool) → t ≡ message (words a p) ++ (u ++ rest) → HearsFrom (quiets p) (most p) 0 0 u full
+          → Has all place (taken_at (next_after_part a p full (heard u))) (place_at (next_after_part a p full (heard u))) → Had p t
       had_next Settling is true f h x = inl x
       had_next Settling is false f h x = inl (nothing_yet [] 0 refl x)
       had_next (Waking left) is true f h x = inl x
@@ -161,22 +161,22 @@ module _ (a : Option CivilMinute) (s : State) (ne : s ≢ Astray) (place : ℕ) 
       had_next (Acking at taken) none full f h x = absurd none
       had_next (GivingUp at taken trouble) none full f h x = absurd none
 
-    had_passed : (p : Part) → Listens p → (t u rest : List TalkItem) (full : Bool) → t ≡ message (words a p) ++ (u ++ rest) → HearsFrom (quiets p) (most p) 0 0 u full → HadAt (next a p full (heard u)) rest → Had p t
+    had_passed : (p : AttemptPart) → Listens p → (t u rest : List TalkItem) (full : Bool) → t ≡ message (words a p) ++ (u ++ rest) → HearsFrom (quiets p) (most p) 0 0 u full → HadAt (next_after_part a p full (heard u)) rest → Had p t
     had_passed p is t u rest full f h (inl x) = had_next t u rest p is full f h x
     had_passed p is t u rest full f h (inr (front, back, e, y)) =
         let whole : (message (words a p) ++ (u ++ front)) ++ back ≡ t =
         append_assoc (message (words a p)) (u ++ front) back ∙ ap (λ (z : List TalkItem). message (words a p) ++ z) (append_assoc u front back ∙ ap (λ (z : List TalkItem). u ++ z) e) ∙ sym f in
         inr (message (words a p) ++ (u ++ front), back, whole, out Exact (λ taken place at x. x) a (message (words a p) ++ (u ++ front)) place all End.Refused p is (u, front, full, refl, h, y))
 
-    had_part : (p : Part) → Listens p → (t : List TalkItem) (ks : List Stored) → length t < suc n → Within a ks s ne p ⊎ Passed a ks s ne p t → Had p t
+    had_part : (p : AttemptPart) → Listens p → (t : List TalkItem) (ks : List Stored) → length t < suc n → Within a ks s ne p ⊎ Passed a ks s ne p t → Had p t
     had_part p is t ks l (inl x) = inl (within_has ks p x)
-    had_part p is t ks l (inr (u, rest, full, f, h, g)) = had_passed p is t u rest full f h (had_at (next a p full (heard u)) rest ks (less_left a p t u rest full n f h l) g)
+    had_part p is t ks l (inr (u, rest, full, f, h, g)) = had_passed p is t u rest full f h (had_at (next_after_part a p full (heard u)) rest ks (less_left a p t u rest full n f h l) g)
 
-    had_last : (p : Part) (ks : List Stored) (end : PumpEnd) → told p ≡ Over (place_in p) (taken_in p) end → (t : List TalkItem) → Within a ks s ne p ⊎ ((u : List TalkItem) × (t ≡ message (words a p) ++ u) × (pump_from a (told p) u ks ≡ s)) → Had p t
+    had_last : (p : AttemptPart) (ks : List Stored) (end : PumpEnd) → words_said p ≡ Over (place_of_part p) (taken_in p) end → (t : List TalkItem) → Within a ks s ne p ⊎ ((u : List TalkItem) × (t ≡ message (words a p) ++ u) × (pump_from a (words_said p) u ks ≡ s)) → Had p t
     had_last p ks end is t (inl x) = inl (within_has ks p x)
-    had_last p ks end is t (inr y) = inl (at_over (place_in p) (taken_in p) end y.0 ks (ap (λ (x : State). pump_from a x y.0 ks) (sym is) ∙ y.2))
+    had_last p ks end is t (inr y) = inl (at_over (place_of_part p) (taken_in p) end y.0 ks (ap (λ (x : AttemptState). pump_from a x y.0 ks) (sym is) ∙ y.2))
 
-    had_through : (p : Part) → Listens p → (t : List TalkItem) (ks : List Stored) → length t < suc n → pump_from a (begun a p) t ks ≡ s → Had p t
+    had_through : (p : AttemptPart) → Listens p → (t : List TalkItem) (ks : List Stored) → length t < suc n → pump_from a (begun a p) t ks ≡ s → Had p t
     had_through p is t ks l e = had_part p is t ks l (passes a ks s ne p (told_is p is) (some_quiets p) (some_bytes p) t e)
 
     had_more : Holds (suc n)

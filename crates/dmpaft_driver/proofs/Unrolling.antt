@@ -13,10 +13,10 @@ use Rattle.wake_retry.specs.Parts.{answer_waits, settled_waits, flood_size}
 use Rattle.dmpaft_pump.specs.declared.outcome.Trouble.{Trouble}
 use Rattle.dmpaft_pump.specs.Header.{IsHeader}
 use Rattle.dmpaft_pump.specs.Page.{is_page_for, is_ahead}
-use Rattle.dmpaft_driver.specs.Attempt.{Takes, Misses, AskFloods, Pages, Requests, End, esc}
+use Rattle.dmpaft_driver.specs.Attempt.{TakesPage, Misses, AskFloods, Pages, Requests, End, esc}
 use Rattle.dmpaft_pump.specs.Batch.{EndsGiving}
 use Rattle.dmpaft_pump.specs.Reply.{Reply}
-use Rattle.dmpaft_pump.specs.Pump.{Part, Settling, Waking, Calling, Heading, Asking, Resettling, Acking, GivingUp, batch_of, batched, woken, called, headed, judged, next}
+use Rattle.dmpaft_pump.specs.Pump.{AttemptPart, Settling, Waking, Calling, Heading, Asking, Resettling, Acking, GivingUp, batch_of, batched, woken, called, headed, page_judged, next_after_part}
 use Rattle.dmpaft_pump.proofs.Hears.{HearsFrom, still_hears, awaits_hears}
 use Rattle.dmpaft_pump.proofs.Replies.{header_is, no_header_is}
 use Rattle.dmpaft_pump.proofs.LastBatch.{gives_last}
@@ -88,23 +88,23 @@ module _ (W : Likeness) (same : (taken : List (List ℕ)) (place at : ℕ) → p
     batched_in page rest later ea l (r ∷ rows) z = (pe, later, ea ∙ sym (append_assoc taken (page ∷ []) later), l)
 
     module _ (left : ℕ) (v rest : List TalkItem) (w : Awaits answer_waits page_size v) (e : t ≡ Said b true ∷ v ++ rest) where
-      as_heard : RestAt W a (next a (Asking more at taken left b) true (heard v)) rest place all end → Unrolled W a (Asking more at taken left b) t place all end
+      as_heard : RestAt W a (next_after_part a (Asking more at taken left b) true (heard v)) rest place all end → Unrolled W a (Asking more at taken left b) t place all end
       as_heard x = let k = awaits_hears page_size v w in (v, rest, k.0, e, k.1, full_or_not k.0)
         where
-          full_or_not : (f : Bool) → RestAt W a (next a (Asking more at taken left b) f (heard v)) rest place all end
+          full_or_not : (f : Bool) → RestAt W a (next_after_part a (Asking more at taken left b) f (heard v)) rest place all end
           full_or_not true = x
           full_or_not false = x
 
-      judged_in : (x y : Bool) → is_page_for (length taken) (heard v) ≡ x → is_ahead (length taken) (heard v) ≡ y → RestAt W a (judged a more at taken left (heard v) x y) rest place all end → Unrolled W a (Asking more at taken left b) t place all end
+      judged_in : (x y : Bool) → is_page_for (length taken) (heard v) ≡ x → is_ahead (length taken) (heard v) ≡ y → RestAt W a (page_judged a more at taken left (heard v) x y) rest place all end → Unrolled W a (Asking more at taken left b) t place all end
       judged_in x y p q h =
-          as_heard (subst (λ (z : Bool). RestAt W a (judged a more at taken left (heard v) z (is_ahead (length taken) (heard v))) rest place all end) (sym p)
-          (subst (λ (z : Bool). RestAt W a (judged a more at taken left (heard v) x z) rest place all end) (sym q) h))
+          as_heard (subst (λ (z : Bool). RestAt W a (page_judged a more at taken left (heard v) z (is_ahead (length taken) (heard v))) rest place all end) (sym p)
+          (subst (λ (z : Bool). RestAt W a (page_judged a more at taken left (heard v) x z) rest place all end) (sym q) h))
 
     module _ (fresh : List (List ℕ)) (ea : all ≡ taken ++ fresh) where
       none_fresh : fresh ≡ [] → all ≡ taken
       none_fresh fe = ea ∙ ap (λ (y : List (List ℕ)). taken ++ y) fe ∙ append-nil taken
 
-      takes_in : (left : ℕ) (u0 rest0 : List TalkItem) (bytes : List ℕ) (later : List (List ℕ)) → t ≡ u0 ++ rest0 → Takes (suc left) (length taken) b u0 bytes → fresh ≡ bytes ∷ later → Later more (length taken + 1) rest0 later end
+      takes_in : (left : ℕ) (u0 rest0 : List TalkItem) (bytes : List ℕ) (later : List (List ℕ)) → t ≡ u0 ++ rest0 → TakesPage (suc left) (length taken) b u0 bytes → fresh ≡ bytes ∷ later → Later more (length taken + 1) rest0 later end
           → Unrolled W a (Asking more at taken left b) t place all end
       takes_in left u0 rest0 bytes later e (v, r, f, w, inl (p, n, by)) fe l =
           let g = front b v [] r rest0 t u0 e f ∙ ap (λ (y : List TalkItem). Said b true ∷ v ++ (y ++ rest0)) n in
@@ -139,7 +139,7 @@ module _ (W : Likeness) (same : (taken : List (List ℕ)) (place at : ℕ) → p
   whole = sym (append-nil t)
 
   -- a rest can be unrolled
-  pub into : (p : Part) → Listens p → (end ≡ End.Refused → EndsGiving a place all) → Rest W a p t place all end → Unrolled W a p t place all end
+  pub into : (p : AttemptPart) → Listens p → (end ≡ End.Refused → EndsGiving a place all) → Rest W a p t place all end → Unrolled W a p t place all end
   into Settling is strict (inl (s, u, rest, awake, e, still, wakes, woke)) = (s, u ++ rest, false, e, still_heard settled_waits s (omega arith) still, inl (u, rest, awake, refl, wakes, woke))
   into Settling is strict (inr (inl (flood, ea, en))) = (t, [], true, whole, flooding_hears settled_waits t (omega arith) flood, (refl, free place, ea, en))
   into Settling is strict (inr (inr (s, u, e, still, floods, ea, en))) = (s, u, false, e, still_heard settled_waits s (omega arith) still, inr (floods, ea, en))

@@ -9,16 +9,16 @@ use Rattle.dmpaft_pump.specs.declared.pump_end.PumpEnd.{PumpEnd}
 use Rattle.dmpaft_pump.specs.declared.pump_end.PumpEnd.TheVariants as pump_end
 use Rattle.dmpaft_driver.specs.Attempt.{End, Attempt}
 use Rattle.dmpaft_pump.specs.Batch.{EndsGiving}
-use Rattle.dmpaft_pump.specs.Pump.{State, Over, Astray, step, given, pump_after}
+use Rattle.dmpaft_pump.specs.Pump.{AttemptState, Over, Astray, attempt_step, answer_taken, pump_after}
 
 -- the end of an attempt that a pump has taken
-abbrev pub end_of : PumpEnd → End
-end_of pump_end.Whole = End.Whole
-end_of (pump_end.Failed trouble) = End.Failed trouble
-end_of pump_end.Full = End.Refused
-end_of pump_end.Stale = End.Refused
-end_of pump_end.DiskFault = End.Refused
-end_of pump_end.Flood = End.Flooded
+abbrev pub attempt_end : PumpEnd → End
+attempt_end pump_end.Whole = End.Whole
+attempt_end (pump_end.Failed trouble) = End.Failed trouble
+attempt_end pump_end.Full = End.Refused
+attempt_end pump_end.Stale = End.Refused
+attempt_end pump_end.DiskFault = End.Refused
+attempt_end pump_end.Flood = End.Flooded
 
 -- each batch was kept
 abbrev pub AllDone : List Stored → Type 0
@@ -33,20 +33,20 @@ RefusesGiven after place taken end = end ≡ End.Refused → EndsGiving after pl
 abbrev pub Sound : Option CivilMinute → Type 0
 Sound after = (talk : List TalkItem) (answers : List Stored) (place : ℕ) (taken : List (List ℕ)) (end : PumpEnd)
     → pump_after after talk answers ≡ Over place taken end
-    → Attempt (stamp_frame_of after) talk place taken (end_of end)
+    → Attempt (stamp_frame_of after) talk place taken (attempt_end end)
 
 -- an attempt ends the pump that takes it, at its place where it took a page
 abbrev pub Complete : Option CivilMinute → Type 0
 Complete after = (talk : List TalkItem) (place : ℕ) (taken : List (List ℕ)) (end : PumpEnd)
-    → Attempt (stamp_frame_of after) talk place taken (end_of end) → RefusesGiven after place taken (end_of end)
+    → Attempt (stamp_frame_of after) talk place taken (attempt_end end) → RefusesGiven after place taken (attempt_end end)
     → (answers : List Stored) × (at : ℕ) × (pump_after after talk answers ≡ Over at taken end)
-    × ((taken ≡ []) ⊎ (place ≡ at)) × (end_of end ≢ End.Refused → AllDone answers)
+    × ((taken ≡ []) ⊎ (place ≡ at)) × (attempt_end end ≢ End.Refused → AllDone answers)
 
 -- where each batch was kept and the pump stands so, an item that it does not allow begins no rest of an attempt that
 -- no refusal ends
 abbrev pub Stuck : Option CivilMinute → Type 0
-Stuck after = (talk : List TalkItem) (answers : List Stored) (s : State) (i : TalkItem)
+Stuck after = (talk : List TalkItem) (answers : List Stored) (s : AttemptState) (i : TalkItem)
     → pump_after after talk answers ≡ s → AllDone answers → s ≢ Astray
-    → ((more : List Stored) → step after (given after s more) i ≡ Astray)
+    → ((more : List Stored) → attempt_step after (answer_taken after s more) i ≡ Astray)
     → (rest : List TalkItem) (place : ℕ) (taken : List (List ℕ)) (end : End) → end ≢ End.Refused
     → Attempt (stamp_frame_of after) (talk ++ i ∷ rest) place taken end → ⊥

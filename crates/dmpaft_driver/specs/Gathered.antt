@@ -8,7 +8,7 @@ use Rattle.dmpaft_pump.specs.declared.outcome.DumpEnd.TheVariants as dump_end
 use Rattle.dmpaft_pump.specs.declared.outcome.Tally.{Tally}
 use Rattle.dmpaft_pump.specs.Keeper.{Handed, last_kept}
 use Rattle.dmpaft_pump.specs.Ledger.{Ledger}
-use Rattle.dmpaft_pump.specs.Batch.{batches, answered, all_skipped, EndsGiving}
+use Rattle.dmpaft_pump.specs.Batch.{batches, answered_batches, all_skipped, EndsGiving}
 
 -- what the keeper answered to the last batch
 abbrev pub keeper_answer : DumpEnd → Stored
@@ -18,8 +18,8 @@ keeper_answer dump_end.DiskFault = stored.DiskFault
 keeper_answer other = stored.Done
 
 -- what becomes of the batches of the taken pages after the last stamp, of the first page from a place on
-abbrev pub steps_of : DumpEnd → Option CivilMinute → ℕ → List (List ℕ) → Handed
-steps_of end last place taken = answered (keeper_answer end) (batches last place taken)
+abbrev pub dump_batches : DumpEnd → Option CivilMinute → ℕ → List (List ℕ) → Handed
+dump_batches end last place taken = answered_batches (keeper_answer end) (batches last place taken)
 
 -- a batch that was refused is that of the last page
 abbrev pub RefusesLast : DumpEnd → Option CivilMinute → ℕ → List (List ℕ) → Type 0
@@ -28,8 +28,8 @@ RefusesLast end after place taken = keeper_answer end ≢ stored.Done → EndsGi
 -- The batches of taken pages were handed over, and the pages were tallied.
 pub record Gathers {K : Type 0} (ledger : Ledger K) (end : DumpEnd) (after : Option CivilMinute) (place : ℕ)
     (taken : List (List ℕ)) (k : K) (tally : Tally) (l : K) (now : Tally) : Type 0 where
-  pub handed : ledger.keeps k (steps_of end after place taken) l
+  pub handed : ledger.keeps k (dump_batches end after place taken) l
   pub refused : RefusesLast end after place taken
   pub pages : now.pages ≡ tally.pages + length taken
   pub skipped : now.skipped ≡ tally.skipped + all_skipped place taken
-  pub last : now.last ≡ last_kept (steps_of end after place taken) tally.last
+  pub last : now.last ≡ last_kept (dump_batches end after place taken) tally.last

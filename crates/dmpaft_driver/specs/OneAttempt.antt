@@ -11,7 +11,7 @@ use Rattle.dmpaft_driver.specs.Attempt.{End, Attempt}
 use Rattle.dmpaft_pump.specs.Batch.{batches}
 use Rattle.dmpaft_pump.specs.Keeper.{kept_in}
 use Rattle.dmpaft_driver.specs.Outcome.{Ended, IsCutAfter}
-use Rattle.dmpaft_driver.specs.Gathered.{steps_of, RefusesLast}
+use Rattle.dmpaft_driver.specs.Gathered.{dump_batches, RefusesLast}
 
 -- Two readings of one talk agree: on the pages, on the end, and where a page was taken on the place in the header.
 pub record Agree (place place' : ℕ) (taken taken' : List (List ℕ)) (end end' : End) : Type 0 where
@@ -49,7 +49,7 @@ abbrev pub AcknowledgedAreKept : Type 0
 AcknowledgedAreKept = (after : Option CivilMinute) (talk : List TalkItem) (place place' : ℕ)
     (taken pages : List (List ℕ)) (end : DumpEnd) → IsAttempt after talk place taken end
     → Acknowledges (stamp_frame_of after) talk place' pages
-    → IsFrontOf (batches after place' pages) (kept_in (steps_of end after place taken))
+    → IsFrontOf (batches after place' pages) (kept_in (dump_batches end after place taken))
 
 -- of pages that were taken the first were acknowledged, where others were taken after them or the last was not refused
 abbrev pub TakenAreAcknowledged : Type 0

@@ -11,8 +11,8 @@ use Rattle.dmpaft_pump.specs.declared.pump_end.PumpEnd.{PumpEnd}
 use Rattle.dmpaft_driver.specs.declared.trying.TrialEnd.{TrialEnd}
 use Rattle.dmpaft_driver.specs.declared.trying.TrialEnd.TheVariants as trial_end
 use Rattle.dmpaft_driver.specs.Exact.{AllDone}
-use Rattle.dmpaft_pump.specs.Pump.{State, Over, Astray, given, step, is_said, pump_from}
-use Rattle.dmpaft_pump.specs.Shown.{Shows}
+use Rattle.dmpaft_pump.specs.Pump.{AttemptState, Over, Astray, answer_taken, attempt_step, is_said, pump_from}
+use Rattle.dmpaft_pump.specs.Shown.{PumpShows}
 
 -- whether nothing follows
 abbrev pub is_last : List ℕ → Bool
@@ -26,7 +26,7 @@ Differs (b ∷ bs) [] = Unit {0}
 Differs (b ∷ bs) (i ∷ items) = is_said (Said b (is_last bs)) i ≡ false
 
 -- So many of the items, and no more, are a prefix of the message of these bytes.
-pub record Spells (words : List ℕ) (items : List TalkItem) (count : ℕ) (left : List ℕ) (rest : List TalkItem)
+pub record SpellsMessage (words : List ℕ) (items : List TalkItem) (count : ℕ) (left : List ℕ) (rest : List TalkItem)
     : Type 0 where
   pub said : List TalkItem
   pub items_are : items ≡ said ++ rest
@@ -35,31 +35,31 @@ pub record Spells (words : List ℕ) (items : List TalkItem) (count : ℕ) (left
   pub sized : length words ≡ count + length left
 
 -- the attempt might still end where it stands so, by these items
-abbrev pub MightEnd : Option CivilMinute → State → List TalkItem → Type 0
+abbrev pub MightEnd : Option CivilMinute → AttemptState → List TalkItem → Type 0
 MightEnd after s rest = (answers : List Stored) × (place : ℕ) × (taken : List (List ℕ)) × (end : PumpEnd)
     × (pump_from after s rest answers ≡ Over place taken end) × AllDone answers
 
 -- so many items were taken, and each batch was kept
-abbrev pub StepsOn : Tally → Option CivilMinute → State → List TalkItem → ℕ → Pump → Type 0
+abbrev pub StepsOn : Tally → Option CivilMinute → AttemptState → List TalkItem → ℕ → Pump → Type 0
 StepsOn start after s items count pump = (t : List TalkItem) × (rest : List TalkItem) × (answers : List Stored)
-    × (items ≡ t ++ rest) × (length t ≡ count) × AllDone answers × Shows start after (pump_from after s t answers) pump
+    × (items ≡ t ++ rest) × (length t ≡ count) × AllDone answers × PumpShows start after (pump_from after s t answers) pump
 
 -- where a trial stops
-abbrev pub StopsAt : Option CivilMinute → State → List TalkItem → TrialEnd → Type 0
-StopsAt after s items (trial_end.Attempt end) =
+abbrev pub TrialStopsAt : Option CivilMinute → AttemptState → List TalkItem → TrialEnd → Type 0
+TrialStopsAt after s items (trial_end.Attempt end) =
     (items ≡ []) × (place : ℕ) × (taken : List (List ℕ)) × (s ≡ Over place taken end)
-StopsAt after s items trial_end.Unfinished =
+TrialStopsAt after s items trial_end.Unfinished =
     (rest : List TalkItem) × (rest ≢ []) × MightEnd after (pump_from after s items []) rest
-StopsAt after s items (trial_end.Not count) = (t : List TalkItem) × (i : TalkItem) × (rest : List TalkItem)
+TrialStopsAt after s items (trial_end.Not count) = (t : List TalkItem) × (i : TalkItem) × (rest : List TalkItem)
     × (items ≡ t ++ i ∷ rest) × (length t ≡ count)
     × ((later : List TalkItem) × MightEnd after (pump_from after s t []) later)
-    × ((more : List Stored) → step after (given after (pump_from after s t []) more) i ≡ Astray)
+    × ((more : List Stored) → attempt_step after (answer_taken after (pump_from after s t []) more) i ≡ Astray)
 
 -- how many items were taken before the one that does not fit
-abbrev pub count_of : TrialEnd → ℕ
-count_of (trial_end.Attempt end) = 0
-count_of trial_end.Unfinished = 0
-count_of (trial_end.Not count) = count
+abbrev pub fitting_count : TrialEnd → ℕ
+fitting_count (trial_end.Attempt end) = 0
+fitting_count trial_end.Unfinished = 0
+fitting_count (trial_end.Not count) = count
 
 -- the same, of a talk of which so many items were taken before
 abbrev pub later : ℕ → TrialEnd → TrialEnd

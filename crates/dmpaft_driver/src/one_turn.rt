@@ -5,9 +5,9 @@ ghost use Rattle.vantage_frames.specs.Slots.{page_size};
 ghost use Rattle.serial_link.specs.declared.talk.TalkItem.{TalkItem};
 ghost use Rattle.serial_link.specs.Talk.{Adds};
 ghost use Rattle.dmpaft_pump.specs.declared.outcome.Tally.{Tally};
-ghost use Rattle.dmpaft_pump.specs.Pump.{State};
-ghost use Rattle.dmpaft_pump.specs.Shown.{Shows, Stands, room_of, left_of};
-ghost use Rattle.dmpaft_driver.specs.Turning.{Suits, Turns, desk, ListensTo, dump_end_of};
+ghost use Rattle.dmpaft_pump.specs.Pump.{AttemptState};
+ghost use Rattle.dmpaft_pump.specs.Shown.{PumpShows, PumpStands, room_of, steps_left};
+ghost use Rattle.dmpaft_driver.specs.Turning.{Suits, Turns, dump_desk, ListensTo, dump_end_of};
 
 use dmpaft_pump::{Action, DumpEnd, Keeper, Pump, PumpEnd};
 use serial_link::{Link, Recv, Sent};
@@ -17,12 +17,12 @@ use vantage_frames::PAGE_SIZE;
 /// answer is the end of the attempt, once there is one, and nothing is done then. With `LinkFault` or `OutOfMemory` the
 /// pump stands where it stood.
 pub fn turn<L: Link, K: Keeper>(pump: &mut Pump, link: &mut L, keeper: &mut K) -> Option<DumpEnd>
-    requires stands { Stands pump.old }
+    requires stands { PumpStands pump.old }
     requires suits { Suits (K.ledger.last keeper.old) (K.ledger.room keeper.old) pump.old }
-    ensures turns { (start : Tally) (after : Option CivilMinute) (s : State) → Shows start after s pump.old
+    ensures turns { (start : Tally) (after : Option CivilMinute) (s : AttemptState) → PumpShows start after s pump.old
         → Turns L.traffic K.ledger result start after s
-        (desk pump.old link.old keeper.old) (desk pump.new link.new keeper.new) }
-    ensures left { result ≡ None → left_of pump.new < left_of pump.old }
+        (dump_desk pump.old link.old keeper.old) (dump_desk pump.new link.new keeper.new) }
+    ensures left { result ≡ None → steps_left pump.new < steps_left pump.old }
     ensures fault { Cause (L.traffic.faults link.old) (L.traffic.faults link.new) (result ≡ Some DumpEnd.LinkFault) }
     ensures shortage { Cause (L.traffic.shortages link.old) (L.traffic.shortages link.new)
         (result ≡ Some DumpEnd.OutOfMemory) }
@@ -51,11 +51,11 @@ fn listen<L: Link>(pump: &mut Pump, link: &mut L, most: u16) -> Option<DumpEnd>
     requires some { 1 ≤ most }
     requires room { most ≤ room_of pump.old }
     requires piece { most ≤ page_size }
-    ensures hears { (start : Tally) (after : Option CivilMinute) (s : State) → Shows start after s pump.old
+    ensures hears { (start : Tally) (after : Option CivilMinute) (s : AttemptState) → PumpShows start after s pump.old
         → (t : List TalkItem) × Adds L.traffic link.old t link.new
         × ListensTo result start after s t pump.old pump.new }
-    ensures left { (start : Tally) (after : Option CivilMinute) (s : State) → Shows start after s pump.old
-        → result ≡ None → left_of pump.new < left_of pump.old }
+    ensures left { (start : Tally) (after : Option CivilMinute) (s : AttemptState) → PumpShows start after s pump.old
+        → result ≡ None → steps_left pump.new < steps_left pump.old }
     ensures fault { Cause (L.traffic.faults link.old) (L.traffic.faults link.new) (result ≡ Some DumpEnd.LinkFault) }
     ensures shortage { Cause (L.traffic.shortages link.old) (L.traffic.shortages link.new)
         (result ≡ Some DumpEnd.OutOfMemory) }

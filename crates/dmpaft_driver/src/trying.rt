@@ -3,10 +3,10 @@ ghost use Rattle.station_base.specs.CivilMinute.{CivilMinute};
 ghost use Rattle.serial_link.specs.declared.talk.TalkItem.{TalkItem};
 ghost use Rattle.serial_link.specs.declared.talk.TalkItem.TheVariants as talk_item;
 ghost use Rattle.dmpaft_pump.specs.declared.outcome.Tally.{Tally};
-ghost use Rattle.dmpaft_pump.specs.Pump.{State, is_said};
-ghost use Rattle.dmpaft_pump.specs.Shown.{Shows, Stands, left_of, room_of};
-ghost use Rattle.dmpaft_driver.specs.Trial.{Tried};
-ghost use Rattle.dmpaft_driver.specs.Trying.{Spells, Differs, StepsOn, StopsAt, count_of, later};
+ghost use Rattle.dmpaft_pump.specs.Pump.{AttemptState, is_said};
+ghost use Rattle.dmpaft_pump.specs.Shown.{PumpShows, PumpStands, steps_left, room_of};
+ghost use Rattle.dmpaft_driver.specs.Trial.{TalkIsTried};
+ghost use Rattle.dmpaft_driver.specs.Trying.{SpellsMessage, Differs, StepsOn, TrialStopsAt, fitting_count, later};
 
 use dmpaft_pump::{Action, Kept, Pump, PumpEnd};
 use serial_link::TalkItem;
@@ -26,7 +26,7 @@ pub enum TrialEnd {
 /// Tries whether a talk is an attempt after a stamp in which each batch was kept. The talk has fewer than 2^32 items.
 pub fn trial(after: Option<Stamp>, talk: &[TalkItem]) -> TrialEnd
     requires short { length talk.now < 2 ^ 32 }
-    ensures tried { Tried after talk.now result }
+    ensures tried { TalkIsTried after talk.now result }
 {
     let mut pump = Pump::new(after);
     let mut at = 0;
@@ -40,7 +40,7 @@ pub fn trial(after: Option<Stamp>, talk: &[TalkItem]) -> TrialEnd
 
 // What a talk is of which so many items were taken before, and the others are this.
 fn behind(taken: u32, end: TrialEnd) -> TrialEnd
-    requires { taken + count_of end < 2 ^ 32 }
+    requires { taken + fitting_count end < 2 ^ 32 }
     ensures { result ≡ later taken end }
 {
     match end {
@@ -52,11 +52,11 @@ fn behind(taken: u32, end: TrialEnd) -> TrialEnd
 // Lets a pump take the items that come next, and answers how many they were, or with what the trial ends. Where an item
 // is not the one that comes next, its place among these items is told.
 fn step(pump: &mut Pump, items: &[TalkItem]) -> Result<usize, TrialEnd>
-    requires stands { Stands pump.old }
+    requires stands { PumpStands pump.old }
     requires short { length items.now < 2 ^ 32 }
-    ensures steps { (start : Tally) (after : Option CivilMinute) (s : State) → Shows start after s pump.old
-        → MatchResult result (λ n. StepsOn start after s items.now n pump.new) (λ e. StopsAt after s items.now e) }
-    ensures left { OnOk result (left_of pump.new < left_of pump.old) }
+    ensures steps { (start : Tally) (after : Option CivilMinute) (s : AttemptState) → PumpShows start after s pump.old
+        → MatchResult result (λ n. StepsOn start after s items.now n pump.new) (λ e. TrialStopsAt after s items.now e) }
+    ensures left { OnOk result (steps_left pump.new < steps_left pump.old) }
 {
     match pump.action() {
         Action::Say(words) => {
@@ -88,10 +88,10 @@ fn step(pump: &mut Pump, items: &[TalkItem]) -> Result<usize, TrialEnd>
 // Lets a pump that listens take one item.
 fn listen(pump: &mut Pump, items: &[TalkItem]) -> Result<usize, TrialEnd>
     requires room { 0 < room_of pump.old }
-    requires stands { Stands pump.old }
-    ensures steps { (start : Tally) (after : Option CivilMinute) (s : State) → Shows start after s pump.old
-        → MatchResult result (λ n. StepsOn start after s items.now n pump.new) (λ e. StopsAt after s items.now e) }
-    ensures left { OnOk result (left_of pump.new < left_of pump.old) }
+    requires stands { PumpStands pump.old }
+    ensures steps { (start : Tally) (after : Option CivilMinute) (s : AttemptState) → PumpShows start after s pump.old
+        → MatchResult result (λ n. StepsOn start after s items.now n pump.new) (λ e. TrialStopsAt after s items.now e) }
+    ensures left { OnOk result (steps_left pump.new < steps_left pump.old) }
 {
     let Some((item, _)) = items.split_first() else {
         return Err(TrialEnd::Unfinished);
@@ -111,7 +111,7 @@ fn listen(pump: &mut Pump, items: &[TalkItem]) -> Result<usize, TrialEnd>
 
 // How many of these items are the front of the message of these bytes.
 fn said_of(words: &[u8], items: &[TalkItem]) -> usize
-    ensures { (left : List ℕ) × (rest : List TalkItem) × Spells words.now items.now result left rest
+    ensures { (left : List ℕ) × (rest : List TalkItem) × SpellsMessage words.now items.now result left rest
         × Differs left rest }
 {
     let mut left = words;

@@ -4,7 +4,7 @@ use Rattle.station_base.specs.CivilMinute.{CivilMinute}
 use Rattle.causes.specs.declared.stored.Stored.{Stored}
 use Rattle.causes.specs.declared.stored.Stored.TheVariants as stored
 use Rattle.dmpaft_pump.specs.Keeper.{Handed, one_batch, kept_all, join, kept_in, count, last_kept}
-use Rattle.dmpaft_pump.specs.Batch.{add, answered}
+use Rattle.dmpaft_pump.specs.Batch.{add, answered_batches}
 
 -- three that join, from either side
 pub join_assoc : (a b c : Handed) → join (join a b) c ≡ join a (join b c)
@@ -24,13 +24,13 @@ kept_join [] cs = refl
 kept_join (b ∷ bs) cs = ap (λ (x : Handed). Handed.Kept b x) (kept_join bs cs)
 
 -- batches of which no answer refuses one are all kept
-pub kept_answered : (bs : List (List (List ℕ))) → answered stored.Done bs ≡ kept_all bs
+pub kept_answered : (bs : List (List (List ℕ))) → answered_batches stored.Done bs ≡ kept_all bs
 kept_answered [] = refl
 kept_answered (b ∷ []) = refl
 kept_answered (b ∷ c ∷ bs) = ap (λ (x : Handed). Handed.Kept b x) (kept_answered (c ∷ bs))
 
 -- an answer is to the last batch, and those before it were kept
-pub answered_snoc : (answer : Stored) (bs : List (List (List ℕ))) (rows : List (List ℕ)) → answered answer (bs ++ rows ∷ []) ≡ join (kept_all bs) (one_batch answer rows)
+pub answered_snoc : (answer : Stored) (bs : List (List (List ℕ))) (rows : List (List ℕ)) → answered_batches answer (bs ++ rows ∷ []) ≡ join (kept_all bs) (one_batch answer rows)
 answered_snoc answer [] rows = refl
 answered_snoc answer (b ∷ []) rows = refl
 answered_snoc answer (b ∷ c ∷ bs) rows = ap (λ (x : Handed). Handed.Kept b x) (answered_snoc answer (c ∷ bs) rows)

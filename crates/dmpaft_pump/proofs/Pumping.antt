@@ -6,23 +6,23 @@ use Rattle.std.proofs.Math.Seq.{take-length}
 use Rattle.station_base.specs.CivilMinute.{CivilMinute}
 use Rattle.dmpaft_pump.specs.Keeper.{kept_all}
 use Rattle.dmpaft_pump.specs.Slot.{is_skipped}
-use Rattle.dmpaft_pump.specs.Batch.{slots, slots_from, rising, newest, skipped, count_if, add, batches, all_slots, all_skipped}
-use Rattle.dmpaft_pump.specs.Pump.{newest_of, next_place, batch_of, batched, Keeps}
+use Rattle.dmpaft_pump.specs.Batch.{slots_in_page, slots_from, rising, newest, skipped, count_if, add, batches, all_slots, all_skipped}
+use Rattle.dmpaft_pump.specs.Pump.{newest_in_pages, next_place, batch_of, batched, Keeps}
 use Rattle.dmpaft_pump.specs.Shown.{all_kept}
 use Rattle.dmpaft_pump.proofs.LastBatch.{newest_joins}
 
-pub skips_more : (place : ℕ) (taken : List (List ℕ)) (page : List ℕ) → all_skipped place (taken ++ page ∷ []) ≡ all_skipped place taken + skipped (slots (next_place place taken) page)
+pub skips_more : (place : ℕ) (taken : List (List ℕ)) (page : List ℕ) → all_skipped place (taken ++ page ∷ []) ≡ all_skipped place taken + skipped (slots_in_page (next_place place taken) page)
 skips_more place [] page = omega arith
 skips_more place (p ∷ []) page = omega arith
 skips_more place (p ∷ q ∷ taken) page = omega (arith, skips_more 0 (q ∷ taken) page)
 
-pub slots_more : (place : ℕ) (taken : List (List ℕ)) (page : List ℕ) → all_slots place (taken ++ page ∷ []) ≡ all_slots place taken ++ slots (next_place place taken) page
-slots_more place [] page = append-nil (slots place page)
-slots_more place (p ∷ []) page = ap (λ (x : List (List ℕ)). slots place p ++ x) (append-nil (slots 0 page)) ∙ ap (λ (x : List (List ℕ)). x ++ slots 0 page) (sym (append-nil (slots place p)))
-slots_more place (p ∷ q ∷ taken) page = ap (λ (x : List (List ℕ)). slots place p ++ x) (slots_more 0 (q ∷ taken) page) ∙ sym (append_assoc (slots place p) (all_slots 0 (q ∷ taken)) (slots 0 page))
+pub slots_more : (place : ℕ) (taken : List (List ℕ)) (page : List ℕ) → all_slots place (taken ++ page ∷ []) ≡ all_slots place taken ++ slots_in_page (next_place place taken) page
+slots_more place [] page = append-nil (slots_in_page place page)
+slots_more place (p ∷ []) page = ap (λ (x : List (List ℕ)). slots_in_page place p ++ x) (append-nil (slots_in_page 0 page)) ∙ ap (λ (x : List (List ℕ)). x ++ slots_in_page 0 page) (sym (append-nil (slots_in_page place p)))
+slots_more place (p ∷ q ∷ taken) page = ap (λ (x : List (List ℕ)). slots_in_page place p ++ x) (slots_more 0 (q ∷ taken) page) ∙ sym (append_assoc (slots_in_page place p) (all_slots 0 (q ∷ taken)) (slots_in_page 0 page))
 
-pub newest_more : (a : Option CivilMinute) (place : ℕ) (taken : List (List ℕ)) (page : List ℕ) → newest_of a place (taken ++ page ∷ []) ≡ newest (newest_of a place taken) (slots (next_place place taken) page)
-newest_more a place taken page = ap (λ (x : List (List ℕ)). newest a x) (slots_more place taken page) ∙ newest_joins a (all_slots place taken) (slots (next_place place taken) page)
+pub newest_more : (a : Option CivilMinute) (place : ℕ) (taken : List (List ℕ)) (page : List ℕ) → newest_in_pages a place (taken ++ page ∷ []) ≡ newest (newest_in_pages a place taken) (slots_in_page (next_place place taken) page)
+newest_more a place taken page = ap (λ (x : List (List ℕ)). newest a x) (slots_more place taken page) ∙ newest_joins a (all_slots place taken) (slots_in_page (next_place place taken) page)
 
 pub place_more : (place : ℕ) (taken : List (List ℕ)) (page : List ℕ) → next_place place (taken ++ page ∷ []) ≡ 0
 place_more place [] page = refl
@@ -47,15 +47,15 @@ add_joins (r ∷ rows) more = refl
 pub batches_more : (a : Option CivilMinute) (place : ℕ) (taken : List (List ℕ)) (page : List ℕ) → batches a place (taken ++ page ∷ []) ≡ batches a place taken ++ add (batch_of a place taken page) []
 batches_more a place [] page = refl
 batches_more a place (p ∷ []) page =
-    ap (λ (x : Option CivilMinute). add (rising a (slots place p)) (add (rising x (slots 0 page)) [])) (ap (λ (y : List (List ℕ)). newest a y) (sym (append-nil (slots place p))))
-    ∙ add_joins (rising a (slots place p)) (add (rising (newest a (slots place p ++ [])) (slots 0 page)) [])
+    ap (λ (x : Option CivilMinute). add (rising a (slots_in_page place p)) (add (rising x (slots_in_page 0 page)) [])) (ap (λ (y : List (List ℕ)). newest a y) (sym (append-nil (slots_in_page place p))))
+    ∙ add_joins (rising a (slots_in_page place p)) (add (rising (newest a (slots_in_page place p ++ [])) (slots_in_page 0 page)) [])
 batches_more a place (p ∷ q ∷ taken) page =
-    let b = newest a (slots place p) in
-    ap (λ (x : List (List (List ℕ))). add (rising a (slots place p)) x) (batches_more b 0 (q ∷ taken) page)
-    ∙ add_joins (rising a (slots place p)) (batches b 0 (q ∷ taken) ++ add (batch_of b 0 (q ∷ taken) page) [])
-    ∙ ap (λ (x : Option CivilMinute). add (rising a (slots place p)) [] ++ (batches b 0 (q ∷ taken) ++ add (rising x (slots 0 page)) [])) (sym (newest_joins a (slots place p) (all_slots 0 (q ∷ taken))))
-    ∙ sym (append_assoc (add (rising a (slots place p)) []) (batches b 0 (q ∷ taken)) (add (batch_of a place (p ∷ q ∷ taken) page) []))
-    ∙ ap (λ (x : List (List (List ℕ))). x ++ add (batch_of a place (p ∷ q ∷ taken) page) []) (sym (add_joins (rising a (slots place p)) (batches b 0 (q ∷ taken))))
+    let b = newest a (slots_in_page place p) in
+    ap (λ (x : List (List (List ℕ))). add (rising a (slots_in_page place p)) x) (batches_more b 0 (q ∷ taken) page)
+    ∙ add_joins (rising a (slots_in_page place p)) (batches b 0 (q ∷ taken) ++ add (batch_of b 0 (q ∷ taken) page) [])
+    ∙ ap (λ (x : Option CivilMinute). add (rising a (slots_in_page place p)) [] ++ (batches b 0 (q ∷ taken) ++ add (rising x (slots_in_page 0 page)) [])) (sym (newest_joins a (slots_in_page place p) (all_slots 0 (q ∷ taken))))
+    ∙ sym (append_assoc (add (rising a (slots_in_page place p)) []) (batches b 0 (q ∷ taken)) (add (batch_of a place (p ∷ q ∷ taken) page) []))
+    ∙ ap (λ (x : List (List (List ℕ))). x ++ add (batch_of a place (p ∷ q ∷ taken) page) []) (sym (add_joins (rising a (slots_in_page place p)) (batches b 0 (q ∷ taken))))
 
 -- a page with no batch leaves what was kept
 pub kept_none : (a : Option CivilMinute) (place : ℕ) (taken : List (List ℕ)) (page : List ℕ) → batch_of a place taken page ≡ [] → all_kept a place (taken ++ page ∷ []) ≡ all_kept a place taken

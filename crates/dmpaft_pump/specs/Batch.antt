@@ -14,12 +14,12 @@ slots_from zero place page = []
 slots_from (suc left) place page = slot_at page place ∷ slots_from left (place + 1) page
 
 -- the slots of a page from a place on
-abbrev pub slots : ℕ → List ℕ → List (List ℕ)
-slots place page = slots_from (5 - place) place page
+abbrev pub slots_in_page : ℕ → List ℕ → List (List ℕ)
+slots_in_page place page = slots_from (5 - place) place page
 
 -- whether a slot holds a record whose stamp exceeds the last one
-abbrev pub is_newer : Option CivilMinute → List ℕ → Bool
-is_newer last slot = is_record slot && exceeds last (stamp_in slot)
+abbrev pub slot_is_newer : Option CivilMinute → List ℕ → Bool
+slot_is_newer last slot = is_record slot && exceeds last (stamp_in slot)
 
 -- the slot, or none
 abbrev pub one_if : Bool → List ℕ → List (List ℕ)
@@ -34,12 +34,12 @@ last_if false last slot = last
 -- the records whose stamps exceed the last one and those of all records before them
 abbrev pub rising : Option CivilMinute → List (List ℕ) → List (List ℕ)
 rising last [] = []
-rising last (s ∷ ss) = one_if (is_newer last s) s ++ rising (last_if (is_newer last s) last s) ss
+rising last (s ∷ ss) = one_if (slot_is_newer last s) s ++ rising (last_if (slot_is_newer last s) last s) ss
 
 -- the greatest stamp then
 abbrev pub newest : Option CivilMinute → List (List ℕ) → Option CivilMinute
 newest last [] = last
-newest last (s ∷ ss) = newest (last_if (is_newer last s) last s) ss
+newest last (s ∷ ss) = newest (last_if (slot_is_newer last s) last s) ss
 
 -- one, or none
 abbrev pub count_if : Bool → ℕ
@@ -60,7 +60,7 @@ add (r ∷ rows) batches = (r ∷ rows) ∷ batches
 abbrev pub batches : Option CivilMinute → ℕ → List (List ℕ) → List (List (List ℕ))
 batches last place [] = []
 batches last place (page ∷ more) =
-    add (rising last (slots place page)) (batches (newest last (slots place page)) 0 more)
+    add (rising last (slots_in_page place page)) (batches (newest last (slots_in_page place page)) 0 more)
 
 -- the records of batches, in order
 abbrev pub records_in : List (List (List ℕ)) → List (List ℕ)
@@ -70,21 +70,21 @@ records_in (rows ∷ more) = rows ++ records_in more
 -- the slots of taken pages, of the first page from a place on
 abbrev pub all_slots : ℕ → List (List ℕ) → List (List ℕ)
 all_slots place [] = []
-all_slots place (page ∷ more) = slots place page ++ all_slots 0 more
+all_slots place (page ∷ more) = slots_in_page place page ++ all_slots 0 more
 
 -- how many slots of taken pages are skipped, of the first page from a place on
 abbrev pub all_skipped : ℕ → List (List ℕ) → ℕ
 all_skipped place [] = 0
-all_skipped place (page ∷ more) = skipped (slots place page) + all_skipped 0 more
+all_skipped place (page ∷ more) = skipped (slots_in_page place page) + all_skipped 0 more
 
 -- batches of which the last has this answer, and those before it were kept
-abbrev pub answered : Stored → List (List (List ℕ)) → Handed
-answered answer [] = Handed.Nothing
-answered answer (rows ∷ []) = one_batch answer rows
-answered answer (rows ∷ next ∷ more) = Handed.Kept rows (answered answer (next ∷ more))
+abbrev pub answered_batches : Stored → List (List (List ℕ)) → Handed
+answered_batches answer [] = Handed.Nothing
+answered_batches answer (rows ∷ []) = one_batch answer rows
+answered_batches answer (rows ∷ next ∷ more) = Handed.Kept rows (answered_batches answer (next ∷ more))
 
 -- the last of these pages gives a batch
 abbrev pub EndsGiving : Option CivilMinute → ℕ → List (List ℕ) → Type 0
 EndsGiving last place [] = ⊥
-EndsGiving last place (page ∷ []) = rising last (slots place page) ≢ []
-EndsGiving last place (page ∷ next ∷ more) = EndsGiving (newest last (slots place page)) 0 (next ∷ more)
+EndsGiving last place (page ∷ []) = rising last (slots_in_page place page) ≢ []
+EndsGiving last place (page ∷ next ∷ more) = EndsGiving (newest last (slots_in_page place page)) 0 (next ∷ more)

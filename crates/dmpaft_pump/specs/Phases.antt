@@ -8,18 +8,18 @@ use Rattle.wake_retry.specs.Parts.{flood_size, answer_waits, settled_waits, wake
 use Rattle.dmpaft_pump.specs.declared.phase.Phase.{Phase}
 use Rattle.dmpaft_pump.specs.declared.phase.Phase.TheVariants as phase
 use Rattle.dmpaft_pump.specs.Command.{dmpaft}
-use Rattle.dmpaft_pump.specs.Pump.{Part, Settling, Waking, Calling, Heading, Asking, Resettling, Acking, GivingUp}
+use Rattle.dmpaft_pump.specs.Pump.{AttemptPart, Settling, Waking, Calling, Heading, Asking, Resettling, Acking, GivingUp}
 
 -- the part after these pages
-abbrev pub part_of : ℕ → List (List ℕ) → Phase → Part
-part_of place taken phase.Settling = Settling
-part_of place taken (phase.Waking left) = Waking left
-part_of place taken phase.Calling = Calling
-part_of place taken phase.Heading = Heading
-part_of place taken (phase.Asking more left said) = Asking more place taken left said
-part_of place taken (phase.Resettling more left said) = Resettling more place taken left said
-part_of place taken phase.Acking = Acking place taken
-part_of place taken (phase.GivingUp trouble) = GivingUp place taken trouble
+abbrev pub part_of_phase : ℕ → List (List ℕ) → Phase → AttemptPart
+part_of_phase place taken phase.Settling = Settling
+part_of_phase place taken (phase.Waking left) = Waking left
+part_of_phase place taken phase.Calling = Calling
+part_of_phase place taken phase.Heading = Heading
+part_of_phase place taken (phase.Asking more left said) = Asking more place taken left said
+part_of_phase place taken (phase.Resettling more left said) = Resettling more place taken left said
+part_of_phase place taken phase.Acking = Acking place taken
+part_of_phase place taken (phase.GivingUp trouble) = GivingUp place taken trouble
 
 -- so many quiet waits in a row end what it hears
 abbrev pub quiets_of : Phase → ℕ
@@ -33,70 +33,70 @@ quiets_of phase.Acking = answer_waits
 quiets_of (phase.GivingUp trouble) = answer_waits
 
 -- so many bytes end what it hears
-abbrev pub most_of : Phase → ℕ
-most_of phase.Settling = flood_size
-most_of (phase.Waking left) = flood_size
-most_of phase.Calling = 1
-most_of phase.Heading = 7
-most_of (phase.Asking more left said) = page_size
-most_of (phase.Resettling more left said) = flood_size
-most_of phase.Acking = 1
-most_of (phase.GivingUp trouble) = 1
+abbrev pub most_bytes_of : Phase → ℕ
+most_bytes_of phase.Settling = flood_size
+most_bytes_of (phase.Waking left) = flood_size
+most_bytes_of phase.Calling = 1
+most_bytes_of phase.Heading = 7
+most_bytes_of (phase.Asking more left said) = page_size
+most_bytes_of (phase.Resettling more left said) = flood_size
+most_bytes_of phase.Acking = 1
+most_bytes_of (phase.GivingUp trouble) = 1
 
 -- what it says
-abbrev pub words_of : Option CivilMinute → Phase → List ℕ
-words_of after phase.Settling = []
-words_of after (phase.Waking left) = 10 ∷ []
-words_of after phase.Calling = dmpaft
-words_of after phase.Heading = stamp_frame_of after
-words_of after (phase.Asking more left said) = said ∷ []
-words_of after (phase.Resettling more left said) = []
-words_of after phase.Acking = 6 ∷ []
-words_of after (phase.GivingUp trouble) = 27 ∷ []
+abbrev pub words_of_phase : Option CivilMinute → Phase → List ℕ
+words_of_phase after phase.Settling = []
+words_of_phase after (phase.Waking left) = 10 ∷ []
+words_of_phase after phase.Calling = dmpaft
+words_of_phase after phase.Heading = stamp_frame_of after
+words_of_phase after (phase.Asking more left said) = said ∷ []
+words_of_phase after (phase.Resettling more left said) = []
+words_of_phase after phase.Acking = 6 ∷ []
+words_of_phase after (phase.GivingUp trouble) = 27 ∷ []
 
 -- only the last bytes of what it hears matter
-abbrev pub settles : Phase → Bool
-settles phase.Settling = true
-settles (phase.Waking left) = true
-settles phase.Calling = false
-settles phase.Heading = false
-settles (phase.Asking more left said) = false
-settles (phase.Resettling more left said) = true
-settles phase.Acking = false
-settles (phase.GivingUp trouble) = false
+abbrev pub phase_settles : Phase → Bool
+phase_settles phase.Settling = true
+phase_settles (phase.Waking left) = true
+phase_settles phase.Calling = false
+phase_settles phase.Heading = false
+phase_settles (phase.Asking more left said) = false
+phase_settles (phase.Resettling more left said) = true
+phase_settles phase.Acking = false
+phase_settles (phase.GivingUp trouble) = false
 
 -- before the header there is no place and no page; while a page is asked for, it and those after it are not too many
-abbrev pub Fits : Phase → ℕ → List (List ℕ) → Type 0
-Fits phase.Settling place taken = (place ≡ 0) × (taken ≡ [])
-Fits (phase.Waking left) place taken = (place ≡ 0) × (taken ≡ [])
-Fits phase.Calling place taken = (place ≡ 0) × (taken ≡ [])
-Fits phase.Heading place taken = (place ≡ 0) × (taken ≡ [])
-Fits (phase.Asking more left said) place taken = length taken + more < most_pages
-Fits (phase.Resettling more left said) place taken = length taken + more < most_pages
-Fits phase.Acking place taken = Unit {0}
-Fits (phase.GivingUp trouble) place taken = Unit {0}
+abbrev pub PhaseFits : Phase → ℕ → List (List ℕ) → Type 0
+PhaseFits phase.Settling place taken = (place ≡ 0) × (taken ≡ [])
+PhaseFits (phase.Waking left) place taken = (place ≡ 0) × (taken ≡ [])
+PhaseFits phase.Calling place taken = (place ≡ 0) × (taken ≡ [])
+PhaseFits phase.Heading place taken = (place ≡ 0) × (taken ≡ [])
+PhaseFits (phase.Asking more left said) place taken = length taken + more < most_pages
+PhaseFits (phase.Resettling more left said) place taken = length taken + more < most_pages
+PhaseFits phase.Acking place taken = Unit {0}
+PhaseFits (phase.GivingUp trouble) place taken = Unit {0}
 
 -- it hears something
-abbrev pub Hears : Phase → Type 0
-Hears phase.Settling = Unit {0}
-Hears (phase.Waking left) = Unit {0}
-Hears phase.Calling = Unit {0}
-Hears phase.Heading = Unit {0}
-Hears (phase.Asking more left said) = Unit {0}
-Hears (phase.Resettling more left said) = Unit {0}
-Hears phase.Acking = ⊥
-Hears (phase.GivingUp trouble) = ⊥
+abbrev pub PhaseHears : Phase → Type 0
+PhaseHears phase.Settling = Unit {0}
+PhaseHears (phase.Waking left) = Unit {0}
+PhaseHears phase.Calling = Unit {0}
+PhaseHears phase.Heading = Unit {0}
+PhaseHears (phase.Asking more left said) = Unit {0}
+PhaseHears (phase.Resettling more left said) = Unit {0}
+PhaseHears phase.Acking = ⊥
+PhaseHears (phase.GivingUp trouble) = ⊥
 
 -- it says something
-abbrev pub Speaks : Phase → Type 0
-Speaks phase.Settling = ⊥
-Speaks (phase.Waking left) = Unit {0}
-Speaks phase.Calling = Unit {0}
-Speaks phase.Heading = Unit {0}
-Speaks (phase.Asking more left said) = Unit {0}
-Speaks (phase.Resettling more left said) = ⊥
-Speaks phase.Acking = Unit {0}
-Speaks (phase.GivingUp trouble) = Unit {0}
+abbrev pub PhaseSpeaks : Phase → Type 0
+PhaseSpeaks phase.Settling = ⊥
+PhaseSpeaks (phase.Waking left) = Unit {0}
+PhaseSpeaks phase.Calling = Unit {0}
+PhaseSpeaks phase.Heading = Unit {0}
+PhaseSpeaks (phase.Asking more left said) = Unit {0}
+PhaseSpeaks (phase.Resettling more left said) = ⊥
+PhaseSpeaks phase.Acking = Unit {0}
+PhaseSpeaks (phase.GivingUp trouble) = Unit {0}
 
 -- it takes fewer steps than this: its words are said, and then each byte and each wait is heard
 abbrev pub span_of : Phase → ℕ

@@ -16,7 +16,7 @@ use Rattle.dmpaft_pump.specs.declared.pump_end.PumpEnd.{PumpEnd}
 use Rattle.dmpaft_pump.specs.declared.pump_end.PumpEnd.TheVariants as pump_end
 use Rattle.dmpaft_pump.specs.declared.outcome.Trouble.{Trouble}
 use Rattle.dmpaft_pump.specs.declared.outcome.Trouble.TheVariants.{Asleep, NoAck, PageLost, PageAhead}
-use Rattle.dmpaft_pump.specs.Batch.{slots, all_slots, rising, newest}
+use Rattle.dmpaft_pump.specs.Batch.{slots_in_page, all_slots, rising, newest}
 use Rattle.dmpaft_pump.specs.Header.{first_of}
 use Rattle.dmpaft_pump.specs.Page.{is_page_for, is_ahead, next_said}
 use Rattle.dmpaft_pump.specs.Command.{dmpaft}
@@ -29,35 +29,35 @@ most_askings = 4
 -- A part of an attempt: what is said, and then heard. `left` is how many more tries or askings there may be, `more`
 -- how many pages come after this one, `place` that of the header, `taken` the pages taken so far, and `b` the byte
 -- that asks.
-pub data Part : Type 0 where
-  Settling : Part
-  Waking : (left : ℕ) → Part
-  Calling : Part
-  Heading : Part
-  Asking : (more : ℕ) → (place : ℕ) → (taken : List (List ℕ)) → (left : ℕ) → (b : ℕ) → Part
-  Resettling : (more : ℕ) → (place : ℕ) → (taken : List (List ℕ)) → (left : ℕ) → (b : ℕ) → Part
-  Acking : (place : ℕ) → (taken : List (List ℕ)) → Part
-  GivingUp : (place : ℕ) → (taken : List (List ℕ)) → (trouble : Trouble) → Part
+pub data AttemptPart : Type 0 where
+  Settling : AttemptPart
+  Waking : (left : ℕ) → AttemptPart
+  Calling : AttemptPart
+  Heading : AttemptPart
+  Asking : (more : ℕ) → (place : ℕ) → (taken : List (List ℕ)) → (left : ℕ) → (b : ℕ) → AttemptPart
+  Resettling : (more : ℕ) → (place : ℕ) → (taken : List (List ℕ)) → (left : ℕ) → (b : ℕ) → AttemptPart
+  Acking : (place : ℕ) → (taken : List (List ℕ)) → AttemptPart
+  GivingUp : (place : ℕ) → (taken : List (List ℕ)) → (trouble : Trouble) → AttemptPart
 
 -- What follows a part: another one; a page whose batch the keeper gets; nothing, since the header has no pages; or
 -- nothing, since the line floods.
 pub data Next : Type 0 where
-  Goes : (part : Part) → Next
+  Goes : (part : AttemptPart) → Next
   Keeps : (more : ℕ) → (place : ℕ) → (taken : List (List ℕ)) → (page : List ℕ) → Next
   Empty : (place : ℕ) → Next
   Floods : (place : ℕ) → (taken : List (List ℕ)) → Next
 
 -- Where an attempt stands: this is to be said, and then those; so many bytes were heard, and so many quiet waits in a
 -- row; a page's batch is with the keeper; it is over; or there came what is not of an attempt.
-pub data State : Type 0 where
-  Saying : (part : Part) → (i : TalkItem) → (others : List TalkItem) → State
-  Hearing : (part : Part) → (bytes : List ℕ) → (run : ℕ) → State
-  Keeping : (more : ℕ) → (place : ℕ) → (taken : List (List ℕ)) → (page : List ℕ) → State
-  Over : (place : ℕ) → (taken : List (List ℕ)) → (end : PumpEnd) → State
-  Astray : State
+pub data AttemptState : Type 0 where
+  Saying : (part : AttemptPart) → (i : TalkItem) → (others : List TalkItem) → AttemptState
+  Hearing : (part : AttemptPart) → (bytes : List ℕ) → (run : ℕ) → AttemptState
+  Keeping : (more : ℕ) → (place : ℕ) → (taken : List (List ℕ)) → (page : List ℕ) → AttemptState
+  Over : (place : ℕ) → (taken : List (List ℕ)) → (end : PumpEnd) → AttemptState
+  Astray : AttemptState
 
 -- what a part says
-abbrev pub words : Option CivilMinute → Part → List ℕ
+abbrev pub words : Option CivilMinute → AttemptPart → List ℕ
 words after Settling = []
 words after (Waking left) = 10 ∷ []
 words after Calling = dmpaft
@@ -68,7 +68,7 @@ words after (Acking place taken) = 6 ∷ []
 words after (GivingUp place taken trouble) = 27 ∷ []
 
 -- so many quiet waits in a row end what a part hears
-abbrev pub quiets : Part → ℕ
+abbrev pub quiets : AttemptPart → ℕ
 quiets Settling = settled_waits
 quiets (Waking left) = answer_waits
 quiets Calling = answer_waits
@@ -79,7 +79,7 @@ quiets (Acking place taken) = answer_waits
 quiets (GivingUp place taken trouble) = answer_waits
 
 -- so many bytes do
-abbrev pub most : Part → ℕ
+abbrev pub most : AttemptPart → ℕ
 most Settling = flood_size
 most (Waking left) = flood_size
 most Calling = 1
@@ -95,15 +95,15 @@ next_place place [] = place
 next_place place (page ∷ more) = 0
 
 -- the greatest stamp after these pages
-abbrev pub newest_of : Option CivilMinute → ℕ → List (List ℕ) → Option CivilMinute
-newest_of after place taken = newest after (all_slots place taken)
+abbrev pub newest_in_pages : Option CivilMinute → ℕ → List (List ℕ) → Option CivilMinute
+newest_in_pages after place taken = newest after (all_slots place taken)
 
 -- the batch of a page after these
 abbrev pub batch_of : Option CivilMinute → ℕ → List (List ℕ) → List ℕ → List (List ℕ)
-batch_of after place taken page = rising (newest_of after place taken) (slots (next_place place taken) page)
+batch_of after place taken page = rising (newest_in_pages after place taken) (slots_in_page (next_place place taken) page)
 
 -- after a page whose batch, if any, is kept: the next one is asked for, or the last one is acknowledged
-abbrev pub onward : ℕ → ℕ → List (List ℕ) → Part
+abbrev pub onward : ℕ → ℕ → List (List ℕ) → AttemptPart
 onward zero place taken = Acking place taken
 onward (suc more) place taken = Asking more place taken (most_askings - 1) 6
 
@@ -135,74 +135,74 @@ asked_again more place taken zero b = Goes (GivingUp place taken (PageLost (leng
 asked_again more place taken (suc left) b = Goes (Resettling more place taken left b)
 
 -- after an asking, by whether the page came, and whether one ahead did
-abbrev pub judged : Option CivilMinute → ℕ → ℕ → List (List ℕ) → ℕ → List ℕ → Bool → Bool → Next
-judged after more place taken left bytes true ahead = batched more place taken bytes (batch_of after place taken bytes)
-judged after more place taken left bytes false true = Goes (GivingUp place taken (PageAhead (length taken)
+abbrev pub page_judged : Option CivilMinute → ℕ → ℕ → List (List ℕ) → ℕ → List ℕ → Bool → Bool → Next
+page_judged after more place taken left bytes true ahead = batched more place taken bytes (batch_of after place taken bytes)
+page_judged after more place taken left bytes false true = Goes (GivingUp place taken (PageAhead (length taken)
     (slice_index bytes 0)))
-judged after more place taken left bytes false false = asked_again more place taken left (next_said
+page_judged after more place taken left bytes false false = asked_again more place taken left (next_said
     (length taken) bytes)
 
 -- what follows a part that heard these bytes, and whether they are as many as it can hear; the last parts hear nothing
-abbrev pub next : Option CivilMinute → Part → Bool → List ℕ → Next
-next after Settling true bytes = Floods 0 []
-next after Settling false bytes = Goes (Waking (wake_tries - 1))
-next after (Waking left) true bytes = Floods 0 []
-next after (Waking left) false bytes = woken left (ends_awake bytes)
-next after Calling full bytes = called bytes (bytes_eq bytes (6 ∷ []))
-next after Heading full bytes = headed (reply_of bytes)
-next after (Asking more place taken left b) full bytes =
-    judged after more place taken left bytes (is_page_for (length taken) bytes) (is_ahead (length taken) bytes)
-next after (Resettling more place taken left b) true bytes = Floods place taken
-next after (Resettling more place taken left b) false bytes = Goes (Asking more place taken left b)
-next after (Acking place taken) full bytes = Goes (Acking place taken)
-next after (GivingUp place taken trouble) full bytes = Goes (GivingUp place taken trouble)
+abbrev pub next_after_part : Option CivilMinute → AttemptPart → Bool → List ℕ → Next
+next_after_part after Settling true bytes = Floods 0 []
+next_after_part after Settling false bytes = Goes (Waking (wake_tries - 1))
+next_after_part after (Waking left) true bytes = Floods 0 []
+next_after_part after (Waking left) false bytes = woken left (ends_awake bytes)
+next_after_part after Calling full bytes = called bytes (bytes_eq bytes (6 ∷ []))
+next_after_part after Heading full bytes = headed (reply_of bytes)
+next_after_part after (Asking more place taken left b) full bytes =
+    page_judged after more place taken left bytes (is_page_for (length taken) bytes) (is_ahead (length taken) bytes)
+next_after_part after (Resettling more place taken left b) true bytes = Floods place taken
+next_after_part after (Resettling more place taken left b) false bytes = Goes (Asking more place taken left b)
+next_after_part after (Acking place taken) full bytes = Goes (Acking place taken)
+next_after_part after (GivingUp place taken trouble) full bytes = Goes (GivingUp place taken trouble)
 
 -- once its words are said a part hears, but the last ones, which end the attempt
-abbrev pub told : Part → State
-told Settling = Hearing Settling [] 0
-told (Waking left) = Hearing (Waking left) [] 0
-told Calling = Hearing Calling [] 0
-told Heading = Hearing Heading [] 0
-told (Asking more place taken left b) = Hearing (Asking more place taken left b) [] 0
-told (Resettling more place taken left b) = Hearing (Resettling more place taken left b) [] 0
-told (Acking place taken) = Over place taken pump_end.Whole
-told (GivingUp place taken trouble) = Over place taken (pump_end.Failed trouble)
+abbrev pub words_said : AttemptPart → AttemptState
+words_said Settling = Hearing Settling [] 0
+words_said (Waking left) = Hearing (Waking left) [] 0
+words_said Calling = Hearing Calling [] 0
+words_said Heading = Hearing Heading [] 0
+words_said (Asking more place taken left b) = Hearing (Asking more place taken left b) [] 0
+words_said (Resettling more place taken left b) = Hearing (Resettling more place taken left b) [] 0
+words_said (Acking place taken) = Over place taken pump_end.Whole
+words_said (GivingUp place taken trouble) = Over place taken (pump_end.Failed trouble)
 
 -- a part of which these items are to be said
-abbrev pub saying : Part → List TalkItem → State
-saying part [] = told part
+abbrev pub saying : AttemptPart → List TalkItem → AttemptState
+saying part [] = words_said part
 saying part (i ∷ others) = Saying part i others
 
 -- a part from its begin
-abbrev pub begun : Option CivilMinute → Part → State
+abbrev pub begun : Option CivilMinute → AttemptPart → AttemptState
 begun after part = saying part (message (words after part))
 
 -- what comes next, from its begin
-abbrev pub at : Option CivilMinute → Next → State
-at after (Goes part) = begun after part
-at after (Keeps more place taken page) = Keeping more place taken page
-at after (Empty place) = Over place [] pump_end.Whole
-at after (Floods place taken) = Over place taken pump_end.Flood
+abbrev pub state_at : Option CivilMinute → Next → AttemptState
+state_at after (Goes part) = begun after part
+state_at after (Keeps more place taken page) = Keeping more place taken page
+state_at after (Empty place) = Over place [] pump_end.Whole
+state_at after (Floods place taken) = Over place taken pump_end.Flood
 
 -- a page's batch was answered so
-abbrev pub answered_by : Option CivilMinute → ℕ → ℕ → List (List ℕ) → Stored → State
+abbrev pub answered_by : Option CivilMinute → ℕ → ℕ → List (List ℕ) → Stored → AttemptState
 answered_by after more place taken stored.Done = begun after (onward more place taken)
 answered_by after more place taken stored.Full = Over place taken pump_end.Full
 answered_by after more place taken stored.Stale = Over place taken pump_end.Stale
 answered_by after more place taken stored.DiskFault = Over place taken pump_end.DiskFault
 
 -- the first of these answers is taken where the keeper has a batch
-abbrev pub given : Option CivilMinute → State → List Stored → State
-given after (Saying part i others) answers = Saying part i others
-given after (Hearing part bytes run) answers = Hearing part bytes run
-given after (Keeping more place taken page) [] = Keeping more place taken page
-given after (Keeping more place taken page) (answer ∷ answers) = answered_by after more place
+abbrev pub answer_taken : Option CivilMinute → AttemptState → List Stored → AttemptState
+answer_taken after (Saying part i others) answers = Saying part i others
+answer_taken after (Hearing part bytes run) answers = Hearing part bytes run
+answer_taken after (Keeping more place taken page) [] = Keeping more place taken page
+answer_taken after (Keeping more place taken page) (answer ∷ answers) = answered_by after more place
     (taken ++ page ∷ []) answer
-given after (Over place taken end) answers = Over place taken end
-given after Astray answers = Astray
+answer_taken after (Over place taken end) answers = Over place taken end
+answer_taken after Astray answers = Astray
 
 -- and these are left of them then
-abbrev pub ungiven : State → List Stored → List Stored
+abbrev pub ungiven : AttemptState → List Stored → List Stored
 ungiven (Saying part i others) answers = answers
 ungiven (Hearing part bytes run) answers = answers
 ungiven (Keeping more place taken page) [] = []
@@ -225,43 +225,43 @@ is_said (Heard b) i = false
 is_said Quiet i = false
 
 -- by whether the item was the one to be said
-abbrev pub said_if : Part → List TalkItem → Bool → State
+abbrev pub said_if : AttemptPart → List TalkItem → Bool → AttemptState
 said_if part others true = saying part others
 said_if part others false = Astray
 
 -- after a byte, by whether it is the last that is heard
-abbrev pub heard_if : Option CivilMinute → Part → List ℕ → Bool → State
-heard_if after part bytes true = at after (next after part true bytes)
+abbrev pub heard_if : Option CivilMinute → AttemptPart → List ℕ → Bool → AttemptState
+heard_if after part bytes true = state_at after (next_after_part after part true bytes)
 heard_if after part bytes false = Hearing part bytes 0
 
 -- after a quiet wait, by whether it is the last one
-abbrev pub waited_if : Option CivilMinute → Part → List ℕ → ℕ → Bool → State
-waited_if after part bytes run true = at after (next after part false bytes)
+abbrev pub waited_if : Option CivilMinute → AttemptPart → List ℕ → ℕ → Bool → AttemptState
+waited_if after part bytes run true = state_at after (next_after_part after part false bytes)
 waited_if after part bytes run false = Hearing part bytes run
 
 -- one item of the talk
-abbrev pub step : Option CivilMinute → State → TalkItem → State
-step after (Saying part i others) j = said_if part others (is_said i j)
-step after (Hearing part bytes run) (Said b ends) = Astray
-step after (Hearing part bytes run) (Heard b) = heard_if after part (bytes ++ b ∷ []) (length
+abbrev pub attempt_step : Option CivilMinute → AttemptState → TalkItem → AttemptState
+attempt_step after (Saying part i others) j = said_if part others (is_said i j)
+attempt_step after (Hearing part bytes run) (Said b ends) = Astray
+attempt_step after (Hearing part bytes run) (Heard b) = heard_if after part (bytes ++ b ∷ []) (length
     (bytes ++ b ∷ []) == most part)
-step after (Hearing part bytes run) Quiet = waited_if after part bytes (run + 1) (run + 1 == quiets part)
-step after (Keeping more place taken page) j = Astray
-step after (Over place taken end) j = Astray
-step after Astray j = Astray
+attempt_step after (Hearing part bytes run) Quiet = waited_if after part bytes (run + 1) (run + 1 == quiets part)
+attempt_step after (Keeping more place taken page) j = Astray
+attempt_step after (Over place taken end) j = Astray
+attempt_step after Astray j = Astray
 
 -- a pump that has no use for answers goes astray by them
-abbrev pub unless_given : List Stored → State → State
+abbrev pub unless_given : List Stored → AttemptState → AttemptState
 unless_given [] pump = pump
 unless_given (answer ∷ answers) pump = Astray
 
 -- where it stands after this talk and these answers of the keeper
-abbrev pub pump_from : Option CivilMinute → State → List TalkItem → List Stored → State
-pump_from after pump [] answers = unless_given (ungiven pump answers) (given after pump answers)
-pump_from after pump (i ∷ talk) answers = pump_from after (step after (given after pump answers) i) talk
+abbrev pub pump_from : Option CivilMinute → AttemptState → List TalkItem → List Stored → AttemptState
+pump_from after pump [] answers = unless_given (ungiven pump answers) (answer_taken after pump answers)
+pump_from after pump (i ∷ talk) answers = pump_from after (attempt_step after (answer_taken after pump answers) i) talk
     (ungiven pump answers)
 
 -- The pump made with this stamp that took the items of a talk and the keeper's answers in order. It is astray where
 -- an item or an answer was none that could come then.
-abbrev pub pump_after : Option CivilMinute → List TalkItem → List Stored → State
+abbrev pub pump_after : Option CivilMinute → List TalkItem → List Stored → AttemptState
 pump_after after talk answers = pump_from after (begun after Settling) talk answers

@@ -25,22 +25,22 @@ paged zero place false = Header zero place
 paged (suc n) place false = placed (suc n) place (nat_lt LAST_PLACE place)
 
 -- by the numbers of a header
-abbrev pub numbered : ℕ → ℕ → Reply
-numbered pages place = paged pages place (nat_lt MOST_PAGES pages)
+abbrev pub numbered_reply : ℕ → ℕ → Reply
+numbered_reply pages place = paged pages place (nat_lt MOST_PAGES pages)
 
 -- by whether the check of the header is good
-abbrev pub checked : List ℕ → Bool → Reply
-checked header true = numbered (pages_in header) (place_in header)
-checked header false = NoHeader HeaderCheck
+abbrev pub checked_reply : List ℕ → Bool → Reply
+checked_reply header true = numbered_reply (pages_in header) (place_in header)
+checked_reply header false = NoHeader HeaderCheck
 
 -- by whether 0x06 came first
-abbrev pub replied : List ℕ → Bool → Reply
-replied bytes true = checked (drop 1 bytes) (is_good (drop 1 bytes))
-replied bytes false = NoHeader (NoHeaderAck (slice_index bytes 0))
+abbrev pub acknowledged_reply : List ℕ → Bool → Reply
+acknowledged_reply bytes true = checked_reply (drop 1 bytes) (is_good (drop 1 bytes))
+acknowledged_reply bytes false = NoHeader (NoHeaderAck (slice_index bytes 0))
 
 -- by whether all seven bytes came
 abbrev pub sized : List ℕ → Bool → Reply
-sized bytes true = replied bytes (slice_index bytes 0 == 6)
+sized bytes true = acknowledged_reply bytes (slice_index bytes 0 == 6)
 sized bytes false = NoHeader (ShortHeader (length bytes))
 
 -- what an answer of at most seven bytes is read as

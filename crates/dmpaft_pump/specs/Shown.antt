@@ -17,11 +17,11 @@ use Rattle.dmpaft_pump.specs.declared.pump.Pump.{Pump}
 use Rattle.dmpaft_pump.specs.declared.action.Action.{Action}
 use Rattle.dmpaft_pump.specs.declared.action.Action.TheVariants as action
 use Rattle.dmpaft_pump.specs.Keeper.{Handed, kept_all, last_kept}
-use Rattle.dmpaft_pump.specs.Batch.{slots, newest, skipped, batches, answered, all_skipped, EndsGiving}
-use Rattle.dmpaft_pump.specs.Phases.{part_of, quiets_of, most_of, words_of, span_of, rest_of, settles, Fits, Speaks}
-use Rattle.dmpaft_pump.specs.Phases.{Hears, page_steps}
+use Rattle.dmpaft_pump.specs.Batch.{slots_in_page, newest, skipped, batches, answered_batches, all_skipped, EndsGiving}
+use Rattle.dmpaft_pump.specs.Phases.{part_of_phase, quiets_of, most_bytes_of, words_of_phase, span_of, rest_of, phase_settles, PhaseFits, PhaseSpeaks}
+use Rattle.dmpaft_pump.specs.Phases.{PhaseHears, page_steps}
 use Rattle.dmpaft_pump.specs.Pump.{words as words_in}
-use Rattle.dmpaft_pump.specs.Pump.{Part, State, Hearing, Keeping, Over, begun, most, newest_of, next_place, batch_of}
+use Rattle.dmpaft_pump.specs.Pump.{AttemptPart, AttemptState, Hearing, Keeping, Over, begun, most, newest_in_pages, next_place, batch_of}
 
 -- nothing was counted
 abbrev pub no_tally : Tally
@@ -41,25 +41,25 @@ pub record Tallied (start : Tally) (after : Option CivilMinute) (place : ℕ) (t
   pub last : pump.tally.last ≡ last_kept steps start.last
 
 -- And what is needed for the next page.
-pub record Counts (start : Tally) (after : Option CivilMinute) (place : ℕ) (taken : List (List ℕ))
+pub record PumpCounts (start : Tally) (after : Option CivilMinute) (place : ℕ) (taken : List (List ℕ))
     (steps : Handed) (pump : Pump) : Type 0 where
   pub tallied : Tallied start after place taken steps pump
   pub number : pump.number ≡ length taken
   pub from : pump.from ≡ next_place place taken
   pub low : pump.from ≤ 4
-  pub newest : pump.newest ≡ newest_of after place taken
+  pub newest : pump.newest ≡ newest_in_pages after place taken
   pub few : start.pages < 2 ^ 31
   pub rare : start.skipped < 2 ^ 31
 
 -- The records of a page were gathered, and it is not counted yet.
-pub record Gathered (start : Tally) (after : Option CivilMinute) (place : ℕ) (taken : List (List ℕ)) (page : List ℕ)
+pub record PageIsGathered (start : Tally) (after : Option CivilMinute) (place : ℕ) (taken : List (List ℕ)) (page : List ℕ)
     (skips : ℕ) (pump : Pump) : Type 0 where
   pub tallied : Tallied start after place taken (all_kept after place taken) pump
   pub number : pump.number ≡ length taken
-  pub newest : pump.newest ≡ newest (newest_of after place taken) (slots (next_place place taken) page)
+  pub newest : pump.newest ≡ newest (newest_in_pages after place taken) (slots_in_page (next_place place taken) page)
   pub few : start.pages < 2 ^ 31
   pub rare : start.skipped < 2 ^ 31
-  pub missed : skips ≡ skipped (slots (next_place place taken) page)
+  pub missed : skips ≡ skipped (slots_in_page (next_place place taken) page)
   pub batch : pump.batch ≡ batch_of after place taken page
 
 -- of the bytes heard the last two, or all
@@ -73,82 +73,82 @@ IsSized true n most = n ≡ most
 IsSized false n most = n < most
 
 -- A part has heard these bytes to its end, whether as many as it can.
-pub record Ready (start : Tally) (after : Option CivilMinute) (place : ℕ) (taken : List (List ℕ)) (phase : Phase)
+pub record PartIsReady (start : Tally) (after : Option CivilMinute) (place : ℕ) (taken : List (List ℕ)) (phase : Phase)
     (full : Bool) (bytes : List ℕ) (pump : Pump) : Type 0 where
-  pub counts : Counts start after place taken (all_kept after place taken) pump
-  pub fits : Fits phase place taken
-  pub hears : Hears phase
+  pub counts : PumpCounts start after place taken (all_kept after place taken) pump
+  pub fits : PhaseFits phase place taken
+  pub hears : PhaseHears phase
   pub count : pump.count ≡ length bytes
-  pub sized : IsSized full (length bytes) (most_of phase)
-  pub heard : HasHeard (settles phase) bytes pump
+  pub sized : IsSized full (length bytes) (most_bytes_of phase)
+  pub heard : HasHeard (phase_settles phase) bytes pump
 
 -- the answers by which an attempt ends so
-abbrev pub answer_of : PumpEnd → Stored
-answer_of pump_end.Whole = stored.Done
-answer_of (pump_end.Failed trouble) = stored.Done
-answer_of pump_end.Full = stored.Full
-answer_of pump_end.Stale = stored.Stale
-answer_of pump_end.DiskFault = stored.DiskFault
-answer_of pump_end.Flood = stored.Done
+abbrev pub pump_answer : PumpEnd → Stored
+pump_answer pump_end.Whole = stored.Done
+pump_answer (pump_end.Failed trouble) = stored.Done
+pump_answer pump_end.Full = stored.Full
+pump_answer pump_end.Stale = stored.Stale
+pump_answer pump_end.DiskFault = stored.DiskFault
+pump_answer pump_end.Flood = stored.Done
 
 -- The words of a part are to be said.
-pub record IsSaying (start : Tally) (after : Option CivilMinute) (phase : Phase) (s : State)
+pub record IsSaying (start : Tally) (after : Option CivilMinute) (phase : Phase) (s : AttemptState)
     (pump : Pump) : Type 0 where
   pub place : ℕ
   pub taken : List (List ℕ)
-  pub is : s ≡ begun after (part_of place taken phase)
-  pub counts : Counts start after place taken (all_kept after place taken) pump
-  pub fits : Fits phase place taken
-  pub speaks : Speaks phase
+  pub is : s ≡ begun after (part_of_phase place taken phase)
+  pub counts : PumpCounts start after place taken (all_kept after place taken) pump
+  pub fits : PhaseFits phase place taken
+  pub speaks : PhaseSpeaks phase
   pub count : pump.count ≡ 0
   pub run : pump.run ≡ 0
   pub tail : pump.tail ≡ 0 ∷ 0 ∷ []
 
 -- A part hears.
-pub record IsHearing (start : Tally) (after : Option CivilMinute) (phase : Phase) (s : State)
+pub record IsHearing (start : Tally) (after : Option CivilMinute) (phase : Phase) (s : AttemptState)
     (pump : Pump) : Type 0 where
   pub place : ℕ
   pub taken : List (List ℕ)
   pub bytes : List ℕ
-  pub is : s ≡ Hearing (part_of place taken phase) bytes pump.run
+  pub is : s ≡ Hearing (part_of_phase place taken phase) bytes pump.run
   pub run : pump.run < quiets_of phase
-  pub ready : Ready start after place taken phase false bytes pump
+  pub ready : PartIsReady start after place taken phase false bytes pump
 
 -- The keeper has a batch.
-pub record IsKeeping (start : Tally) (after : Option CivilMinute) (more : ℕ) (s : State) (pump : Pump) : Type 0 where
+pub record IsKeeping (start : Tally) (after : Option CivilMinute) (more : ℕ) (s : AttemptState) (pump : Pump) : Type 0 where
   pub place : ℕ
   pub taken : List (List ℕ)
   pub page : List ℕ
   pub is : s ≡ Keeping more place taken page
-  pub counts : Counts start after place (taken ++ page ∷ []) (all_kept after place taken) pump
+  pub counts : PumpCounts start after place (taken ++ page ∷ []) (all_kept after place taken) pump
   pub batch : pump.batch ≡ batch_of after place taken page
   pub some : batch_of after place taken page ≢ []
   pub fits : length taken + more < most_pages
 
 -- The attempt is over.
-pub record IsOver (start : Tally) (after : Option CivilMinute) (end : PumpEnd) (s : State) (pump : Pump) : Type 0 where
+pub record AttemptIsOver (start : Tally) (after : Option CivilMinute) (end : PumpEnd) (s : AttemptState) (pump : Pump) : Type 0 where
   pub place : ℕ
   pub taken : List (List ℕ)
   pub is : s ≡ Over place taken end
-  pub tallied : Tallied start after place taken (answered (answer_of end) (batches after place taken)) pump
+  pub tallied : Tallied start after place taken (answered_batches (pump_answer end) (batches after place taken)) pump
   -- a batch that was refused is that of the last page
-  pub gives : answer_of end ≢ stored.Done → EndsGiving after place taken
+  pub gives : pump_answer end ≢ stored.Done → EndsGiving after place taken
 
 -- the same, by the stage of the pump
-abbrev pub ShowsAt : Stage → Tally → Option CivilMinute → State → Pump → Type 0
+abbrev pub ShowsAt : Stage → Tally → Option CivilMinute → AttemptState → Pump → Type 0
 ShowsAt (stage.Saying phase) start after s pump = IsSaying start after phase s pump
 ShowsAt (stage.Hearing phase) start after s pump = IsHearing start after phase s pump
 ShowsAt (stage.Keeping more) start after s pump = IsKeeping start after more s pump
-ShowsAt (stage.Ended end) start after s pump = IsOver start after end s pump
+ShowsAt (stage.Ended end) start after s pump = AttemptIsOver start after end s pump
 
 -- A pump that asks after this stamp, and whose tally goes on from this one, is where the attempt stands.
-abbrev pub Shows : Tally → Option CivilMinute → State → Pump → Type 0
-Shows start after s pump = ShowsAt pump.stage start after s pump
+abbrev pub PumpShows : Tally → Option CivilMinute → AttemptState → Pump → Type 0
+PumpShows start after s pump = ShowsAt pump.stage start after s pump
 
 -- so many bytes can be heard at a stage after so many
 abbrev pub room_at : Stage → ℕ → ℕ
 room_at (stage.Saying phase) count = 0
-room_at (stage.Hearing phase) count = most_of phase - count
+room_at (stage.Hearing phase) count = most_bytes_of phase - count
 room_at (stage.Keeping more) count = 0
 room_at (stage.Ended end) count = 0
 
@@ -158,7 +158,7 @@ room_of pump = room_at pump.stage pump.count
 
 -- what it is to say
 abbrev pub said_at : Option CivilMinute → Stage → List ℕ
-said_at after (stage.Saying phase) = words_of after phase
+said_at after (stage.Saying phase) = words_of_phase after phase
 said_at after (stage.Hearing phase) = []
 said_at after (stage.Keeping more) = []
 said_at after (stage.Ended end) = []
@@ -193,26 +193,26 @@ Allows after pump (action.Keep rows) = (keeps_at pump.stage ≡ true) × (rows.n
 Allows after pump (action.Ended end) = pump.stage ≡ stage.Ended end
 
 -- An action is that of where the attempt stands.
-abbrev pub Tells : Option CivilMinute → State → Action → Type 0
-Tells after s (action.Say words) = (part : Part) × (s ≡ begun after part) × (words.items ≡ words_in after part)
-Tells after s (action.Listen n) = (part : Part) × (bytes : List ℕ) × (run : ℕ) × (s ≡ Hearing part bytes run)
+abbrev pub PumpTells : Option CivilMinute → AttemptState → Action → Type 0
+PumpTells after s (action.Say words) = (part : AttemptPart) × (s ≡ begun after part) × (words.items ≡ words_in after part)
+PumpTells after s (action.Listen n) = (part : AttemptPart) × (bytes : List ℕ) × (run : ℕ) × (s ≡ Hearing part bytes run)
     × (length bytes + n ≤ most part)
-Tells after s (action.Keep rows) = (more : ℕ) × (place : ℕ) × (taken : List (List ℕ)) × (page : List ℕ)
+PumpTells after s (action.Keep rows) = (more : ℕ) × (place : ℕ) × (taken : List (List ℕ)) × (page : List ℕ)
     × (s ≡ Keeping more place taken page) × (rows.now ≡ batch_of after place taken page)
     × (batch_of after place taken page ≢ [])
-Tells after s (action.Ended end) = (place : ℕ) × (taken : List (List ℕ)) × (s ≡ Over place taken end)
+PumpTells after s (action.Ended end) = (place : ℕ) × (taken : List (List ℕ)) × (s ≡ Over place taken end)
 
 -- what is left of the part under way, and then of those that may follow it
 abbrev pub left_at : Stage → ℕ → ℕ → ℕ
 left_at (stage.Saying phase) count run = rest_of phase + span_of phase
-left_at (stage.Hearing phase) count run = rest_of phase + 7 * (most_of phase - count) + (quiets_of phase - run)
+left_at (stage.Hearing phase) count run = rest_of phase + 7 * (most_bytes_of phase - count) + (quiets_of phase - run)
 left_at (stage.Keeping more) count run = page_steps * more + 2001
 left_at (stage.Ended end) count run = 0
 
 -- so many steps are left at most
-abbrev pub left_of : Pump → ℕ
-left_of pump = left_at pump.stage pump.count pump.run
+abbrev pub steps_left : Pump → ℕ
+steps_left pump = left_at pump.stage pump.count pump.run
 
 -- it stands where some attempt does
-abbrev pub Stands : Pump → Type 0
-Stands pump = (start : Tally) × (after : Option CivilMinute) × (s : State) × Shows start after s pump
+abbrev pub PumpStands : Pump → Type 0
+PumpStands pump = (start : Tally) × (after : Option CivilMinute) × (s : AttemptState) × PumpShows start after s pump

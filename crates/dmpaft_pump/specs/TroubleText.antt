@@ -6,14 +6,14 @@ use Rattle.dmpaft_pump.specs.declared.outcome.Trouble.TheVariants.{Asleep, NoAck
 use Rattle.dmpaft_pump.specs.declared.outcome.Trouble.TheVariants.{HeaderCheck, HeaderNumbers, PageLost, PageAhead}
 
 -- a byte as a number, or `-` where none came
-abbrev pub byte_text : Option ℕ → List ℕ
-byte_text (Some byte) = number_text byte
-byte_text None = codes "-"
+abbrev pub heard_byte_text : Option ℕ → List ℕ
+heard_byte_text (Some byte) = number_text byte
+heard_byte_text None = codes "-"
 
 -- the words of a trouble, with no line feed
 abbrev pub trouble_text : Trouble → List ℕ
 trouble_text Asleep = codes "asleep"
-trouble_text (NoAck byte) = codes "no ack " ++ byte_text byte
+trouble_text (NoAck byte) = codes "no ack " ++ heard_byte_text byte
 trouble_text (ShortHeader count) = codes "short header " ++ number_text count
 trouble_text (NoHeaderAck byte) = codes "no header ack " ++ number_text byte
 trouble_text HeaderCheck = codes "bad header check"

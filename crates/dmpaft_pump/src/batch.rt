@@ -1,7 +1,7 @@
 ghost use Rattle.std.specs.Prelude.{◌≡◌, ◌+◌, ◌<◌, ◌≤◌, ◌==◌, [], ◌∷◌, ◌++◌, length};
 ghost use Rattle.station_base.specs.LastStamp.{last_stamp};
 ghost use Rattle.archive_record.specs.Reading.{stamp_in};
-ghost use Rattle.dmpaft_pump.specs.Batch.{rising, newest, skipped, slots};
+ghost use Rattle.dmpaft_pump.specs.Batch.{rising, newest, skipped, slots_in_page};
 
 use crate::slot::{SlotRead, is_after, read_slot};
 use archive_record::Rec52;
@@ -73,10 +73,10 @@ impl Batch {
 pub fn gather(page: &Page<'_>, from: u8, last: &mut Option<Stamp>, batch: &mut Batch) -> u32
     requires from { from ≤ 5 }
     requires empty { batch.old ≡ [] }
-    ensures rows { batch.new ≡ rising last.old (slots from page.now) }
+    ensures rows { batch.new ≡ rising last.old (slots_in_page from page.now) }
     ensures last { last.new ≡ last_stamp stamp_in batch.new last.old }
-    ensures newest { last.new ≡ newest last.old (slots from page.now) }
-    ensures skipped { result ≡ skipped (slots from page.now) }
+    ensures newest { last.new ≡ newest last.old (slots_in_page from page.now) }
+    ensures skipped { result ≡ skipped (slots_in_page from page.now) }
     ensures few { result ≤ 5 }
 {
     let mut skipped = 0;

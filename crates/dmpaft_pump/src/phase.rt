@@ -1,5 +1,5 @@
 ghost use Rattle.std.specs.Prelude.{◌≡◌};
-ghost use Rattle.dmpaft_pump.specs.Phases.{quiets_of, most_of, settles};
+ghost use Rattle.dmpaft_pump.specs.Phases.{quiets_of, most_bytes_of, phase_settles};
 
 use crate::header::ANSWER_SIZE;
 use crate::outcome::Trouble;
@@ -41,7 +41,7 @@ impl Phase {
 
     /// So many bytes end it.
     pub fn most(&self) -> usize
-        ensures { result ≡ most_of self.now }
+        ensures { result ≡ most_bytes_of self.now }
     {
         match self {
             Phase::Settling | Phase::Resettling { .. } | Phase::Waking { .. } => FLOOD,
@@ -53,7 +53,7 @@ impl Phase {
 
     /// Whether only the last bytes of what it hears matter.
     pub fn settles(&self) -> bool
-        ensures { result ≡ settles self.now }
+        ensures { result ≡ phase_settles self.now }
     {
         matches!(
             self,

@@ -61,7 +61,7 @@ pub struct Pump {
 impl Pump {
     ghost use Rattle.dmpaft_pump.specs.declared.phase.Phase.{Phase};
     ghost use Rattle.causes.specs.declared.stored.Stored.TheVariants as stored;
-    ghost use Rattle.dmpaft_pump.specs.Pump.{State, Over, headed, batched, Settling, begun, at, next, onward};
+    ghost use Rattle.dmpaft_pump.specs.Pump.{AttemptState, Over, headed, batched, Settling, begun, state_at, next_after_part, onward};
     ghost use Rattle.dmpaft_pump.specs.Pump.{asked_again, pump_from, batch_of};
     ghost use Rattle.dmpaft_pump.specs.declared.phase.Phase.TheVariants as phase;
     ghost use Rattle.dmpaft_pump.specs.Pump as part;
@@ -69,16 +69,16 @@ impl Pump {
     ghost use Rattle.vantage_frames.specs.Header.{CanBegin};
     ghost use Rattle.dmpaft_pump.specs.declared.outcome.Tally.{Tally};
     ghost use Rattle.dmpaft_pump.specs.declared.pump_end.PumpEnd.{PumpEnd};
-    ghost use Rattle.dmpaft_pump.specs.Phases.{part_of, most_of, words_of, span_of, rest_of, Fits, Speaks, Hears};
+    ghost use Rattle.dmpaft_pump.specs.Phases.{part_of_phase, most_bytes_of, words_of_phase, span_of, rest_of, PhaseFits, PhaseSpeaks, PhaseHears};
     ghost use Rattle.dmpaft_pump.specs.Phases.{page_steps};
-    ghost use Rattle.dmpaft_pump.specs.Shown.{Shows, Counts, Ready, Tallied, all_kept, room_of, no_tally};
-    ghost use Rattle.dmpaft_pump.specs.Shown.{answer_of, Gathered, IsSized, Allows, Tells, left_of, said_at};
+    ghost use Rattle.dmpaft_pump.specs.Shown.{PumpShows, PumpCounts, PartIsReady, Tallied, all_kept, room_of, no_tally};
+    ghost use Rattle.dmpaft_pump.specs.Shown.{pump_answer, PageIsGathered, IsSized, Allows, PumpTells, steps_left, said_at};
     ghost use Rattle.dmpaft_pump.specs.Shown.{keeps_at, end_at};
 
     /// A pump that takes what comes after a stamp, or all that there is.
     pub fn new(after: Option<Stamp>) -> Pump
-        ensures shows { Shows no_tally after (begun after Settling) result }
-        ensures left { left_of result < 2 ^ 30 }
+        ensures shows { PumpShows no_tally after (begun after Settling) result }
+        ensures left { steps_left result < 2 ^ 30 }
     {
         Pump::resume(after, Tally::default())
     }
@@ -87,8 +87,8 @@ impl Pump {
     pub fn resume(after: Option<Stamp>, tally: Tally) -> Pump
         requires pages { tally.pages < 2 ^ 31 }
         requires skipped { tally.skipped < 2 ^ 31 }
-        ensures shows { Shows tally after (begun after Settling) result }
-        ensures left { left_of result < 2 ^ 30 }
+        ensures shows { PumpShows tally after (begun after Settling) result }
+        ensures left { steps_left result < 2 ^ 30 }
     {
         let newest = after;
         Pump {
@@ -126,10 +126,12 @@ impl Pump {
 
     /// What is to be done next.
     pub fn action(&self) -> Action<'_>
-        ensures allows { (start : Tally) (after : Option CivilMinute) (s : State) → Shows start after s self.now
+        ensures allows { (start : Tally) (after : Option CivilMinute) (s : AttemptState)
+            → PumpShows start after s self.now
             → Allows after self.now result }
-        ensures tells { (start : Tally) (after : Option CivilMinute) (s : State) → Shows start after s self.now
-            → Tells after s result }
+        ensures tells { (start : Tally) (after : Option CivilMinute) (s : AttemptState)
+            → PumpShows start after s self.now
+            → PumpTells after s result }
     {
         match self.stage {
             Stage::Saying(phase) => Action::Say(self.words(phase)),
@@ -142,8 +144,8 @@ impl Pump {
     // The words of a part.
     #[tactic(auto, unfolding(crate::specs::Command::dmpaft))]
     fn words(&self, phase: Phase) -> ArrayVec<u8, LONGEST_MESSAGE>
-        ensures words { result.items ≡ words_of self.now.after phase }
-        ensures some { Speaks phase → 0 < length result.items }
+        ensures words { result.items ≡ words_of_phase self.now.after phase }
+        ensures some { PhaseSpeaks phase → 0 < length result.items }
     {
         match phase {
             Phase::Settling | Phase::Resettling { .. } => message_of(&[]),
@@ -158,8 +160,8 @@ impl Pump {
 
     // So many bytes more a part can hear at once.
     fn room(&self, phase: Phase) -> u16
-        ensures few { result ≤ most_of phase - self.now.count }
-        ensures some { self.now.count < most_of phase → 1 ≤ result }
+        ensures few { result ≤ most_bytes_of phase - self.now.count }
+        ensures some { self.now.count < most_bytes_of phase → 1 ≤ result }
         ensures piece { result ≤ page_size }
     {
         phase.most().saturating_sub(self.count).min(PIECE) as u16
@@ -167,10 +169,12 @@ impl Pump {
 
     /// The bytes of `Say` were said as one message. Where nothing was to be said, nothing changes.
     pub fn said(&mut self)
-        ensures shows { (start : Tally) (after : Option CivilMinute) (s : State) → Shows start after s self.old
-            → Shows start after (pump_from after s (message (said_at after self.old.stage)) []) self.new }
-        ensures left { (start : Tally) (after : Option CivilMinute) (s : State) → Shows start after s self.old
-            → said_at after self.old.stage ≢ [] → left_of self.new < left_of self.old }
+        ensures shows { (start : Tally) (after : Option CivilMinute) (s : AttemptState)
+            → PumpShows start after s self.old
+            → PumpShows start after (pump_from after s (message (said_at after self.old.stage)) []) self.new }
+        ensures left { (start : Tally) (after : Option CivilMinute) (s : AttemptState)
+            → PumpShows start after s self.old
+            → said_at after self.old.stage ≢ [] → steps_left self.new < steps_left self.old }
     {
         let Stage::Saying(phase) = self.stage else {
             return;
@@ -182,10 +186,12 @@ impl Pump {
     pub fn heard(&mut self, bytes: &[u8])
         requires some { 1 ≤ length bytes.now }
         requires room { length bytes.now ≤ room_of self.old }
-        ensures shows { (start : Tally) (after : Option CivilMinute) (s : State) → Shows start after s self.old
-            → Shows start after (pump_from after s (map Heard bytes.now) []) self.new }
-        ensures left { (start : Tally) (after : Option CivilMinute) (s : State) → Shows start after s self.old
-            → left_of self.new < left_of self.old }
+        ensures shows { (start : Tally) (after : Option CivilMinute) (s : AttemptState)
+            → PumpShows start after s self.old
+            → PumpShows start after (pump_from after s (map Heard bytes.now) []) self.new }
+        ensures left { (start : Tally) (after : Option CivilMinute) (s : AttemptState)
+            → PumpShows start after s self.old
+            → steps_left self.new < steps_left self.old }
     {
         let Stage::Hearing(phase) = self.stage else {
             return;
@@ -199,12 +205,12 @@ impl Pump {
     // Bytes are noted that a part heard.
     fn note(&mut self, phase: Phase, bytes: &[u8])
         requires some { 1 ≤ length bytes.now }
-        requires room { self.old.count + length bytes.now ≤ most_of phase }
+        requires room { self.old.count + length bytes.now ≤ most_bytes_of phase }
         ensures ready { (start : Tally) (after : Option CivilMinute) (place : ℕ) (taken : List (List ℕ))
             (before : List ℕ) (full : Bool)
-            → Ready start after place taken phase false before self.old
-            → IsSized full (length (before ++ bytes.now)) (most_of phase)
-            → Ready start after place taken phase full (before ++ bytes.now) self.new }
+            → PartIsReady start after place taken phase false before self.old
+            → IsSized full (length (before ++ bytes.now)) (most_bytes_of phase)
+            → PartIsReady start after place taken phase full (before ++ bytes.now) self.new }
         ensures count { self.new.count ≡ self.old.count + length bytes.now }
         ensures run { self.new.run ≡ 0 }
         ensures stage { self.new.stage ≡ self.old.stage }
@@ -221,10 +227,12 @@ impl Pump {
     /// One wait passed with nothing heard, where the action is `Listen`.
     pub fn quiet(&mut self)
         requires { 0 < room_of self.old }
-        ensures shows { (start : Tally) (after : Option CivilMinute) (s : State) → Shows start after s self.old
-            → Shows start after (pump_from after s (Quiet ∷ []) []) self.new }
-        ensures left { (start : Tally) (after : Option CivilMinute) (s : State) → Shows start after s self.old
-            → left_of self.new < left_of self.old }
+        ensures shows { (start : Tally) (after : Option CivilMinute) (s : AttemptState)
+            → PumpShows start after s self.old
+            → PumpShows start after (pump_from after s (Quiet ∷ []) []) self.new }
+        ensures left { (start : Tally) (after : Option CivilMinute) (s : AttemptState)
+            → PumpShows start after s self.old
+            → steps_left self.new < steps_left self.old }
     {
         let Stage::Hearing(phase) = self.stage else {
             return;
@@ -238,9 +246,10 @@ impl Pump {
     /// The keeper answered so to the records of `Keep`.
     pub fn kept(&mut self, answer: Kept)
         requires { keeps_at self.old.stage ≡ true }
-        ensures shows { (start : Tally) (after : Option CivilMinute) (s : State) → Shows start after s self.old
-            → Shows start after (pump_from after s [] (answer ∷ [])) self.new }
-        ensures left { left_of self.new < left_of self.old }
+        ensures shows { (start : Tally) (after : Option CivilMinute) (s : AttemptState)
+            → PumpShows start after s self.old
+            → PumpShows start after (pump_from after s [] (answer ∷ [])) self.new }
+        ensures left { steps_left self.new < steps_left self.old }
     {
         let Stage::Keeping { more } = self.stage else {
             return;
@@ -259,9 +268,9 @@ impl Pump {
     // A part begins.
     fn begin(&mut self, phase: Phase)
         ensures shows { (start : Tally) (after : Option CivilMinute) (place : ℕ) (taken : List (List ℕ))
-            → Counts start after place taken (all_kept after place taken) self.old → Fits phase place taken
-            → Shows start after (begun after (part_of place taken phase)) self.new }
-        ensures left { left_of self.new ≤ rest_of phase + span_of phase }
+            → PumpCounts start after place taken (all_kept after place taken) self.old → PhaseFits phase place taken
+            → PumpShows start after (begun after (part_of_phase place taken phase)) self.new }
+        ensures left { steps_left self.new ≤ rest_of phase + span_of phase }
     {
         self.count = 0;
         self.run = 0;
@@ -274,11 +283,11 @@ impl Pump {
 
     // The attempt is over.
     fn end(&mut self, end: PumpEnd)
-        requires { answer_of end ≡ stored.Done }
+        requires { pump_answer end ≡ stored.Done }
         ensures shows { (start : Tally) (after : Option CivilMinute) (place : ℕ) (taken : List (List ℕ))
             → Tallied start after place taken (all_kept after place taken) self.old
-            → Shows start after (Over place taken end) self.new }
-        ensures left { left_of self.new ≡ 0 }
+            → PumpShows start after (Over place taken end) self.new }
+        ensures left { steps_left self.new ≡ 0 }
     {
         self.stage = Stage::Ended(end);
     }
@@ -287,9 +296,10 @@ impl Pump {
     fn advance(&mut self, phase: Phase, full: bool)
         ensures shows { (start : Tally) (after : Option CivilMinute) (place : ℕ) (taken : List (List ℕ))
             (bytes : List ℕ)
-            → Ready start after place taken phase full bytes self.old
-            → Shows start after (at after (next after (part_of place taken phase) full bytes)) self.new }
-        ensures left { Hears phase → left_of self.new ≤ rest_of phase }
+            → PartIsReady start after place taken phase full bytes self.old
+            → PumpShows start after
+            (state_at after (next_after_part after (part_of_phase place taken phase) full bytes)) self.new }
+        ensures left { PhaseHears phase → steps_left self.new ≤ rest_of phase }
     {
         match phase {
             Phase::Settling if full => self.end(PumpEnd::Flood),
@@ -313,9 +323,9 @@ impl Pump {
     // A line feed was answered.
     fn after_wake(&mut self, left: u8)
         ensures shows { (start : Tally) (after : Option CivilMinute) (bytes : List ℕ)
-            → Ready start after 0 [] (phase.Waking left) false bytes self.old
-            → Shows start after (at after (next after (part.Waking left) false bytes)) self.new }
-        ensures left { left_of self.new ≤ rest_of (phase.Waking left) }
+            → PartIsReady start after 0 [] (phase.Waking left) false bytes self.old
+            → PumpShows start after (state_at after (next_after_part after (part.Waking left) false bytes)) self.new }
+        ensures left { steps_left self.new ≤ rest_of (phase.Waking left) }
     {
         if self.tail == AWAKE {
             self.begin(Phase::Calling);
@@ -329,9 +339,9 @@ impl Pump {
     // `DMPAFT` was answered.
     fn after_call(&mut self, full: bool)
         ensures shows { (start : Tally) (after : Option CivilMinute) (bytes : List ℕ)
-            → Ready start after 0 [] phase.Calling full bytes self.old
-            → Shows start after (at after (next after part.Calling full bytes)) self.new }
-        ensures left { left_of self.new ≤ rest_of phase.Calling }
+            → PartIsReady start after 0 [] phase.Calling full bytes self.old
+            → PumpShows start after (state_at after (next_after_part after part.Calling full bytes)) self.new }
+        ensures left { steps_left self.new ≤ rest_of phase.Calling }
     {
         let byte = self.answer[0];
         if !full {
@@ -346,9 +356,9 @@ impl Pump {
     // The stamp frame was answered.
     fn after_header(&mut self, full: bool)
         ensures shows { (start : Tally) (after : Option CivilMinute) (bytes : List ℕ)
-            → Ready start after 0 [] phase.Heading full bytes self.old
-            → Shows start after (at after (next after part.Heading full bytes)) self.new }
-        ensures left { left_of self.new ≤ rest_of phase.Heading }
+            → PartIsReady start after 0 [] phase.Heading full bytes self.old
+            → PumpShows start after (state_at after (next_after_part after part.Heading full bytes)) self.new }
+        ensures left { steps_left self.new ≤ rest_of phase.Heading }
     {
         if !full {
             self.begin(Phase::GivingUp(Trouble::ShortHeader(self.count.min(6) as u8)));
@@ -364,9 +374,9 @@ impl Pump {
     // A header of so many pages came, the first of which is read from a place on.
     fn start(&mut self, pages: u16, place: u16)
         ensures shows { (start : Tally) (after : Option CivilMinute)
-            → Counts start after 0 [] (all_kept after 0 []) self.old → CanBegin pages place
-            → Shows start after (at after (headed (Header pages place))) self.new }
-        ensures left { CanBegin pages place → left_of self.new ≤ rest_of phase.Heading }
+            → PumpCounts start after 0 [] (all_kept after 0 []) self.old → CanBegin pages place
+            → PumpShows start after (state_at after (headed (Header pages place))) self.new }
+        ensures left { CanBegin pages place → steps_left self.new ≤ rest_of phase.Heading }
     {
         if pages == 0 {
             self.end(PumpEnd::Whole);
@@ -384,9 +394,10 @@ impl Pump {
     fn after_page(&mut self, more: u16, left: u8)
         ensures shows { (start : Tally) (after : Option CivilMinute) (place : ℕ) (taken : List (List ℕ))
             (bytes : List ℕ) (b : ℕ)
-            → Ready start after place taken (phase.Asking more left b) true bytes self.old
-            → Shows start after (at after (next after (part.Asking more place taken left b) true bytes)) self.new }
-        ensures left { left_of self.new ≤ page_steps * more + 502000 * left + 2001 }
+            → PartIsReady start after place taken (phase.Asking more left b) true bytes self.old
+            → PumpShows start after
+            (state_at after (next_after_part after (part.Asking more place taken left b) true bytes)) self.new }
+        ensures left { steps_left self.new ≤ page_steps * more + 502000 * left + 2001 }
     {
         match judge_page(self.number, &self.answer) {
             Judged::This(page) => {
@@ -408,8 +419,8 @@ impl Pump {
     fn count_page(&mut self, skipped: u32)
         ensures counts { (start : Tally) (after : Option CivilMinute) (place : ℕ) (taken : List (List ℕ))
             (page : List ℕ)
-            → Gathered start after place taken page skipped self.old → length taken < most_pages
-            → Counts start after place (taken ++ page ∷ []) (all_kept after place taken) self.new }
+            → PageIsGathered start after place taken page skipped self.old → length taken < most_pages
+            → PumpCounts start after place (taken ++ page ∷ []) (all_kept after place taken) self.new }
         ensures batch { self.new.batch ≡ self.old.batch }
     {
         self.tally.skipped = self.tally.skipped.saturating_add(skipped);
@@ -421,10 +432,11 @@ impl Pump {
     // The keeper gets the batch of a page, if there is one.
     fn hand(&mut self, more: u16)
         ensures shows { (start : Tally) (after : Option CivilMinute) (place : ℕ) (taken : List (List ℕ)) (page : List ℕ)
-            → Counts start after place (taken ++ page ∷ []) (all_kept after place taken) self.old
+            → PumpCounts start after place (taken ++ page ∷ []) (all_kept after place taken) self.old
             → self.old.batch ≡ batch_of after place taken page → length taken + more < most_pages
-            → Shows start after (at after (batched more place taken page (batch_of after place taken page))) self.new }
-        ensures left { left_of self.new ≤ page_steps * more + 2001 }
+            → PumpShows start after
+            (state_at after (batched more place taken page (batch_of after place taken page))) self.new }
+        ensures left { steps_left self.new ≤ page_steps * more + 2001 }
     {
         if self.batch.is_empty() {
             self.go_on(more);
@@ -436,9 +448,10 @@ impl Pump {
     // After a page whose batch is kept.
     fn go_on(&mut self, more: u16)
         ensures shows { (start : Tally) (after : Option CivilMinute) (place : ℕ) (taken : List (List ℕ))
-            → Counts start after place taken (all_kept after place taken) self.old → length taken + more ≤ most_pages
-            → Shows start after (begun after (onward more place taken)) self.new }
-        ensures left { left_of self.new < page_steps * more + 2001 }
+            → PumpCounts start after place taken (all_kept after place taken) self.old
+            → length taken + more ≤ most_pages
+            → PumpShows start after (begun after (onward more place taken)) self.new }
+        ensures left { steps_left self.new < page_steps * more + 2001 }
     {
         if more == 0 {
             self.begin(Phase::Acking);
@@ -454,9 +467,10 @@ impl Pump {
     // The page is asked for again by this byte, if it was not asked for too often.
     fn ask_again(&mut self, more: u16, left: u8, said: u8)
         ensures shows { (start : Tally) (after : Option CivilMinute) (place : ℕ) (taken : List (List ℕ))
-            → Counts start after place taken (all_kept after place taken) self.old → length taken + more < most_pages
-            → Shows start after (at after (asked_again more place taken left said)) self.new }
-        ensures left { left_of self.new ≤ page_steps * more + 502000 * left + 2001 }
+            → PumpCounts start after place taken (all_kept after place taken) self.old
+            → length taken + more < most_pages
+            → PumpShows start after (state_at after (asked_again more place taken left said)) self.new }
+        ensures left { steps_left self.new ≤ page_steps * more + 502000 * left + 2001 }
     {
         if left == 0 {
             self.begin(Phase::GivingUp(Trouble::PageLost { page: self.number }));

@@ -2,8 +2,8 @@
 use Rattle.std.specs.Prelude.{ℕ, ◌+◌, ◌*◌, ◌/◌, ◌%◌, ◌^◌}
 
 -- the number behind another
-abbrev pub next : ℕ → ℕ
-next x = (x * 1103515245 + 12345) % 2 ^ 31
+abbrev pub next_draw : ℕ → ℕ
+next_draw x = (x * 1103515245 + 12345) % 2 ^ 31
 
 -- what is drawn as this number is reached
 abbrev pub drawn : ℕ → ℕ

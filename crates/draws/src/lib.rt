@@ -2,7 +2,7 @@
 #![tactic(auto)]
 
 ghost use Rattle.std.specs.Prelude.{◌≡◌, ◌<◌, ◌^◌};
-ghost use Rattle.draws.specs.Draws.{drawn, next};
+ghost use Rattle.draws.specs.Draws.{drawn, next_draw};
 
 // The number behind another is that times this one, and the step, modulo 2^31.
 const FACTOR: u64 = 1_103_515_245;
@@ -35,7 +35,7 @@ impl Draws {
     pub fn draw(&mut self) -> u32
         requires { self.old.number < 2 ^ 31 }
         ensures drawn { result ≡ drawn self.new.number }
-        ensures next { self.new.number ≡ next self.old.number }
+        ensures next { self.new.number ≡ next_draw self.old.number }
         ensures below { self.new.number < 2 ^ 31 }
         ensures small { result < 2 ^ 15 }
     {

@@ -31,12 +31,12 @@ abbrev pub with_period : ℕ → List ℕ → List ℕ
 with_period minutes memory = slice_set memory 0x2D minutes
 
 -- 4,096 zeros
-unfoldable pub zeros : List ℕ
-zeros = replicate 4096 0
+unfoldable pub zero_memory : List ℕ
+zero_memory = replicate 4096 0
 
 -- all 0 but the archive period, which is this one
 abbrev pub new_memory : ℕ → List ℕ
-new_memory minutes = with_period minutes zeros
+new_memory minutes = with_period minutes zero_memory
 
 -- the memory with these bytes from this place on
 abbrev pub with_bytes : ℕ → List ℕ → List ℕ → List ℕ

@@ -9,8 +9,8 @@ abbrev pub collector : ℕ → ℕ
 collector setup = setup / 16 % 4
 
 -- the unit that these setup bits name, where they name one
-abbrev pub unit_of : ℕ → Option RainUnit
-unit_of setup =
+abbrev pub rain_unit_of : ℕ → Option RainUnit
+rain_unit_of setup =
     if collector setup == 0 then Some Hundredths
     else if collector setup == 1 then Some Fifths
     else if collector setup == 2 then Some Tenths

@@ -2,8 +2,8 @@ ghost use Rattle.std.specs.Prelude.{◌≡◌, ◌+◌, ◌≤◌, ◌↔◌, Is
 ghost use Rattle.std.specs.Bool.{OnTrue, OnFalse};
 ghost use Rattle.std.specs.Option.{SomeIff};
 ghost use Rattle.station_base.specs.Period.{IsPeriod};
-ghost use Rattle.eeprom_map.specs.Memory.{new_memory, zeros, signed_at, latitude_in, longitude_in, elevation_in, setup_in, minutes_in, with_period, with_bytes};
-ghost use Rattle.eeprom_map.specs.Rain.{collector, unit_of};
+ghost use Rattle.eeprom_map.specs.Memory.{new_memory, zero_memory, signed_at, latitude_in, longitude_in, elevation_in, setup_in, minutes_in, with_period, with_bytes};
+ghost use Rattle.eeprom_map.specs.Rain.{collector, rain_unit_of};
 
 use crate::rain::RainUnit;
 use station_base::{OutOfMemory, Period};
@@ -99,7 +99,7 @@ impl Eeprom {
 
     /// The unit of the rain collector, where its two bits name one: 3 names none.
     pub fn rain_unit(&self) -> Option<RainUnit>
-        ensures unit { result ≡ unit_of (setup_in self.now) }
+        ensures unit { result ≡ rain_unit_of (setup_in self.now) }
         ensures none { IsNone result ↔ (collector (setup_in self.now) ≡ 3) }
     {
         match self.bytes[usize::from(SETUP)] / 16 % 4 {
@@ -143,9 +143,9 @@ impl Eeprom {
 }
 
 // As many zeros as the memory has bytes.
-#[tactic(auto, unfolding(crate::specs::Memory::zeros))]
+#[tactic(auto, unfolding(crate::specs::Memory::zero_memory))]
 fn zeros(alloc: Global) -> Result<Vec<u8>, OutOfMemory>
-    ensures bytes { IfOk result (λ bytes. bytes.items ≡ zeros) }
+    ensures bytes { IfOk result (λ bytes. bytes.items ≡ zero_memory) }
     ensures size { IfOk result (λ bytes. vec_len bytes ≡ 4096) }
 {
     Ok(vec![in alloc; 0; LENGTH]?)

@@ -6,7 +6,7 @@ use Rattle.station_io.specs.Sink.{Outlet}
 use Rattle.fleet.specs.Crew.{Crew, OneTurn}
 use Rattle.fleet.specs.Log.{Along, IsAlone, WrittenBy, answers_of}
 use Rattle.fleet.specs.MemberTurns.{Turning}
-use Rattle.fleet.specs.TurnText.{Entry, WritesTurn}
+use Rattle.fleet.specs.TurnText.{TurnEntry, WritesTurn}
 
 same_some : {A : Type 0} (a b : A) → Some a ≡ Some b → a ≡ b
 same_some a b e = cc
@@ -19,7 +19,7 @@ station_other n k from too e = grind (arith, nat_tests)
 
 module _ {M K : Type 0} (turning : Turning M) (outlet : Outlet K) where
   -- a turn of this station, or of another one, in front
-  alone_more : (old mid new : Crew M) (e : Entry K) (log : List (Entry K)) (station : ℕ) → 1 ≤ station
+  alone_more : (old mid new : Crew M) (e : TurnEntry K) (log : List (TurnEntry K)) (station : ℕ) → 1 ≤ station
       → OneTurn turning outlet old e mid → IsAlone turning outlet mid log new station → (test : Bool)
       → (e.station == station) ≡ test → IsAlone turning outlet old (e ∷ log) new station
   alone_more old mid new e log station from one rest true equal before after was is =
@@ -35,7 +35,7 @@ module _ {M K : Type 0} (turning : Turning M) (outlet : Outlet K) where
       let apart = station_other e.station station one.is_open.from from other in
       rw other (rest before after (one.others (station - 1) apart ∙ was) is)
 
-  pub alone : (old new : Crew M) (before after : K) (log : List (Entry K)) (station : ℕ) → 1 ≤ station
+  pub alone : (old new : Crew M) (before after : K) (log : List (TurnEntry K)) (station : ℕ) → 1 ≤ station
       → Along turning outlet old before log new after → IsAlone turning outlet old log new station
   alone old new before after [] station from same = λ a b was is.
       let here : a ≡ b = same_some a b (sym was ∙ (ap (λ (c : Crew M). slice_get c.members (station - 1)) (sym same.0) ∙ is)) in

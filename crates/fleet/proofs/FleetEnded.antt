@@ -2,23 +2,23 @@
 use Rattle.std.proofs.Common.{ℕ, ◌≡◌, ◌≢◌, List, [], ◌∷◌, ◌++◌, Some, None, refl, sym, ap, subst, ◌∙◌, arith}
 use Rattle.causes.specs.Cause.{Cause, Rose}
 use Rattle.station_io.specs.Sink.{Outlet}
-use Rattle.draws.specs.Draws.{next}
+use Rattle.draws.specs.Draws.{next_draw}
 use Rattle.fleet.specs.declared.member.MemberTurn.TheVariants.{WriteFault, OutOfMemory}
 use Rattle.fleet.specs.declared.run.FleetEnd.{FleetEnd}
 use Rattle.fleet.specs.declared.run.FleetEnd.TheVariants as fleet
 use Rattle.fleet.specs.Crew.{Crew, OneTurn}
-use Rattle.fleet.specs.FleetEnds.{EndsAs, RunsFleet}
+use Rattle.fleet.specs.FleetEnds.{FleetEndsAs, RunsFleet}
 use Rattle.fleet.specs.Log.{Along, AreDrawn}
 use Rattle.fleet.specs.MemberTurns.{Turning}
 use Rattle.fleet.specs.OpenStations.{chosen, least_unseen, open_from}
-use Rattle.fleet.specs.TurnText.{Entry}
+use Rattle.fleet.specs.TurnText.{TurnEntry}
 use Rattle.fleet.proofs.LogSteps.{SoFar, all_ended, along_more, drawn_more, drawn_next}
 use Rattle.fleet.proofs.LogText.{text_along, wrote_along}
 
 module _ {M K : Type 0} (turning : Turning M) (outlet : Outlet K) (seed : ℕ) (old : Crew M) (before : K) where
   -- turns that were drawn, with their end
-  ran : (log : List (Entry K)) (end : FleetEnd) (new : Crew M) (after : K) → Along turning outlet old before log new after
-      → AreDrawn seed old.last log → EndsAs end log new.last
+  ran : (log : List (TurnEntry K)) (end : FleetEnd) (new : Crew M) (after : K) → Along turning outlet old before log new after
+      → AreDrawn seed old.last log → FleetEndsAs end log new.last
       → Cause (outlet.faults before) (outlet.faults after) (end ≡ fleet.WriteFault)
       → (end ≢ fleet.WriteFault → outlet.faults after ≡ outlet.faults before)
       → RunsFleet turning outlet seed old before end new after
@@ -39,8 +39,8 @@ module _ {M K : Type 0} (turning : Turning M) (outlet : Outlet K) (seed : ℕ) (
   module _ (number turns switches : ℕ) (station : _) (now : Crew M) (out : K)
       (so : SoFar turning outlet seed old before number turns switches station now out) where
     -- one more turn, with which the run ended so
-    cut : (end : FleetEnd) (e : Entry K) (new : Crew M) → OneTurn turning outlet now e new → e.before ≡ out
-        → e.station ≡ chosen (next number) (open_from 1 now.last) → EndsAs end (so.log ++ e ∷ []) new.last
+    cut : (end : FleetEnd) (e : TurnEntry K) (new : Crew M) → OneTurn turning outlet now e new → e.before ≡ out
+        → e.station ≡ chosen (next_draw number) (open_from 1 now.last) → FleetEndsAs end (so.log ++ e ∷ []) new.last
         → Cause (outlet.faults before) (outlet.faults e.after) (end ≡ fleet.WriteFault)
         → (end ≢ fleet.WriteFault → outlet.faults e.after ≡ outlet.faults before)
         → RunsFleet turning outlet seed old before end new e.after
@@ -50,8 +50,8 @@ module _ {M K : Type 0} (turning : Turning M) (outlet : Outlet K) (seed : ℕ) (
         (drawn_next turning outlet seed old before number turns switches station now out e.station so at))
         ends cause still
 
-    pub cut_by_fault : (e : Entry K) (new : Crew M) → OneTurn turning outlet now e new → e.before ≡ out
-        → e.station ≡ chosen (next number) (open_from 1 now.last) → e.answer ≡ WriteFault
+    pub cut_by_fault : (e : TurnEntry K) (new : Crew M) → OneTurn turning outlet now e new → e.before ≡ out
+        → e.station ≡ chosen (next_draw number) (open_from 1 now.last) → e.answer ≡ WriteFault
         → RunsFleet turning outlet seed old before fleet.WriteFault new e.after
     cut_by_fault e new one from at is =
         let faults : outlet.faults e.before ≡ outlet.faults before = ap outlet.faults from ∙ so.faults in
@@ -62,8 +62,8 @@ module _ {M K : Type 0} (turning : Turning M) (outlet : Outlet K) (seed : ℕ) (
         })
         (λ apart. absurd (apart refl))
 
-    pub cut_by_memory : (e : Entry K) (new : Crew M) → OneTurn turning outlet now e new → e.before ≡ out
-        → e.station ≡ chosen (next number) (open_from 1 now.last) → e.answer ≡ OutOfMemory
+    pub cut_by_memory : (e : TurnEntry K) (new : Crew M) → OneTurn turning outlet now e new → e.before ≡ out
+        → e.station ≡ chosen (next_draw number) (open_from 1 now.last) → e.answer ≡ OutOfMemory
         → RunsFleet turning outlet seed old before fleet.OutOfMemory new e.after
     cut_by_memory e new one from at is =
         let fits : e.answer ≢ WriteFault = λ w. absurd (let bad : OutOfMemory ≡ WriteFault = sym is ∙ w in cc) in
@@ -76,7 +76,7 @@ module _ {M K : Type 0} (turning : Turning M) (outlet : Outlet K) (seed : ℕ) (
         (λ _. faults)
 
     -- no turn is left
-    whole : (end : FleetEnd) → end ≢ fleet.WriteFault → EndsAs end so.log now.last
+    whole : (end : FleetEnd) → end ≢ fleet.WriteFault → FleetEndsAs end so.log now.last
         → RunsFleet turning outlet seed old before end now out
     whole end fits ends = ran so.log end now out so.along so.drawn ends
         (record { never_falls = omega (arith, so.faults); rose = λ w. absurd (fits w) }) (λ _. so.faults)

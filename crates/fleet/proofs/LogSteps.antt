@@ -3,19 +3,19 @@ use Rattle.std.proofs.Common.{ℕ, suc, zero, ◌≡◌, ◌≢◌, ◌<◌, ◌
 use Rattle.std.specs.Prelude.{slice_get, slice_index_or}
 use Rattle.std.proofs.lemmas.Bool.Decides.{nat_tests}
 use Rattle.station_io.specs.Sink.{Outlet}
-use Rattle.draws.specs.Draws.{next}
+use Rattle.draws.specs.Draws.{next_draw}
 use Rattle.fleet.specs.declared.member.MemberTurn.{MemberTurn}
 use Rattle.fleet.specs.declared.member.MemberTurn.TheVariants.{More, Ended, Unseen, WriteFault, OutOfMemory}
-use Rattle.fleet.specs.Crew.{Crew, IsReady, OneTurn}
-use Rattle.fleet.specs.Log.{Along, AreDrawn, IsUncut, is_switch, last_after, last_station, reached, switches_after, switches_in, turns_left}
+use Rattle.fleet.specs.Crew.{Crew, CrewIsReady, OneTurn}
+use Rattle.fleet.specs.Log.{Along, AreDrawn, IsUncut, is_switch, last_answers_after, last_station, reached, switches_after, switches_in, turns_left}
 use Rattle.fleet.specs.MemberTurns.{Turning}
 use Rattle.fleet.specs.OpenStations.{chosen, is_more, open_from, least_unseen}
 use Rattle.fleet.specs.StationLines.{AreUncut}
-use Rattle.fleet.specs.TurnText.{Entry}
+use Rattle.fleet.specs.TurnText.{TurnEntry}
 
 -- one more turn behind others
 pub along_more : {M K : Type 0} (turning : Turning M) (outlet : Outlet K) (old mid new : Crew M) (before out : K)
-    (log : List (Entry K)) (e : Entry K) → Along turning outlet old before log mid out → OneTurn turning outlet mid e new
+    (log : List (TurnEntry K)) (e : TurnEntry K) → Along turning outlet old before log mid out → OneTurn turning outlet mid e new
     → e.before ≡ out → Along turning outlet old before (log ++ e ∷ []) new e.after
 along_more turning outlet old mid new before out [] e same one at =
     (new, at ∙ same.1, subst (λ (c : Crew _). OneTurn turning outlet c e new) same.0 one, (refl, refl))
@@ -23,52 +23,52 @@ along_more turning outlet old mid new before out (f ∷ log) e along one at =
     (along.0, along.1, along.2, along_more turning outlet along.0 mid new f.after out log e along.3 one at)
 
 -- it is drawn behind them
-pub drawn_more : {K : Type 0} (x : ℕ) (last : List MemberTurn) (log : List (Entry K)) (e : Entry K) → AreDrawn x last log
-    → e.station ≡ chosen (next (reached x log)) (open_from 1 (last_after last log)) → AreDrawn x last (log ++ e ∷ [])
+pub drawn_more : {K : Type 0} (x : ℕ) (last : List MemberTurn) (log : List (TurnEntry K)) (e : TurnEntry K) → AreDrawn x last log
+    → e.station ≡ chosen (next_draw (reached x log)) (open_from 1 (last_answers_after last log)) → AreDrawn x last (log ++ e ∷ [])
 drawn_more x last [] e drawn at = (at, tt)
 drawn_more x last (f ∷ log) e drawn at =
-    (drawn.0, drawn_more (next x) (set last (f.station - 1) f.answer) log e drawn.1 at)
+    (drawn.0, drawn_more (next_draw x) (set last (f.station - 1) f.answer) log e drawn.1 at)
 
-pub uncut_more : {K : Type 0} (log : List (Entry K)) (e : Entry K) → AreUncut log → e.answer ≢ WriteFault
+pub uncut_more : {K : Type 0} (log : List (TurnEntry K)) (e : TurnEntry K) → AreUncut log → e.answer ≢ WriteFault
     → e.answer ≢ OutOfMemory → AreUncut (log ++ e ∷ [])
 uncut_more [] e uncut fits found = (fits, found, tt)
 uncut_more (f ∷ log) e uncut fits found = (uncut.0, uncut.1, uncut_more log e uncut.2 fits found)
 
-pub reached_more : {K : Type 0} (x : ℕ) (log : List (Entry K)) (e : Entry K) → reached x (log ++ e ∷ []) ≡ next (reached x log)
+pub reached_more : {K : Type 0} (x : ℕ) (log : List (TurnEntry K)) (e : TurnEntry K) → reached x (log ++ e ∷ []) ≡ next_draw (reached x log)
 reached_more x [] e = refl
-reached_more x (f ∷ log) e = reached_more (next x) log e
+reached_more x (f ∷ log) e = reached_more (next_draw x) log e
 
-pub last_answers_more : {K : Type 0} (last : List MemberTurn) (log : List (Entry K)) (e : Entry K)
-    → last_after last (log ++ e ∷ []) ≡ set (last_after last log) (e.station - 1) e.answer
+pub last_answers_more : {K : Type 0} (last : List MemberTurn) (log : List (TurnEntry K)) (e : TurnEntry K)
+    → last_answers_after last (log ++ e ∷ []) ≡ set (last_answers_after last log) (e.station - 1) e.answer
 last_answers_more last [] e = refl
 last_answers_more last (f ∷ log) e = last_answers_more (set last (f.station - 1) f.answer) log e
 
-pub last_more : {K : Type 0} (log : List (Entry K)) (e : Entry K) → last_station (log ++ e ∷ []) ≡ Some e.station
+pub last_more : {K : Type 0} (log : List (TurnEntry K)) (e : TurnEntry K) → last_station (log ++ e ∷ []) ≡ Some e.station
 last_more [] e = refl
 last_more (f ∷ []) e = refl
 last_more (f ∷ g ∷ log) e = last_more (g ∷ log) e
 
 -- the last station behind one before
-abbrev pub last_behind : {K : Type 0} → Option ℕ → List (Entry K) → Option ℕ
+abbrev pub last_behind : {K : Type 0} → Option ℕ → List (TurnEntry K) → Option ℕ
 last_behind before [] = before
 last_behind before (e ∷ log) = last_behind (Some e.station) log
 
-behind_is : {K : Type 0} (f : Entry K) (log : List (Entry K)) → last_behind (Some f.station) log ≡ last_station (f ∷ log)
+behind_is : {K : Type 0} (f : TurnEntry K) (log : List (TurnEntry K)) → last_behind (Some f.station) log ≡ last_station (f ∷ log)
 behind_is f [] = refl
 behind_is f (g ∷ log) = behind_is g log
 
-behind_none : {K : Type 0} (log : List (Entry K)) → last_behind None log ≡ last_station log
+behind_none : {K : Type 0} (log : List (TurnEntry K)) → last_behind None log ≡ last_station log
 behind_none [] = refl
 behind_none (f ∷ log) = behind_is f log
 
-switches_behind : {K : Type 0} (before : Option ℕ) (log : List (Entry K)) (e : Entry K) → switches_after before (log ++ e ∷ [])
+switches_behind : {K : Type 0} (before : Option ℕ) (log : List (TurnEntry K)) (e : TurnEntry K) → switches_after before (log ++ e ∷ [])
     ≡ switches_after before log + (if is_switch (last_behind before log) e.station then 1 else 0)
 switches_behind before [] e = omega arith
 switches_behind before (f ∷ log) e =
     let more = switches_behind (Some f.station) log e in
     omega (arith, more)
 
-pub switches_more : {K : Type 0} (log : List (Entry K)) (e : Entry K) → switches_in (log ++ e ∷ [])
+pub switches_more : {K : Type 0} (log : List (TurnEntry K)) (e : TurnEntry K) → switches_in (log ++ e ∷ [])
     ≡ switches_in log + (if is_switch (last_station log) e.station then 1 else 0)
 switches_more log e = switches_behind None log e
     ∙ ap (λ (o : Option ℕ). switches_in log + (if is_switch o e.station then 1 else 0)) (behind_none log)
@@ -78,7 +78,7 @@ few_by true n m few = omega (arith, few)
 few_by false n m few = omega (arith, few)
 
 -- there are no more switches than turns
-pub switches_few : {K : Type 0} (before : Option ℕ) (log : List (Entry K)) → switches_after before log ≤ length log
+pub switches_few : {K : Type 0} (before : Option ℕ) (log : List (TurnEntry K)) → switches_after before log ≤ length log
 switches_few before [] = omega arith
 switches_few before (e ∷ log) =
     few_by (is_switch before e.station) (switches_after (Some e.station) log) (length log) (switches_few (Some e.station) log)
@@ -112,7 +112,7 @@ left_set turning (n ∷ members) (a ∷ last) (suc i) m after answer was more fa
     let less = left_set turning members last i m after answer was more falls in
     omega (arith, less)
 
-pub left_less : {M K : Type 0} (turning : Turning M) (outlet : Outlet K) (old new : Crew M) (e : Entry K)
+pub left_less : {M K : Type 0} (turning : Turning M) (outlet : Outlet K) (old new : Crew M) (e : TurnEntry K)
     → OneTurn turning outlet old e new
     → turns_left turning new.members new.last < turns_left turning old.members old.last
 left_less turning outlet old new e one =
@@ -124,17 +124,17 @@ left_less turning outlet old new e one =
 -- So far these turns were taken.
 pub record SoFar {M K : Type 0} (turning : Turning M) (outlet : Outlet K) (seed : ℕ) (old : Crew M) (before : K)
     (number turns switches : ℕ) (station : Option ℕ) (now : Crew M) (out : K) : Type 0 where
-  pub log : List (Entry K)
+  pub log : List (TurnEntry K)
   pub along : Along turning outlet old before log now out
   pub drawn : AreDrawn seed old.last log
   pub number_is : number ≡ reached seed log
-  pub last_is : now.last ≡ last_after old.last log
+  pub last_is : now.last ≡ last_answers_after old.last log
   pub below : number < 2 ^ 31
   pub faults : outlet.faults out ≡ outlet.faults before
   pub turns_are : turns ≡ length log
   pub switches_are : switches ≡ switches_in log
   pub station_is : station ≡ last_station log
-  pub ready : IsReady turning now
+  pub ready : CrewIsReady turning now
   pub uncut : IsUncut now.last
   pub whole : AreUncut log
   pub few : turns + turns_left turning now.members now.last ≤ turns_left turning old.members old.last
@@ -177,7 +177,7 @@ pub all_ended : (last : List MemberTurn) → open_from 1 last ≡ [] → least_u
     → slice_index_or last k Ended ≡ Ended
 all_ended last none seen uncut k = ended_by last k _ none seen uncut refl
 
-uncut_by : {M K : Type 0} (turning : Turning M) (outlet : Outlet K) (old new : Crew M) (e : Entry K)
+uncut_by : {M K : Type 0} (turning : Turning M) (outlet : Outlet K) (old new : Crew M) (e : TurnEntry K)
     → OneTurn turning outlet old e new → IsUncut old.last → e.answer ≢ WriteFault → e.answer ≢ OutOfMemory → (k : ℕ)
     → (test : Bool) → (k == e.station - 1) ≡ test
     → (slice_index_or new.last k Ended ≢ WriteFault) × (slice_index_or new.last k Ended ≢ OutOfMemory)
@@ -194,19 +194,19 @@ uncut_by turning outlet old new e one uncut fits found k false other =
 pub drawn_next : {M K : Type 0} (turning : Turning M) (outlet : Outlet K) (seed : ℕ) (old : Crew M) (before : K)
     (number turns switches : ℕ) (station : Option ℕ) (now : Crew M) (out : K) (n : ℕ)
     (so : SoFar turning outlet seed old before number turns switches station now out)
-    → n ≡ chosen (next number) (open_from 1 now.last)
-    → n ≡ chosen (next (reached seed so.log)) (open_from 1 (last_after old.last so.log))
+    → n ≡ chosen (next_draw number) (open_from 1 now.last)
+    → n ≡ chosen (next_draw (reached seed so.log)) (open_from 1 (last_answers_after old.last so.log))
 drawn_next turning outlet seed old before number turns switches station now out n so at =
-    at ∙ (ap (λ (x : ℕ). chosen (next x) (open_from 1 now.last)) so.number_is
-    ∙ ap (λ (last : List MemberTurn). chosen (next (reached seed so.log)) (open_from 1 last)) so.last_is)
+    at ∙ (ap (λ (x : ℕ). chosen (next_draw x) (open_from 1 now.last)) so.number_is
+    ∙ ap (λ (last : List MemberTurn). chosen (next_draw (reached seed so.log)) (open_from 1 last)) so.last_is)
 
 -- one turn more, of a station that was not cut off
 pub so_far_more : {M K : Type 0} (turning : Turning M) (outlet : Outlet K) (seed : ℕ) (old : Crew M) (before : K)
-    (number turns switches : ℕ) (station : Option ℕ) (now : Crew M) (out : K) (e : Entry K) (new : Crew M)
+    (number turns switches : ℕ) (station : Option ℕ) (now : Crew M) (out : K) (e : TurnEntry K) (new : Crew M)
     (next_number more_switches : ℕ) → SoFar turning outlet seed old before number turns switches station now out
     → OneTurn turning outlet now e new → e.before ≡ out → e.answer ≢ WriteFault → e.answer ≢ OutOfMemory
-    → e.station ≡ chosen (next number) (open_from 1 now.last) → next_number ≡ next number → next_number < 2 ^ 31
-    → IsReady turning new → more_switches ≡ switches + (if is_switch station e.station then 1 else 0)
+    → e.station ≡ chosen (next_draw number) (open_from 1 now.last) → next_number ≡ next_draw number → next_number < 2 ^ 31
+    → CrewIsReady turning new → more_switches ≡ switches + (if is_switch station e.station then 1 else 0)
     → SoFar turning outlet seed old before next_number (turns + 1) more_switches (Some e.station) new e.after
 so_far_more turning outlet seed old before number turns switches station now out e new next_number more_switches
     so one from fits found at is below ready counted =
@@ -216,7 +216,7 @@ so_far_more turning outlet seed old before number turns switches station now out
       along = along_more turning outlet old now new before out so.log e so.along one from;
       drawn = drawn_more seed old.last so.log e so.drawn
           (drawn_next turning outlet seed old before number turns switches station now out e.station so at);
-      number_is = is ∙ (ap next so.number_is ∙ sym (reached_more seed so.log e));
+      number_is = is ∙ (ap next_draw so.number_is ∙ sym (reached_more seed so.log e));
       last_is = one.last ∙ (ap (λ (last : List MemberTurn). set last (e.station - 1) e.answer) so.last_is
           ∙ sym (last_answers_more old.last so.log e));
       below = below;

@@ -2,18 +2,18 @@
 use Rattle.std.proofs.Common.{ℕ, List, [], ◌∷◌, ◌++◌, refl, sym, subst}
 use Rattle.station_io.specs.Sink.{Outlet}
 use Rattle.fleet.specs.Crew.{Crew}
-use Rattle.fleet.specs.Lines.{with_number}
+use Rattle.fleet.specs.Lines.{with_station_number}
 use Rattle.fleet.specs.Log.{Along}
 use Rattle.fleet.specs.MemberTurns.{Turning}
-use Rattle.fleet.specs.TurnText.{AreTextsOf, Entry, IsTextOf}
+use Rattle.fleet.specs.TurnText.{AreTextsOf, TurnEntry, IsTextOf}
 
 module _ {M K : Type 0} (turning : Turning M) (outlet : Outlet K) where
   -- the text of a turn was written in it
-  wrote_turn : (e : Entry K) (text : List ℕ) → IsTextOf outlet e text → outlet.wrote e.before text e.after
+  wrote_turn : (e : TurnEntry K) (text : List ℕ) → IsTextOf outlet e text → outlet.wrote e.before text e.after
   wrote_turn e text is = subst (λ (t : List ℕ). outlet.wrote e.before t e.after) (sym is.2) is.1.wrote
 
   -- whatever the turns wrote was written
-  pub wrote_along : (old new : Crew M) (before after : K) (log : List (Entry K)) (text : List ℕ)
+  pub wrote_along : (old new : Crew M) (before after : K) (log : List (TurnEntry K)) (text : List ℕ)
       → Along turning outlet old before log new after → AreTextsOf outlet log text → outlet.wrote before text after
   wrote_along old new before after [] text same is =
       subst (λ (t : List ℕ). outlet.wrote before t after) (sym is)
@@ -26,11 +26,11 @@ module _ {M K : Type 0} (turning : Turning M) (outlet : Outlet K) where
       (outlet.wrote_joins before e.after after both.0 both.1 first later)
 
   -- they wrote something
-  pub text_along : (old new : Crew M) (before after : K) (log : List (Entry K))
+  pub text_along : (old new : Crew M) (before after : K) (log : List (TurnEntry K))
       → Along turning outlet old before log new after → (text : List ℕ) × AreTextsOf outlet log text
   text_along old new before after [] same = ([], refl)
   text_along old new before after (e ∷ log) along =
       let later = text_along along.0 new e.after after log along.3 in
       let one = along.2 in
-      let first = with_number e.station one.written ++ one.writes.part in
+      let first = with_station_number e.station one.written ++ one.writes.part in
       (first ++ later.0, (first, later.0, refl, (one.written, one.writes, refl), later.1))

@@ -12,11 +12,11 @@ use Rattle.fleet.specs.declared.member.MemberTurn.TheVariants.{More, Ended, Writ
 use Rattle.fleet.specs.declared.pen.Pen.{Pen}
 use Rattle.fleet.specs.declared.pen.Pen.TheVariants.{AtStart, Inside, Stuck}
 use Rattle.fleet.specs.declared.numbered.Numbered.{Numbered}
-use Rattle.fleet.specs.Crew.{Crew, IsOpen, IsReady, OneTurn}
+use Rattle.fleet.specs.Crew.{Crew, StationIsOpen, CrewIsReady, OneTurn}
 use Rattle.fleet.specs.NumberedSink.{WritesNumbered, faults_of, numbered_outlet}
-use Rattle.fleet.specs.Lines.{Reaches, Spells, head, is_stuck, numbered, with_number}
-use Rattle.fleet.specs.MemberTurns.{TakesTurn, Turning, WritesLines}
-use Rattle.fleet.specs.TurnText.{Entry, WritesTurn}
+use Rattle.fleet.specs.Lines.{Reaches, PenSpells, head, is_stuck, numbered_lines, with_station_number}
+use Rattle.fleet.specs.MemberTurns.{MemberTakesTurn, Turning, WritesLines}
+use Rattle.fleet.specs.TurnText.{TurnEntry, WritesTurn}
 
 -- what a list has behind a write of one place
 get_set : {A : Type 0} (xs : List A) (i : ℕ) (y : A) → i < length xs → slice_get (set xs i y) i ≡ Some y
@@ -37,7 +37,7 @@ get_other : {A : Type 0} (xs : List A) (i k : ℕ) (y : A) → k ≢ i → slice
 get_other xs i k y apart = within_or_past xs i k y apart _ refl
 
 -- What a turn of a member is for its station, and for the sink without the numbers.
-pub record MemberTook {M K : Type 0} (turning : Turning M) (outlet : Outlet K) (e : Entry K) (before after : M) : Type 0 where
+pub record MemberTook {M K : Type 0} (turning : Turning M) (outlet : Outlet K) (e : TurnEntry K) (before after : M) : Type 0 where
   pub written : List ℕ
   pub writes : WritesTurn outlet e written
   pub turned : turning.turned before (e.answer ∷ []) (WritesTurn outlet e) after
@@ -47,8 +47,8 @@ pub record MemberTook {M K : Type 0} (turning : Turning M) (outlet : Outlet K) (
   pub still : e.answer ≢ WriteFault → outlet.faults e.after ≡ outlet.faults e.before
 
 pub one_turn : {M K : Type 0} (turning : Turning M) (outlet : Outlet K) (members : List M) (last : List MemberTurn)
-    (e : Entry K) (place : ℕ) (before after : M) → place ≡ e.station - 1
-    → IsOpen (record { members = members; last = last }) e.station → length last ≡ 8 → length members ≤ 8
+    (e : TurnEntry K) (place : ℕ) (before after : M) → place ≡ e.station - 1
+    → StationIsOpen (record { members = members; last = last }) e.station → length last ≡ 8 → length members ≤ 8
     → slice_get members place ≡ Some before → MemberTook turning outlet e before after
     → OneTurn turning outlet (record { members = members; last = last }) e
     (record { members = set members place after; last = set last place e.answer })
@@ -78,10 +78,10 @@ one_turn turning outlet members last e place before after here goes size few was
 same_some : {A : Type 0} (a b : A) → Some a ≡ Some b → a ≡ b
 same_some a b e = cc
 
-may_turn_by : {M K : Type 0} (turning : Turning M) (outlet : Outlet K) (old new : Crew M) (e : Entry K)
+may_turn_by : {M K : Type 0} (turning : Turning M) (outlet : Outlet K) (old new : Crew M) (e : TurnEntry K)
     (one : OneTurn turning outlet old e new)
-    → IsReady turning old → (e.answer ≡ More → turning.may_turn one.after) → (n : ℕ) (m : M)
-    → slice_get new.members (n - 1) ≡ Some m → IsOpen new n → (test : Bool) → (n - 1 == e.station - 1) ≡ test
+    → CrewIsReady turning old → (e.answer ≡ More → turning.may_turn one.after) → (n : ℕ) (m : M)
+    → slice_get new.members (n - 1) ≡ Some m → StationIsOpen new n → (test : Bool) → (n - 1 == e.station - 1) ≡ test
     → turning.may_turn m
 may_turn_by turning outlet old new e one ready goes n m was goes_on true same =
     let here : n - 1 ≡ e.station - 1 = grind (arith, nat_tests) in
@@ -96,9 +96,9 @@ may_turn_by turning outlet old new e one ready goes n m was goes_on false other 
       more = sym (one.answers (n - 1) apart) ∙ goes_on.more;
     })
 
-pub ready_after : {M K : Type 0} (turning : Turning M) (outlet : Outlet K) (old new : Crew M) (e : Entry K)
+pub ready_after : {M K : Type 0} (turning : Turning M) (outlet : Outlet K) (old new : Crew M) (e : TurnEntry K)
     (one : OneTurn turning outlet old e new)
-    → IsReady turning old → length new.last ≡ 8 → (e.answer ≡ More → turning.may_turn one.after) → IsReady turning new
+    → CrewIsReady turning old → length new.last ≡ 8 → (e.answer ≡ More → turning.may_turn one.after) → CrewIsReady turning new
 ready_after turning outlet old new e one ready size goes = record {
   few = omega (arith, one.as_many, ready.few);
   size = size;
@@ -109,10 +109,10 @@ ready_after turning outlet old new e one ready size goes = record {
 
 -- the same, where the turn is the one above
 pub ready_of_turn : {M K : Type 0} (turning : Turning M) (outlet : Outlet K) (members : List M) (last : List MemberTurn)
-    (e : Entry K) (place : ℕ) (before after : M) → place ≡ e.station - 1
-    → IsReady turning (record { members = members; last = last }) → IsOpen (record { members = members; last = last }) e.station
+    (e : TurnEntry K) (place : ℕ) (before after : M) → place ≡ e.station - 1
+    → CrewIsReady turning (record { members = members; last = last }) → StationIsOpen (record { members = members; last = last }) e.station
     → slice_get members place ≡ Some before → MemberTook turning outlet e before after
-    → IsReady turning (record { members = set members place after; last = set last place e.answer })
+    → CrewIsReady turning (record { members = set members place after; last = set last place e.answer })
 unfolding one_turn
 ready_of_turn turning outlet members last e place before after here ready goes was took =
     ready_after turning outlet _ _ e
@@ -121,9 +121,9 @@ ready_of_turn turning outlet members last e place before after here ready goes w
 
 -- the text of a turn, and what stands behind it
 parts : (digit : ℕ) (pen : Pen) (bytes text : List ℕ) → Reaches digit AtStart bytes pen text
-    → (part : List ℕ) × IsFrontOf part (head digit) × (is_stuck pen ≡ false → part ≡ []) × (text ≡ numbered digit AtStart bytes ++ part)
-parts digit AtStart bytes text r = ([], (head digit, refl), λ _. refl, r.1 ∙ sym (append-nil (numbered digit AtStart bytes)))
-parts digit Inside bytes text r = ([], (head digit, refl), λ _. refl, r.1 ∙ sym (append-nil (numbered digit AtStart bytes)))
+    → (part : List ℕ) × IsFrontOf part (head digit) × (is_stuck pen ≡ false → part ≡ []) × (text ≡ numbered_lines digit AtStart bytes ++ part)
+parts digit AtStart bytes text r = ([], (head digit, refl), λ _. refl, r.1 ∙ sym (append-nil (numbered_lines digit AtStart bytes)))
+parts digit Inside bytes text r = ([], (head digit, refl), λ _. refl, r.1 ∙ sym (append-nil (numbered_lines digit AtStart bytes)))
 parts digit Stuck bytes text r = (r.0, r.1, λ free. absurd (let bad : true ≡ false = free in cc), r.2)
 
 stuck_of : (b : Bool) → Rose 0 (faults_of b) → b ≡ true
@@ -135,30 +135,30 @@ free_by true e = absurd (omega (arith, e))
 free_by false e = refl
 
 -- what a member wrote in a turn, with the numbers
-writes_turn : {K : Type 0} (outlet : Outlet K) (old new : Numbered K) (e : Entry K) (bytes : List ℕ)
+writes_turn : {K : Type 0} (outlet : Outlet K) (old new : Numbered K) (e : TurnEntry K) (bytes : List ℕ)
     → old.pen ≡ AtStart → old.digit ≡ 48 + e.station → e.before ≡ old.out.now → e.after ≡ new.out.now
     → (e.answer ≢ WriteFault → faults_of (is_stuck new.pen) ≡ 0)
     → WritesLines (numbered_outlet outlet) old e.answer new bytes → WritesTurn outlet e bytes
 writes_turn outlet old new e bytes start digit was is still writes =
     let wrote : WritesNumbered outlet old bytes new = writes.wrote in
-    let spells : Spells (48 + e.station) AtStart bytes new.pen wrote.text =
-    subst (λ (d : ℕ). Spells d AtStart bytes new.pen wrote.text) digit
-    (subst (λ (p : Pen). Spells old.digit p bytes new.pen wrote.text) start wrote.spells) in
+    let spells : PenSpells (48 + e.station) AtStart bytes new.pen wrote.text =
+    subst (λ (d : ℕ). PenSpells d AtStart bytes new.pen wrote.text) digit
+    (subst (λ (p : Pen). PenSpells old.digit p bytes new.pen wrote.text) start wrote.spells) in
     let p = parts (48 + e.station) new.pen bytes wrote.text spells in
     record {
       lines = writes.lines;
       part = p.0;
       small = p.1;
       none = λ no. p.2 (free_by (is_stuck new.pen) (still no));
-      wrote = subst (λ (k : _). outlet.wrote k (with_number e.station bytes ++ p.0) e.after) (sym was)
-          (subst (λ (k : _). outlet.wrote old.out.now (with_number e.station bytes ++ p.0) k) (sym is)
+      wrote = subst (λ (k : _). outlet.wrote k (with_station_number e.station bytes ++ p.0) e.after) (sym was)
+          (subst (λ (k : _). outlet.wrote old.out.now (with_station_number e.station bytes ++ p.0) k) (sym is)
           (subst (λ (t : List ℕ). outlet.wrote old.out.now t new.out.now) p.3 wrote.wrote));
     }
 
 -- a turn over the sink that numbers lines is a turn over the sink behind it
-pub member_took : {M K : Type 0} (turning : Turning M) (outlet : Outlet K) (old new : Numbered K) (e : Entry K)
+pub member_took : {M K : Type 0} (turning : Turning M) (outlet : Outlet K) (old new : Numbered K) (e : TurnEntry K)
     (before after : M) → old.pen ≡ AtStart → old.digit ≡ 48 + e.station → e.before ≡ old.out.now → e.after ≡ new.out.now
-    → TakesTurn turning (numbered_outlet outlet) before old e.answer after new → MemberTook turning outlet e before after
+    → MemberTakesTurn turning (numbered_outlet outlet) before old e.answer after new → MemberTook turning outlet e before after
 member_took turning outlet old new e before after start digit was is took =
     let wrote : WritesNumbered outlet old took.written new = took.writes.wrote in
     let begins : is_stuck old.pen ≡ false = ap is_stuck start in

@@ -9,7 +9,7 @@ use Rattle.station_io.specs.Sink.{Outlet, Emits}
 use Rattle.fleet.specs.declared.pen.Pen.{Pen}
 use Rattle.fleet.specs.declared.pen.Pen.TheVariants.{AtStart, Inside, Stuck}
 use Rattle.fleet.specs.declared.numbered.Numbered.{Numbered}
-use Rattle.fleet.specs.Lines.{Spells, is_stuck, numbered, pen_after}
+use Rattle.fleet.specs.Lines.{PenSpells, is_stuck, numbered_lines, pen_after}
 use Rattle.fleet.specs.NumberedSink.{PutsPiece, WritesNumbered, writes_none, writes_joins, numbered_outlet, faults_of}
 use Rattle.fleet.proofs.Fronts.{spells_whole, spells_front, pen_free}
 
@@ -20,11 +20,11 @@ pen_by Failed pen = Stuck
 
 pub puts : {K : Type 0} (outlet : Outlet K) (old new : Numbered K) (piece text : List ℕ) (answer : Put)
     → new.out.ghost_name ≡ old.out.ghost_name → new.digit ≡ old.digit → is_stuck old.pen ≡ false
-    → text ≡ numbered old.digit old.pen piece → Emits outlet old.out.now text answer new.out.now
+    → text ≡ numbered_lines old.digit old.pen piece → Emits outlet old.out.now text answer new.out.now
     → new.pen ≡ pen_by answer (pen_after old.pen piece) → PutsPiece outlet old piece answer new
 puts outlet old new piece text Done same digit free is emits pen =
     let goes_free : is_stuck new.pen ≡ false = ap is_stuck pen ∙ pen_free old.pen piece free in
-    let whole : emits.call.0 ≡ numbered old.digit old.pen piece = emits.call.1 ∙ is in
+    let whole : emits.call.0 ≡ numbered_lines old.digit old.pen piece = emits.call.1 ∙ is in
     record {
       written = piece;
       writes = refl;
@@ -33,8 +33,8 @@ puts outlet old new piece text Done same digit free is emits pen =
         digit = digit;
         text = emits.call.0;
         wrote = emits.call.2;
-        spells = subst (λ (t : List ℕ). Spells old.digit old.pen piece new.pen t) (sym whole)
-            (subst (λ (p : Pen). Spells old.digit old.pen piece p (numbered old.digit old.pen piece)) (sym pen)
+        spells = subst (λ (t : List ℕ). PenSpells old.digit old.pen piece new.pen t) (sym whole)
+            (subst (λ (p : Pen). PenSpells old.digit old.pen piece p (numbered_lines old.digit old.pen piece)) (sym pen)
             (spells_whole old.digit old.pen piece free));
         counts = record {
           stays = λ yes. absurd (let no : true ≡ false = sym yes ∙ free in cc);
@@ -55,7 +55,7 @@ puts outlet old new piece text Failed same digit free is emits pen =
         digit = digit;
         text = emits.call.0;
         wrote = emits.call.2;
-        spells = subst (λ (p : Pen). Spells old.digit old.pen cut.0 p emits.call.0) (sym pen) cut.2;
+        spells = subst (λ (p : Pen). PenSpells old.digit old.pen cut.0 p emits.call.0) (sym pen) cut.2;
         counts = record {
           stays = λ yes. absurd (let no : true ≡ false = sym yes ∙ free in cc);
           never_falls = emits.cause.never_falls;

@@ -6,11 +6,11 @@ use Rattle.fleet.specs.declared.member.MemberTurn.{MemberTurn}
 use Rattle.fleet.specs.declared.member.MemberTurn.TheVariants.{More, Ended, Unseen, WriteFault, OutOfMemory}
 use Rattle.fleet.specs.declared.pen.Pen.{Pen}
 use Rattle.fleet.specs.declared.pen.Pen.TheVariants.{AtStart, Inside, Stuck}
-use Rattle.fleet.specs.Lines.{AreLines, behind, numbered, pen_after, with_number}
+use Rattle.fleet.specs.Lines.{AreLines, pen_behind, numbered_lines, pen_after, with_station_number}
 use Rattle.fleet.specs.Log.{BothIf, WrittenBy}
 use Rattle.fleet.specs.MemberTurns.{Both, WritesWhole}
-use Rattle.fleet.specs.StationLines.{AreUncut, Place, lines_from, lines_of, place_behind}
-use Rattle.fleet.specs.TurnText.{AreTextsOf, Entry, WritesTurn}
+use Rattle.fleet.specs.StationLines.{AreUncut, Place, station_lines_from, station_lines, place_behind}
+use Rattle.fleet.specs.TurnText.{AreTextsOf, TurnEntry, WritesTurn}
 
 -- where a reader stands who has read what the pen wrote
 abbrev place_of : Bool → Pen → Place
@@ -18,41 +18,41 @@ place_of counts AtStart = Place.AtDigit
 place_of counts Inside = Place.Within counts
 place_of counts Stuck = Place.Within counts
 
-place_is : (counts ends : Bool) → place_behind counts ends ≡ place_of counts (behind ends)
+place_is : (counts ends : Bool) → place_behind counts ends ≡ place_of counts (pen_behind ends)
 place_is counts true = refl
 place_is counts false = refl
 
 -- lines with the digit of the station are its own
 own_lines : (digit of_line : ℕ) (pen : Pen) (bytes text : List ℕ) → (of_line == digit) ≡ true
     → pen_after pen bytes ≡ AtStart
-    → lines_from digit (place_of true pen) (numbered of_line pen bytes ++ text) ≡ bytes ++ lines_from digit Place.AtDigit text
-own_lines digit of_line pen [] text same ends = ap (λ (p : Pen). lines_from digit (place_of true p) text) ends
+    → station_lines_from digit (place_of true pen) (numbered_lines of_line pen bytes ++ text) ≡ bytes ++ station_lines_from digit Place.AtDigit text
+own_lines digit of_line pen [] text same ends = ap (λ (p : Pen). station_lines_from digit (place_of true p) text) ends
 own_lines digit of_line AtStart (b ∷ bytes) text same ends =
-    ap (λ (counts : Bool). lines_from digit (Place.Within counts) (b ∷ (numbered of_line (behind (b == 10)) bytes ++ text))) same
-    ∙ ap (λ (place : Place). b ∷ lines_from digit place (numbered of_line (behind (b == 10)) bytes ++ text)) (place_is true (b == 10))
-    ∙ ap (λ (l : List ℕ). b ∷ l) (own_lines digit of_line (behind (b == 10)) bytes text same ends)
+    ap (λ (counts : Bool). station_lines_from digit (Place.Within counts) (b ∷ (numbered_lines of_line (pen_behind (b == 10)) bytes ++ text))) same
+    ∙ ap (λ (place : Place). b ∷ station_lines_from digit place (numbered_lines of_line (pen_behind (b == 10)) bytes ++ text)) (place_is true (b == 10))
+    ∙ ap (λ (l : List ℕ). b ∷ l) (own_lines digit of_line (pen_behind (b == 10)) bytes text same ends)
 own_lines digit of_line Inside (b ∷ bytes) text same ends =
-    ap (λ (place : Place). b ∷ lines_from digit place (numbered of_line (behind (b == 10)) bytes ++ text)) (place_is true (b == 10))
-    ∙ ap (λ (l : List ℕ). b ∷ l) (own_lines digit of_line (behind (b == 10)) bytes text same ends)
+    ap (λ (place : Place). b ∷ station_lines_from digit place (numbered_lines of_line (pen_behind (b == 10)) bytes ++ text)) (place_is true (b == 10))
+    ∙ ap (λ (l : List ℕ). b ∷ l) (own_lines digit of_line (pen_behind (b == 10)) bytes text same ends)
 own_lines digit of_line Stuck (b ∷ bytes) text same ends =
-    ap (λ (place : Place). b ∷ lines_from digit place (numbered of_line (behind (b == 10)) bytes ++ text)) (place_is true (b == 10))
-    ∙ ap (λ (l : List ℕ). b ∷ l) (own_lines digit of_line (behind (b == 10)) bytes text same ends)
+    ap (λ (place : Place). b ∷ station_lines_from digit place (numbered_lines of_line (pen_behind (b == 10)) bytes ++ text)) (place_is true (b == 10))
+    ∙ ap (λ (l : List ℕ). b ∷ l) (own_lines digit of_line (pen_behind (b == 10)) bytes text same ends)
 
 -- lines with another digit are none of its lines
 other_lines : (digit of_line : ℕ) (pen : Pen) (bytes text : List ℕ) → (of_line == digit) ≡ false
     → pen_after pen bytes ≡ AtStart
-    → lines_from digit (place_of false pen) (numbered of_line pen bytes ++ text) ≡ lines_from digit Place.AtDigit text
-other_lines digit of_line pen [] text other ends = ap (λ (p : Pen). lines_from digit (place_of false p) text) ends
+    → station_lines_from digit (place_of false pen) (numbered_lines of_line pen bytes ++ text) ≡ station_lines_from digit Place.AtDigit text
+other_lines digit of_line pen [] text other ends = ap (λ (p : Pen). station_lines_from digit (place_of false p) text) ends
 other_lines digit of_line AtStart (b ∷ bytes) text other ends =
-    ap (λ (counts : Bool). lines_from digit (Place.Within counts) (b ∷ (numbered of_line (behind (b == 10)) bytes ++ text))) other
-    ∙ ap (λ (place : Place). lines_from digit place (numbered of_line (behind (b == 10)) bytes ++ text)) (place_is false (b == 10))
-    ∙ other_lines digit of_line (behind (b == 10)) bytes text other ends
+    ap (λ (counts : Bool). station_lines_from digit (Place.Within counts) (b ∷ (numbered_lines of_line (pen_behind (b == 10)) bytes ++ text))) other
+    ∙ ap (λ (place : Place). station_lines_from digit place (numbered_lines of_line (pen_behind (b == 10)) bytes ++ text)) (place_is false (b == 10))
+    ∙ other_lines digit of_line (pen_behind (b == 10)) bytes text other ends
 other_lines digit of_line Inside (b ∷ bytes) text other ends =
-    ap (λ (place : Place). lines_from digit place (numbered of_line (behind (b == 10)) bytes ++ text)) (place_is false (b == 10))
-    ∙ other_lines digit of_line (behind (b == 10)) bytes text other ends
+    ap (λ (place : Place). station_lines_from digit place (numbered_lines of_line (pen_behind (b == 10)) bytes ++ text)) (place_is false (b == 10))
+    ∙ other_lines digit of_line (pen_behind (b == 10)) bytes text other ends
 other_lines digit of_line Stuck (b ∷ bytes) text other ends =
-    ap (λ (place : Place). lines_from digit place (numbered of_line (behind (b == 10)) bytes ++ text)) (place_is false (b == 10))
-    ∙ other_lines digit of_line (behind (b == 10)) bytes text other ends
+    ap (λ (place : Place). station_lines_from digit place (numbered_lines of_line (pen_behind (b == 10)) bytes ++ text)) (place_is false (b == 10))
+    ∙ other_lines digit of_line (pen_behind (b == 10)) bytes text other ends
 
 digits_same : (n k : ℕ) (test : Bool) → (n == k) ≡ test → (48 + n == 48 + k) ≡ test
 digits_same n k true e = grind (arith, nat_tests)
@@ -78,12 +78,12 @@ abbrev pub rest_of : ℕ → List ℕ → (ℕ → List ℕ) → ℕ → List �
 rest_of of_turn rest texts station = if of_turn == station then rest else texts station
 
 -- One text in which each station has its own lines.
-abbrev pub Together : {K : Type 0} → Outlet K → List (Entry K) → (ℕ → List ℕ) → Type 0
+abbrev pub Together : {K : Type 0} → Outlet K → List (TurnEntry K) → (ℕ → List ℕ) → Type 0
 Together outlet log texts = (text : List ℕ) × AreTextsOf outlet log text
-    × ((station : ℕ) → lines_of station text ≡ texts station)
+    × ((station : ℕ) → station_lines station text ≡ texts station)
 
 module _ {K : Type 0} (outlet : Outlet K) where
-  still_written : (e : Entry K) (log : List (Entry K)) (texts : ℕ → List ℕ) (rest : List ℕ) (station : ℕ)
+  still_written : (e : TurnEntry K) (log : List (TurnEntry K)) (texts : ℕ → List ℕ) (rest : List ℕ) (station : ℕ)
       → WrittenBy outlet e.station log rest → WrittenBy outlet station (e ∷ log) (texts station)
       → (test : Bool) → (e.station == station) ≡ test
       → WrittenBy outlet station log (rest_of e.station rest texts station)
@@ -93,30 +93,30 @@ module _ {K : Type 0} (outlet : Outlet K) where
       let P : Bool → Type 0 = λ (test : Bool). BothIf test (WritesTurn outlet e) (WrittenBy outlet station log) (texts station) in
       rw is (subst P is was)
 
-  lines_by : (e : Entry K) (bytes rest text : List ℕ) (texts : ℕ → List ℕ) (station : ℕ) → AreLines bytes
-      → texts e.station ≡ bytes ++ rest → lines_of station text ≡ rest_of e.station rest texts station
+  lines_by : (e : TurnEntry K) (bytes rest text : List ℕ) (texts : ℕ → List ℕ) (station : ℕ) → AreLines bytes
+      → texts e.station ≡ bytes ++ rest → station_lines station text ≡ rest_of e.station rest texts station
       → (test : Bool) → (e.station == station) ≡ test
-      → lines_of station (with_number e.station bytes ++ text) ≡ texts station
+      → station_lines station (with_station_number e.station bytes ++ text) ≡ texts station
   lines_by e bytes rest text texts station whole split behind true is =
-      let now : lines_of station text ≡ rest = behind ∙ ap (λ (test : Bool). if test then rest else texts station) is in
+      let now : station_lines station text ≡ rest = behind ∙ ap (λ (test : Bool). if test then rest else texts station) is in
       own_lines (48 + station) (48 + e.station) AtStart bytes text (digits_same e.station station true is) whole
       ∙ (ap (λ (l : List ℕ). bytes ++ l) now ∙ (sym split ∙ ap texts (is_same e.station station is)))
   lines_by e bytes rest text texts station whole split behind false is =
       other_lines (48 + station) (48 + e.station) AtStart bytes text (digits_same e.station station false is) whole
       ∙ (behind ∙ ap (λ (test : Bool). if test then rest else texts station) is)
 
-  lines_more : (e : Entry K) (bytes part rest text : List ℕ) (texts : ℕ → List ℕ) (station : ℕ) → AreLines bytes
-      → part ≡ [] → texts e.station ≡ bytes ++ rest → lines_of station text ≡ rest_of e.station rest texts station
+  lines_more : (e : TurnEntry K) (bytes part rest text : List ℕ) (texts : ℕ → List ℕ) (station : ℕ) → AreLines bytes
+      → part ≡ [] → texts e.station ≡ bytes ++ rest → station_lines station text ≡ rest_of e.station rest texts station
       → (test : Bool) → (e.station == station) ≡ test
-      → lines_of station ((with_number e.station bytes ++ part) ++ text) ≡ texts station
+      → station_lines station ((with_station_number e.station bytes ++ part) ++ text) ≡ texts station
   lines_more e bytes part rest text texts station whole none split behind test is =
-      let front : (with_number e.station bytes ++ part) ++ text ≡ with_number e.station bytes ++ text =
-      ap (λ (p : List ℕ). (with_number e.station bytes ++ p) ++ text) none
-      ∙ ap (λ (l : List ℕ). l ++ text) (append-nil (with_number e.station bytes)) in
-      ap (λ (l : List ℕ). lines_of station l) front ∙ lines_by e bytes rest text texts station whole split behind test is
+      let front : (with_station_number e.station bytes ++ part) ++ text ≡ with_station_number e.station bytes ++ text =
+      ap (λ (p : List ℕ). (with_station_number e.station bytes ++ p) ++ text) none
+      ∙ ap (λ (l : List ℕ). l ++ text) (append-nil (with_station_number e.station bytes)) in
+      ap (λ (l : List ℕ). station_lines station l) front ∙ lines_by e bytes rest text texts station whole split behind test is
 
   -- what the stations wrote stands together in one text
-  pub together : (log : List (Entry K)) (texts : ℕ → List ℕ) → AreUncut log
+  pub together : (log : List (TurnEntry K)) (texts : ℕ → List ℕ) → AreUncut log
       → ((station : ℕ) → WrittenBy outlet station log (texts station)) → Together outlet log texts
   together [] texts uncut written = ([], refl, λ station. sym (written station))
   together (e ∷ log) texts uncut written =
@@ -125,7 +125,7 @@ module _ {K : Type 0} (outlet : Outlet K) where
       subst P (equal_itself e.station) (written e.station) in
       let behind = together log (rest_of e.station both.1 texts) uncut.2
       (λ station. still_written e log texts both.1 station both.4 (written station) _ refl) in
-      let front = with_number e.station both.0 ++ both.3.part in (
+      let front = with_station_number e.station both.0 ++ both.3.part in (
         front ++ behind.0,
         (front, behind.0, refl, (both.0, both.3, refl), behind.1),
         λ station. lines_more e both.0 both.3.part both.1 behind.0 texts station

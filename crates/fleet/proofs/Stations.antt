@@ -4,7 +4,7 @@ use Rattle.std.specs.Prelude.{slice_index_or, nat_le}
 use Rattle.std.proofs.lemmas.Bool.Decides.{nat_tests}
 use Rattle.fleet.specs.declared.member.MemberTurn.{MemberTurn}
 use Rattle.fleet.specs.declared.member.MemberTurn.TheVariants.{More, Ended, Unseen, WriteFault, OutOfMemory}
-use Rattle.fleet.specs.Crew.{Crew, IsOpen, IsReady}
+use Rattle.fleet.specs.Crew.{Crew, StationIsOpen, CrewIsReady}
 use Rattle.fleet.specs.OpenStations.{is_more, open_from}
 use Rattle.fleet.specs.MemberTurns.{Turning}
 
@@ -48,15 +48,15 @@ open_at n [] k within = absurd (omega (arith, within))
 open_at n (a ∷ last) k within = open_more n a last (open_at (n + 1) last) k _ refl within
 
 -- a station that has not ended is one of the members
-inside : {M : Type 0} (turning : Turning M) (crew : Crew M) (s : ℕ) → IsReady turning crew → Found 1 crew.last s
+inside : {M : Type 0} (turning : Turning M) (crew : Crew M) (s : ℕ) → CrewIsReady turning crew → Found 1 crew.last s
     → (test : Bool) → nat_le s (length crew.members) ≡ test → s ≤ length crew.members
 inside turning crew s ready found true below = grind (arith, nat_tests)
 inside turning crew s ready found false above =
     let past : length crew.members ≤ s - 1 = grind (arith, nat_tests) in
     absurd (let bad : More ≡ Ended = sym found.1 ∙ ready.absent (s - 1) past in cc)
 
-pub is_open_at : {M : Type 0} (turning : Turning M) (crew : Crew M) (s : ℕ) → IsReady turning crew → Found 1 crew.last s
-    → IsOpen crew s
+pub is_open_at : {M : Type 0} (turning : Turning M) (crew : Crew M) (s : ℕ) → CrewIsReady turning crew → Found 1 crew.last s
+    → StationIsOpen crew s
 is_open_at turning crew s ready found = record {
   from = found.0;
   to = inside turning crew s ready found _ refl;

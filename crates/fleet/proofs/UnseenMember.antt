@@ -6,12 +6,12 @@ use Rattle.station_io.specs.Sink.{Outlet}
 use Rattle.fleet.specs.declared.member.MemberTurn.{MemberTurn}
 use Rattle.fleet.specs.declared.member.MemberTurn.TheVariants.{More, Ended, Unseen, WriteFault, OutOfMemory}
 use Rattle.fleet.specs.declared.run.FleetEnd.TheVariants as fleet
-use Rattle.fleet.specs.Crew.{Crew, IsReady, OneTurn}
+use Rattle.fleet.specs.Crew.{Crew, CrewIsReady, OneTurn}
 use Rattle.fleet.specs.FleetEnds.{IsUnseenMember, RunsFleet}
 use Rattle.fleet.specs.Log.{Along}
 use Rattle.fleet.specs.MemberTurns.{Turning}
 use Rattle.fleet.specs.OpenStations.{least_unseen}
-use Rattle.fleet.specs.TurnText.{Entry}
+use Rattle.fleet.specs.TurnText.{TurnEntry}
 
 -- the last answer of the station is Unseen, where the first of these is that of station n
 abbrev Found : ℕ → List MemberTurn → ℕ → Type 0
@@ -41,12 +41,12 @@ abbrev AreAbsent : {M : Type 0} → Crew M → Type 0
 AreAbsent crew = (k : ℕ) → length crew.members ≤ k → slice_index_or crew.last k Ended ≡ Ended
 
 module _ {M K : Type 0} (turning : Turning M) (outlet : Outlet K) where
-  absent_after : (old new : Crew M) (e : Entry K) → OneTurn turning outlet old e new → AreAbsent old → AreAbsent new
+  absent_after : (old new : Crew M) (e : TurnEntry K) → OneTurn turning outlet old e new → AreAbsent old → AreAbsent new
   absent_after old new e one absent k past =
       one.answers k (λ at. absurd (omega (arith, past, at, one.as_many, one.is_open.from, one.is_open.to)))
       ∙ absent k (omega (arith, past, one.as_many))
 
-  absent_along : (old new : Crew M) (before after : K) (log : List (Entry K)) → Along turning outlet old before log new after
+  absent_along : (old new : Crew M) (before after : K) (log : List (TurnEntry K)) → Along turning outlet old before log new after
       → AreAbsent old → AreAbsent new
   absent_along old new before after [] along absent = subst (λ (crew : Crew M). AreAbsent crew) (sym along.0) absent
   absent_along old new before after (e ∷ log) along absent =
@@ -59,10 +59,10 @@ module _ {M K : Type 0} (turning : Turning M) (outlet : Outlet K) where
       let past : length crew.members ≤ s - 1 = grind (arith, nat_tests) in
       absurd (let bad : Unseen ≡ Ended = sym found.1 ∙ absent (s - 1) past in cc)
 
-  opening_absent : (crew : Crew M) → IsReady turning crew → AreAbsent crew
+  opening_absent : (crew : Crew M) → CrewIsReady turning crew → AreAbsent crew
   opening_absent crew ready = ready.absent
 
-  pub unseen_member : (seed : ℕ) (old new : Crew M) (before after : K) (station : ℕ) → IsReady turning old
+  pub unseen_member : (seed : ℕ) (old new : Crew M) (before after : K) (station : ℕ) → CrewIsReady turning old
       → RunsFleet turning outlet seed old before (fleet.Unseen station) new after → IsUnseenMember new station
   unseen_member seed old new before after station ready ran =
       let absent = absent_along old new before after ran.log ran.turns (opening_absent old ready) in

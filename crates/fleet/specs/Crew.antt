@@ -7,7 +7,7 @@ use Rattle.fleet.specs.declared.member.MemberTurn.{MemberTurn}
 use Rattle.fleet.specs.declared.member.MemberTurn.TheVariants.{More, Ended, WriteFault}
 use Rattle.fleet.specs.declared.fleet.Fleet.{Fleet}
 use Rattle.fleet.specs.MemberTurns.{Turning}
-use Rattle.fleet.specs.TurnText.{Entry, WritesTurn}
+use Rattle.fleet.specs.TurnText.{TurnEntry, WritesTurn}
 
 -- the members, by the numbers of their stations less one, and the last answer of each station, which is More before its
 -- first turn; the places behind the members have Ended
@@ -20,27 +20,27 @@ abbrev pub crew_of : {M : Type 0} → Fleet M → Crew M
 crew_of fleet = record { members = fleet.members.items; last = fleet.last }
 
 -- the last answer of a station
-abbrev pub last_of : {M : Type 0} → Crew M → ℕ → MemberTurn
-last_of crew station = slice_index_or crew.last (station - 1) Ended
+abbrev pub last_answer_of : {M : Type 0} → Crew M → ℕ → MemberTurn
+last_answer_of crew station = slice_index_or crew.last (station - 1) Ended
 
 -- the station, counted from 1, has not ended
-pub record IsOpen {M : Type 0} (crew : Crew M) (station : ℕ) : Type 0 where
+pub record StationIsOpen {M : Type 0} (crew : Crew M) (station : ℕ) : Type 0 where
   pub from : 1 ≤ station
   pub to : station ≤ length crew.members
-  pub more : last_of crew station ≡ More
+  pub more : last_answer_of crew station ≡ More
 
 -- There are up to eight, each that has not ended may take a turn, and the places behind them have Ended.
-pub record IsReady {M : Type 0} (turning : Turning M) (crew : Crew M) : Type 0 where
+pub record CrewIsReady {M : Type 0} (turning : Turning M) (crew : Crew M) : Type 0 where
   pub few : length crew.members ≤ 8
   pub size : length crew.last ≡ 8
   pub absent : (k : ℕ) → length crew.members ≤ k → slice_index_or crew.last k Ended ≡ Ended
-  pub may_turn : (station : ℕ) (m : M) → slice_get crew.members (station - 1) ≡ Some m → IsOpen crew station → turning.may_turn m
+  pub may_turn : (station : ℕ) (m : M) → slice_get crew.members (station - 1) ≡ Some m → StationIsOpen crew station → turning.may_turn m
 
 -- One turn of a station that had not ended: its member turned, and some text was written, each line with the number of the
 -- station. All other stations stay. A write fault is answered only where the sink's faults rose.
-pub record OneTurn {M K : Type 0} (turning : Turning M) (outlet : Outlet K) (old : Crew M) (e : Entry K) (new : Crew M)
+pub record OneTurn {M K : Type 0} (turning : Turning M) (outlet : Outlet K) (old : Crew M) (e : TurnEntry K) (new : Crew M)
     : Type 0 where
-  pub is_open : IsOpen old e.station
+  pub is_open : StationIsOpen old e.station
   pub before : M
   pub after : M
   pub was : slice_get old.members (e.station - 1) ≡ Some before
@@ -49,7 +49,7 @@ pub record OneTurn {M K : Type 0} (turning : Turning M) (outlet : Outlet K) (old
   pub writes : WritesTurn outlet e written
   pub turned : turning.turned before (e.answer ∷ []) (WritesTurn outlet e) after
   pub falls : e.answer ≡ More → turning.left after < turning.left before
-  pub answered : last_of new e.station ≡ e.answer
+  pub answered : last_answer_of new e.station ≡ e.answer
   pub as_many : length new.members ≡ length old.members
   pub others : (k : ℕ) → k ≢ e.station - 1 → slice_get new.members k ≡ slice_get old.members k
   pub answers : (k : ℕ) → k ≢ e.station - 1 → slice_index_or new.last k Ended ≡ slice_index_or old.last k Ended

@@ -6,41 +6,41 @@ use Rattle.fleet.specs.declared.member.MemberTurn.{MemberTurn}
 use Rattle.fleet.specs.declared.member.MemberTurn.TheVariants as member
 use Rattle.fleet.specs.declared.run.FleetEnd.{FleetEnd}
 use Rattle.fleet.specs.declared.run.FleetEnd.TheVariants as fleet
-use Rattle.fleet.specs.Crew.{Crew, last_of}
+use Rattle.fleet.specs.Crew.{Crew, last_answer_of}
 use Rattle.fleet.specs.Log.{Along, AreDrawn, IsUncut, switches_in}
 use Rattle.fleet.specs.MemberTurns.{Turning}
 use Rattle.fleet.specs.OpenStations.{least_unseen, open_from}
 use Rattle.fleet.specs.StationLines.{AreUncut}
-use Rattle.fleet.specs.TurnText.{AreTextsOf, Entry}
+use Rattle.fleet.specs.TurnText.{AreTextsOf, TurnEntry}
 
 -- the last turn gave this answer
-abbrev pub EndsWith : {K : Type 0} → MemberTurn → List (Entry K) → Type 0
-EndsWith {K} answer log = (front : List (Entry K)) × (e : Entry K) × (log ≡ front ++ e ∷ []) × (e.answer ≡ answer)
+abbrev pub FleetEndsWith : {K : Type 0} → MemberTurn → List (TurnEntry K) → Type 0
+FleetEndsWith {K} answer log = (front : List (TurnEntry K)) × (e : TurnEntry K) × (log ≡ front ++ e ∷ []) × (e.answer ≡ answer)
 
 -- each station's last answer is Ended
 abbrev pub AllEnded : List MemberTurn → Type 0
 AllEnded last = (k : ℕ) → slice_index_or last k member.Ended ≡ member.Ended
 
 -- what the end says of the turns, and of the last answers
-abbrev pub EndsAs : {K : Type 0} → FleetEnd → List (Entry K) → List MemberTurn → Type 0
-EndsAs (fleet.Done turns switches) log last =
+abbrev pub FleetEndsAs : {K : Type 0} → FleetEnd → List (TurnEntry K) → List MemberTurn → Type 0
+FleetEndsAs (fleet.Done turns switches) log last =
     (turns ≡ length log) × (switches ≡ switches_in log) × AllEnded last × AreUncut log
-EndsAs (fleet.Unseen station) log last =
+FleetEndsAs (fleet.Unseen station) log last =
     (open_from 1 last ≡ []) × (least_unseen 1 last ≡ Some station) × IsUncut last × AreUncut log
-EndsAs fleet.WriteFault log last = EndsWith member.WriteFault log
-EndsAs fleet.OutOfMemory log last = EndsWith member.OutOfMemory log
+FleetEndsAs fleet.WriteFault log last = FleetEndsWith member.WriteFault log
+FleetEndsAs fleet.OutOfMemory log last = FleetEndsWith member.OutOfMemory log
 
 -- The turns went to the stations that were drawn behind the seed, and what they wrote was written in their order. A
 -- write fault is answered only where the sink's faults rose.
 pub record RunsFleet {M K : Type 0} (turning : Turning M) (outlet : Outlet K) (seed : ℕ) (old : Crew M) (before : K)
     (end : FleetEnd) (new : Crew M) (after : K) : Type 0 where
-  pub log : List (Entry K)
+  pub log : List (TurnEntry K)
   pub turns : Along turning outlet old before log new after
   pub drawn : AreDrawn seed old.last log
   pub text : List ℕ
   pub texts : AreTextsOf outlet log text
   pub wrote : outlet.wrote before text after
-  pub ends : EndsAs end log new.last
+  pub ends : FleetEndsAs end log new.last
   pub cause : Cause (outlet.faults before) (outlet.faults after) (end ≡ fleet.WriteFault)
   pub still : end ≢ fleet.WriteFault → outlet.faults after ≡ outlet.faults before
 
@@ -48,4 +48,4 @@ pub record RunsFleet {M K : Type 0} (turning : Turning M) (outlet : Outlet K) (s
 pub record IsUnseenMember {M : Type 0} (crew : Crew M) (station : ℕ) : Type 0 where
   pub from : 1 ≤ station
   pub to : station ≤ length crew.members
-  pub unseen : last_of crew station ≡ member.Unseen
+  pub unseen : last_answer_of crew station ≡ member.Unseen

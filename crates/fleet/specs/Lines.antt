@@ -15,27 +15,27 @@ lead digit Inside = []
 lead digit Stuck = []
 
 -- where the pen is behind a byte, by whether that is a line feed
-abbrev pub behind : Bool → Pen
-behind true = AtStart
-behind false = Inside
+abbrev pub pen_behind : Bool → Pen
+pen_behind true = AtStart
+pen_behind false = Inside
 
 -- where it is behind these bytes
 abbrev pub pen_after : Pen → List ℕ → Pen
 pen_after pen [] = pen
-pen_after pen (b ∷ bs) = pen_after (behind (b == 10)) bs
+pen_after pen (b ∷ bs) = pen_after (pen_behind (b == 10)) bs
 
 -- the bytes, each line with its head
-abbrev pub numbered : ℕ → Pen → List ℕ → List ℕ
-numbered digit pen [] = []
-numbered digit pen (b ∷ bs) = lead digit pen ++ b ∷ numbered digit (behind (b == 10)) bs
+abbrev pub numbered_lines : ℕ → Pen → List ℕ → List ℕ
+numbered_lines digit pen [] = []
+numbered_lines digit pen (b ∷ bs) = lead digit pen ++ b ∷ numbered_lines digit (pen_behind (b == 10)) bs
 
 -- the bytes are whole lines: behind them a line begins
 abbrev pub AreLines : List ℕ → Type 0
 AreLines bytes = pen_after AtStart bytes ≡ AtStart
 
 -- each line with the number of the station, a digit, and a space before it
-abbrev pub with_number : ℕ → List ℕ → List ℕ
-with_number station bytes = numbered (48 + station) AtStart bytes
+abbrev pub with_station_number : ℕ → List ℕ → List ℕ
+with_station_number station bytes = numbered_lines (48 + station) AtStart bytes
 
 -- whether a write failed
 abbrev pub is_stuck : Pen → Bool
@@ -46,13 +46,13 @@ is_stuck Stuck = true
 -- the pen came from here to there as these bytes became that text; behind the text of bytes that were cut off a part of
 -- the next head may stand
 abbrev pub Reaches : ℕ → Pen → List ℕ → Pen → List ℕ → Type 0
-Reaches digit from bytes AtStart text = (AtStart ≡ pen_after from bytes) × (text ≡ numbered digit from bytes)
-Reaches digit from bytes Inside text = (Inside ≡ pen_after from bytes) × (text ≡ numbered digit from bytes)
+Reaches digit from bytes AtStart text = (AtStart ≡ pen_after from bytes) × (text ≡ numbered_lines digit from bytes)
+Reaches digit from bytes Inside text = (Inside ≡ pen_after from bytes) × (text ≡ numbered_lines digit from bytes)
 Reaches digit from bytes Stuck text =
-    (part : List ℕ) × IsFrontOf part (head digit) × (text ≡ numbered digit from bytes ++ part)
+    (part : List ℕ) × IsFrontOf part (head digit) × (text ≡ numbered_lines digit from bytes ++ part)
 
 -- the same, where a pen that is stuck stays so
-abbrev pub Spells : ℕ → Pen → List ℕ → Pen → List ℕ → Type 0
-Spells digit AtStart bytes to text = Reaches digit AtStart bytes to text
-Spells digit Inside bytes to text = Reaches digit Inside bytes to text
-Spells digit Stuck bytes to text = (to ≡ Stuck) × (bytes ≡ []) × (text ≡ [])
+abbrev pub PenSpells : ℕ → Pen → List ℕ → Pen → List ℕ → Type 0
+PenSpells digit AtStart bytes to text = Reaches digit AtStart bytes to text
+PenSpells digit Inside bytes to text = Reaches digit Inside bytes to text
+PenSpells digit Stuck bytes to text = (to ≡ Stuck) × (bytes ≡ []) × (text ≡ [])

@@ -2,22 +2,22 @@
 use Rattle.std.specs.Prelude.{ℕ, ◌≡◌, ◌≢◌, ◌+◌, ◌-◌, ◌==◌, not, Bool, true, false, if◌then◌else◌, List, [], ◌∷◌, slice_get, slice_index_or, Option, Some, None}
 use Rattle.std.proofs.Common.{set}
 use Rattle.station_io.specs.Sink.{Outlet}
-use Rattle.draws.specs.Draws.{next}
+use Rattle.draws.specs.Draws.{next_draw}
 use Rattle.fleet.specs.declared.member.MemberTurn.{MemberTurn}
 use Rattle.fleet.specs.declared.member.MemberTurn.TheVariants.{Ended, WriteFault, OutOfMemory}
 use Rattle.fleet.specs.Crew.{Crew, OneTurn}
 use Rattle.fleet.specs.MemberTurns.{Both, Turning}
 use Rattle.fleet.specs.OpenStations.{is_more, open_from, chosen}
-use Rattle.fleet.specs.TurnText.{Entry, WritesTurn}
+use Rattle.fleet.specs.TurnText.{TurnEntry, WritesTurn}
 
 -- turns one after another, of these stations over this sink
-abbrev pub Along : {M K : Type 0} → Turning M → Outlet K → Crew M → K → List (Entry K) → Crew M → K → Type 0
+abbrev pub Along : {M K : Type 0} → Turning M → Outlet K → Crew M → K → List (TurnEntry K) → Crew M → K → Type 0
 Along turning outlet old before [] new after = (new ≡ old) × (after ≡ before)
 Along {M} turning outlet old before (e ∷ log) new after = (mid : Crew M) × (e.before ≡ before)
     × OneTurn turning outlet old e mid × Along turning outlet mid e.after log new after
 
 -- the answers to the turns of a station, in order
-abbrev pub answers_of : {K : Type 0} → ℕ → List (Entry K) → List MemberTurn
+abbrev pub answers_of : {K : Type 0} → ℕ → List (TurnEntry K) → List MemberTurn
 answers_of station [] = []
 answers_of station (e ∷ log) = if e.station == station then e.answer ∷ answers_of station log else answers_of station log
 
@@ -27,35 +27,35 @@ BothIf true P Q = Both P Q
 BothIf false P Q = Q
 
 -- the station wrote these bytes in its turns
-abbrev pub WrittenBy : {K : Type 0} → Outlet K → ℕ → List (Entry K) → List ℕ → Type 0
+abbrev pub WrittenBy : {K : Type 0} → Outlet K → ℕ → List (TurnEntry K) → List ℕ → Type 0
 WrittenBy outlet station [] = λ bytes. bytes ≡ []
 WrittenBy outlet station (e ∷ log) =
     BothIf (e.station == station) (WritesTurn outlet e) (WrittenBy outlet station log)
 
 -- Whatever the order of the turns, a station is its opening member after its own turns.
-abbrev pub IsAlone : {M K : Type 0} → Turning M → Outlet K → Crew M → List (Entry K) → Crew M → ℕ → Type 0
+abbrev pub IsAlone : {M K : Type 0} → Turning M → Outlet K → Crew M → List (TurnEntry K) → Crew M → ℕ → Type 0
 IsAlone {M} turning outlet old log new station = (before : M) (after : M)
     → slice_get old.members (station - 1) ≡ Some before → slice_get new.members (station - 1) ≡ Some after
     → turning.turned before (answers_of station log) (WrittenBy outlet station log) after
 
 -- the last answers of all stations behind these turns
-abbrev pub last_after : {K : Type 0} → List MemberTurn → List (Entry K) → List MemberTurn
-last_after last [] = last
-last_after last (e ∷ log) = last_after (set last (e.station - 1) e.answer) log
+abbrev pub last_answers_after : {K : Type 0} → List MemberTurn → List (TurnEntry K) → List MemberTurn
+last_answers_after last [] = last
+last_answers_after last (e ∷ log) = last_answers_after (set last (e.station - 1) e.answer) log
 
 -- each turn goes to the station that is drawn behind this number among those that have not ended
-abbrev pub AreDrawn : {K : Type 0} → ℕ → List MemberTurn → List (Entry K) → Type 0
+abbrev pub AreDrawn : {K : Type 0} → ℕ → List MemberTurn → List (TurnEntry K) → Type 0
 AreDrawn x last [] = Unit {0}
-AreDrawn x last (e ∷ log) = (e.station ≡ chosen (next x) (open_from 1 last))
-    × AreDrawn (next x) (set last (e.station - 1) e.answer) log
+AreDrawn x last (e ∷ log) = (e.station ≡ chosen (next_draw x) (open_from 1 last))
+    × AreDrawn (next_draw x) (set last (e.station - 1) e.answer) log
 
 -- the number that is reached by so many draws
-abbrev pub reached : {K : Type 0} → ℕ → List (Entry K) → ℕ
+abbrev pub reached : {K : Type 0} → ℕ → List (TurnEntry K) → ℕ
 reached x [] = x
-reached x (e ∷ log) = reached (next x) log
+reached x (e ∷ log) = reached (next_draw x) log
 
 -- the station of the last turn
-abbrev pub last_station : {K : Type 0} → List (Entry K) → Option ℕ
+abbrev pub last_station : {K : Type 0} → List (TurnEntry K) → Option ℕ
 last_station [] = None
 last_station (e ∷ []) = Some e.station
 last_station (e ∷ f ∷ log) = last_station (f ∷ log)
@@ -66,12 +66,12 @@ is_switch None station = false
 is_switch (Some before) station = not (before == station)
 
 -- how often that is so
-abbrev pub switches_after : {K : Type 0} → Option ℕ → List (Entry K) → ℕ
+abbrev pub switches_after : {K : Type 0} → Option ℕ → List (TurnEntry K) → ℕ
 switches_after before [] = 0
 switches_after before (e ∷ log) =
     (if is_switch before e.station then 1 else 0) + switches_after (Some e.station) log
 
-abbrev pub switches_in : {K : Type 0} → List (Entry K) → ℕ
+abbrev pub switches_in : {K : Type 0} → List (TurnEntry K) → ℕ
 switches_in log = switches_after None log
 
 -- how many turns may be left of stations that have not ended: those of each, and the one that ends it

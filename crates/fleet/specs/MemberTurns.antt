@@ -40,7 +40,7 @@ pub record WritesLines {K : Type 0} (outlet : Outlet K) (before : K) (answer : M
 
 -- One turn was taken with this answer, and some text was written; the member turned, whatever that text is. Where more
 -- is to come the next turn may be taken, and fewer are left. A write fault is answered only where the sink's faults rose.
-pub record TakesTurn {M K : Type 0} (turning : Turning M) (outlet : Outlet K) (old : M) (before : K)
+pub record MemberTakesTurn {M K : Type 0} (turning : Turning M) (outlet : Outlet K) (old : M) (before : K)
     (answer : MemberTurn) (new : M) (after : K) : Type 0 where
   pub written : List ℕ
   pub writes : WritesLines outlet before answer after written

@@ -4,19 +4,19 @@ use Rattle.std.proofs.Common.{refl, sym, subst, ◌∙◌, arith}
 use Rattle.causes.specs.Cause.{Rose}
 use Rattle.station_io.specs.declared.sink.Put.{Put}
 use Rattle.station_io.specs.declared.sink.Put.TheVariants.{Done, Failed}
-use Rattle.station_io.specs.Sink.{Outlet, Writes}
+use Rattle.station_io.specs.Sink.{Outlet, SinkWrites}
 use Rattle.fleet.specs.declared.numbered.Numbered.{Numbered}
-use Rattle.fleet.specs.Lines.{Spells, is_stuck}
+use Rattle.fleet.specs.Lines.{PenSpells, is_stuck}
 use Rattle.fleet.specs.PenLaws.{spells_none, spells_joins}
 
 -- Once a write failed none is made any more. A count of faults stands as it was where none failed, and rose where one did.
-pub record Counts (stuck_before stuck_after : Bool) (before after : ℕ) : Type 0 where
+pub record SinkCounts (stuck_before stuck_after : Bool) (before after : ℕ) : Type 0 where
   pub stays : stuck_before ≡ true → stuck_after ≡ true
   pub never_falls : before ≤ after
   pub rose : stuck_before ≡ false → stuck_after ≡ true → Rose before after
   pub still : stuck_after ≡ false → after ≡ before
 
-pub counts_none : (stuck : Bool) (n : ℕ) → Counts stuck stuck n n
+pub counts_none : (stuck : Bool) (n : ℕ) → SinkCounts stuck stuck n n
 counts_none stuck n = record {
   stays = λ yes. yes;
   never_falls = omega arith;
@@ -24,7 +24,7 @@ counts_none stuck n = record {
   still = λ _. refl;
 }
 
-pub counts_joins : (p q r : Bool) (a b c : ℕ) → Counts p q a b → Counts q r b c → Counts p r a c
+pub counts_joins : (p q r : Bool) (a b c : ℕ) → SinkCounts p q a b → SinkCounts q r b c → SinkCounts p r a c
 counts_joins p true r a b c one two = record {
   stays = λ _. two.stays refl;
   never_falls = omega (arith, one.never_falls, two.never_falls);
@@ -45,8 +45,8 @@ pub record WritesNumbered {K : Type 0} (outlet : Outlet K) (old : Numbered K) (b
   pub digit : new.digit ≡ old.digit
   pub text : List ℕ
   pub wrote : outlet.wrote old.out.now text new.out.now
-  pub spells : Spells old.digit old.pen bytes new.pen text
-  pub counts : Counts (is_stuck old.pen) (is_stuck new.pen) (outlet.faults old.out.now) (outlet.faults new.out.now)
+  pub spells : PenSpells old.digit old.pen bytes new.pen text
+  pub counts : SinkCounts (is_stuck old.pen) (is_stuck new.pen) (outlet.faults old.out.now) (outlet.faults new.out.now)
 
 pub writes_none : {K : Type 0} (outlet : Outlet K) (s : Numbered K) → WritesNumbered outlet s [] s
 writes_none outlet s = record {
@@ -66,7 +66,7 @@ writes_joins outlet s t u xs ys one two = record {
   text = one.text ++ two.text;
   wrote = outlet.wrote_joins s.out.now t.out.now u.out.now one.text two.text one.wrote two.wrote;
   spells = spells_joins s.digit s.pen t.pen u.pen xs ys one.text two.text one.spells
-      (subst (λ (n : ℕ). Spells n t.pen ys u.pen two.text) one.digit two.spells);
+      (subst (λ (n : ℕ). PenSpells n t.pen ys u.pen two.text) one.digit two.spells);
   counts = counts_joins (is_stuck s.pen) (is_stuck t.pen) (is_stuck u.pen) (outlet.faults s.out.now) (outlet.faults t.out.now)
       (outlet.faults u.out.now) one.counts two.counts;
 }
@@ -95,6 +95,6 @@ numbered_outlet outlet = record {
 pub record PutsPiece {K : Type 0} (outlet : Outlet K) (old : Numbered K) (piece : List ℕ) (answer : Put) (new : Numbered K)
     : Type 0 where
   pub written : List ℕ
-  pub writes : Writes answer piece written
+  pub writes : SinkWrites answer piece written
   pub wrote : WritesNumbered outlet old written new
   pub stuck : is_stuck new.pen ≡ failed answer

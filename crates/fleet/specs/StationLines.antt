@@ -1,7 +1,7 @@
 -- The lines of one station in the text of all.
 use Rattle.std.specs.Prelude.{ℕ, ◌≢◌, ◌+◌, ◌==◌, Bool, true, false, List, [], ◌∷◌}
 use Rattle.fleet.specs.declared.member.MemberTurn.TheVariants.{WriteFault, OutOfMemory}
-use Rattle.fleet.specs.TurnText.{Entry}
+use Rattle.fleet.specs.TurnText.{TurnEntry}
 
 -- where a reader of the text stands: at the digit of a line, at its space, or within it; the line is of the station, or not
 pub data Place : Type 0 where
@@ -15,18 +15,18 @@ place_behind counts true = Place.AtDigit
 place_behind counts false = Place.Within counts
 
 -- the lines that have this digit before them, without it and the space behind it
-abbrev pub lines_from : ℕ → Place → List ℕ → List ℕ
-lines_from digit place [] = []
-lines_from digit Place.AtDigit (b ∷ bytes) = lines_from digit (Place.AtSpace (b == digit)) bytes
-lines_from digit (Place.AtSpace counts) (b ∷ bytes) = lines_from digit (Place.Within counts) bytes
-lines_from digit (Place.Within true) (b ∷ bytes) = b ∷ lines_from digit (place_behind true (b == 10)) bytes
-lines_from digit (Place.Within false) (b ∷ bytes) = lines_from digit (place_behind false (b == 10)) bytes
+abbrev pub station_lines_from : ℕ → Place → List ℕ → List ℕ
+station_lines_from digit place [] = []
+station_lines_from digit Place.AtDigit (b ∷ bytes) = station_lines_from digit (Place.AtSpace (b == digit)) bytes
+station_lines_from digit (Place.AtSpace counts) (b ∷ bytes) = station_lines_from digit (Place.Within counts) bytes
+station_lines_from digit (Place.Within true) (b ∷ bytes) = b ∷ station_lines_from digit (place_behind true (b == 10)) bytes
+station_lines_from digit (Place.Within false) (b ∷ bytes) = station_lines_from digit (place_behind false (b == 10)) bytes
 
 -- the lines of a station, without its number
-abbrev pub lines_of : ℕ → List ℕ → List ℕ
-lines_of station text = lines_from (48 + station) Place.AtDigit text
+abbrev pub station_lines : ℕ → List ℕ → List ℕ
+station_lines station text = station_lines_from (48 + station) Place.AtDigit text
 
 -- none of the turns was cut off
-abbrev pub AreUncut : {K : Type 0} → List (Entry K) → Type 0
+abbrev pub AreUncut : {K : Type 0} → List (TurnEntry K) → Type 0
 AreUncut [] = Unit {0}
 AreUncut (e ∷ log) = (e.answer ≢ WriteFault) × (e.answer ≢ OutOfMemory) × AreUncut log

@@ -1,5 +1,5 @@
 ghost use Rattle.std.specs.Prelude.{◌≡◌, ◌<◌, ◌≤◌, ◌*◌, ◌^◌, ℕ, [], All, None, IfSome, vec_len, slice_index_or};
-ghost use Rattle.draws.specs.Draws.{next};
+ghost use Rattle.draws.specs.Draws.{next_draw};
 ghost use Rattle.fleet.specs.OpenStations.{chosen, least_unseen, open_from};
 
 use crate::member::{Member, MemberTurn};
@@ -21,18 +21,18 @@ pub struct Fleet<M> {
 }
 
 impl<M: Member> Fleet<M> {
-    ghost use Rattle.fleet.specs.Crew.{IsOpen, IsReady, OneTurn, crew_of};
+    ghost use Rattle.fleet.specs.Crew.{StationIsOpen, CrewIsReady, OneTurn, crew_of};
     ghost use Rattle.fleet.specs.Log.{IsUncut, turns_left};
-    ghost use Rattle.fleet.specs.TurnText.{Entry};
+    ghost use Rattle.fleet.specs.TurnText.{TurnEntry};
 
     /// Takes a turn of this station, counted from 1. Each line that it writes has the station's number and a space before it.
     /// Behind a write that failed a part of the next number may stand.
     pub fn turn<K: Sink>(&mut self, station: u8, out: &mut K) -> MemberTurn
-        requires ready { IsReady M.turning (crew_of self.old) }
-        requires not_ended { IsOpen (crew_of self.old) station }
+        requires ready { CrewIsReady M.turning (crew_of self.old) }
+        requires not_ended { StationIsOpen (crew_of self.old) station }
         ensures turn { OneTurn M.turning K.outlet (crew_of self.old)
             (record { station = station; answer = result; before = out.old; after = out.new }) (crew_of self.new) }
-        ensures ready { IsReady M.turning (crew_of self.new) }
+        ensures ready { CrewIsReady M.turning (crew_of self.new) }
     {
         let place = usize::from(station - 1);
         let mut numbered = Numbered {
@@ -51,8 +51,9 @@ impl<M: Member> Fleet<M> {
         requires few { vec_len members ≤ MOST_STATIONS }
         requires may_turn { All M.turning.may_turn members.items }
         ensures members { (crew_of result).members ≡ members.items }
-        ensures last { (k : ℕ) → k < vec_len members → slice_index_or (crew_of result).last k MemberTurn.Ended ≡ MemberTurn.More }
-        ensures ready { IsReady M.turning (crew_of result) }
+        ensures last { (k : ℕ) → k < vec_len members
+            → slice_index_or (crew_of result).last k MemberTurn.Ended ≡ MemberTurn.More }
+        ensures ready { CrewIsReady M.turning (crew_of result) }
         ensures uncut { IsUncut (crew_of result).last }
         ensures left { (most : ℕ) → All (λ m. M.turning.left m < most) members.items
             → turns_left M.turning (crew_of result).members (crew_of result).last ≤ vec_len members * most }
@@ -66,12 +67,12 @@ impl<M: Member> Fleet<M> {
 
     // The station whose turn it is by the next draw, if one has not ended.
     pub(crate) fn next_station(&self, draws: &mut Draws) -> Option<u8>
-        requires ready { IsReady M.turning (crew_of self.now) }
+        requires ready { CrewIsReady M.turning (crew_of self.now) }
         requires below { draws.old.number < 2 ^ 31 }
         ensures none { result ≡ None → (open_from 1 (crew_of self.now).last ≡ []) × (draws.new ≡ draws.old) }
-        ensures some { IfSome result (λ station. IsOpen (crew_of self.now) station
-            × (station ≡ chosen (next draws.old.number) (open_from 1 (crew_of self.now).last))
-            × (draws.new.number ≡ next draws.old.number)) }
+        ensures some { IfSome result (λ station. StationIsOpen (crew_of self.now) station
+            × (station ≡ chosen (next_draw draws.old.number) (open_from 1 (crew_of self.now).last))
+            × (draws.new.number ≡ next_draw draws.old.number)) }
         ensures below { draws.new.number < 2 ^ 31 }
     {
         let open = open_stations(&self.last);

@@ -1,4 +1,4 @@
-ghost use Rattle.fleet.specs.MemberTurns.{TakesTurn, Turning};
+ghost use Rattle.fleet.specs.MemberTurns.{MemberTakesTurn, Turning};
 
 use station_io::Sink;
 
@@ -25,5 +25,5 @@ pub trait Member {
     /// Takes one turn.
     fn turn<K: Sink>(&mut self, out: &mut K) -> MemberTurn
         requires { turning.may_turn self.old }
-        ensures { TakesTurn turning K.outlet self.old out.old result self.new out.new };
+        ensures { MemberTakesTurn turning K.outlet self.old out.old result self.new out.new };
 }

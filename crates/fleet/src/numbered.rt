@@ -1,5 +1,5 @@
 ghost use Rattle.std.specs.Prelude.{◌≡◌, ◌≤◌, ◌<◌, false, length};
-ghost use Rattle.fleet.specs.Lines.{is_stuck, numbered, pen_after};
+ghost use Rattle.fleet.specs.Lines.{is_stuck, numbered_lines, pen_after};
 
 use crate::pen::Pen;
 use arrayvec::ArrayVec;
@@ -65,7 +65,7 @@ impl<'a, K: Sink> Numbered<'a, K> {
 fn write_heads(digit: u8, mut pen: Pen, piece: &[u8]) -> (ArrayVec<u8, ROOM>, Pen)
     requires free { is_stuck pen ≡ false }
     requires short { length piece.now ≤ PIECE }
-    ensures text { result.0.items ≡ numbered digit pen piece.now }
+    ensures text { result.0.items ≡ numbered_lines digit pen piece.now }
     ensures pen { result.1 ≡ pen_after pen piece.now }
 {
     let mut text = ArrayVec::new();

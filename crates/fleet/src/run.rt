@@ -20,7 +20,7 @@ pub enum FleetEnd {
 }
 
 impl<M: Member> Fleet<M> {
-    ghost use Rattle.fleet.specs.Crew.{IsReady, crew_of};
+    ghost use Rattle.fleet.specs.Crew.{CrewIsReady, crew_of};
     ghost use Rattle.fleet.specs.Log.{IsUncut, turns_left};
     ghost use Rattle.fleet.specs.FleetEnds.{RunsFleet};
 
@@ -28,7 +28,7 @@ impl<M: Member> Fleet<M> {
     /// ends by a delivery that was unseen does not keep the others from going on.
     pub fn run<K: Sink>(&mut self, seed: u32, out: &mut K) -> FleetEnd
         requires seed { seed < 2 ^ 31 }
-        requires ready { IsReady M.turning (crew_of self.old) }
+        requires ready { CrewIsReady M.turning (crew_of self.old) }
         requires few { turns_left M.turning (crew_of self.old).members (crew_of self.old).last < 2 ^ 63 }
         requires uncut { IsUncut (crew_of self.old).last }
         ensures { RunsFleet M.turning K.outlet seed (crew_of self.old) out.old result (crew_of self.new) out.new }

@@ -7,7 +7,7 @@ use Rattle.std.proofs.lemmas.Option.{same_Some}
 use Rattle.disk_model.specs.Calls.{DiskCall, wrote, synced}
 use Rattle.disk_model.specs.declared.disk.Disked.{Disked}
 use Rattle.disk_model.specs.declared.disk.Disked.TheVariants.{Done, Failed}
-use Rattle.disk_model.specs.DiskState.{DiskState, counted, done, next, must_fail, misfit_write, same_truth}
+use Rattle.disk_model.specs.DiskState.{DiskState, call_counted, call_done, next_disk_state, must_fail, misfit_write, same_truth}
 use Rattle.disk_model.specs.StoppingState.{StoppingState, after_stop, and_stop, after_stops, go_on}
 
 abbrev pub going : DiskState → ℕ → ℕ → StoppingState
@@ -18,54 +18,54 @@ halted inner pick = record { inner = inner; armed = 0; pick = pick; stopped = tr
 
 -- a write that was done
 pub wrote_done : (s u : StoppingState) (at len : ℕ) (byte : Option ℕ) → after_stop s (wrote at len byte Done) ≡ Some u
-    → (s.stopped ≡ false) × ((s.armed == 1) ≡ false) × (u ≡ going (done (counted s.inner) (wrote at len byte Done)) (s.armed - 1) s.pick)
+    → (s.stopped ≡ false) × ((s.armed == 1) ≡ false) × (u ≡ going (call_done (call_counted s.inner) (wrote at len byte Done)) (s.armed - 1) s.pick)
 wrote_done s u at len byte h = go s.stopped (s.armed == 1) (must_fail s.inner (wrote at len byte Done)) refl refl h
   where
     go : (t b m : Bool) → s.stopped ≡ t → (s.armed == 1) ≡ b
-        → (if t then None else if b then None else go_on (s.armed - 1) s.pick (if same_truth m false && true then Some (if m then counted s.inner else done (counted s.inner) (wrote at len byte Done)) else None)) ≡ Some u
-        → (s.stopped ≡ false) × ((s.armed == 1) ≡ false) × (u ≡ going (done (counted s.inner) (wrote at len byte Done)) (s.armed - 1) s.pick)
+        → (if t then None else if b then None else go_on (s.armed - 1) s.pick (if same_truth m false && true then Some (if m then call_counted s.inner else call_done (call_counted s.inner) (wrote at len byte Done)) else None)) ≡ Some u
+        → (s.stopped ≡ false) × ((s.armed == 1) ≡ false) × (u ≡ going (call_done (call_counted s.inner) (wrote at len byte Done)) (s.armed - 1) s.pick)
     go true b m e f h = absurd cc
     go false true m e f h = absurd cc
     go false false true e f h = absurd cc
-    go false false false e f h = (e, f, sym (same_Some (going (done (counted s.inner) (wrote at len byte Done)) (s.armed - 1) s.pick) u h))
+    go false false false e f h = (e, f, sym (same_Some (going (call_done (call_counted s.inner) (wrote at len byte Done)) (s.armed - 1) s.pick) u h))
 
 -- a sync that was done
 pub synced_done : (s u : StoppingState) → after_stop s (synced Done) ≡ Some u
-    → (s.stopped ≡ false) × ((s.armed == 1) ≡ false) × (u ≡ going (done (counted s.inner) (synced Done)) (s.armed - 1) s.pick)
+    → (s.stopped ≡ false) × ((s.armed == 1) ≡ false) × (u ≡ going (call_done (call_counted s.inner) (synced Done)) (s.armed - 1) s.pick)
 synced_done s u h = go s.stopped (s.armed == 1) (must_fail s.inner (synced Done)) refl refl h
   where
     go : (t b m : Bool) → s.stopped ≡ t → (s.armed == 1) ≡ b
-        → (if t then None else if b then None else go_on (s.armed - 1) s.pick (if same_truth m false && true then Some (if m then counted s.inner else done (counted s.inner) (synced Done)) else None)) ≡ Some u
-        → (s.stopped ≡ false) × ((s.armed == 1) ≡ false) × (u ≡ going (done (counted s.inner) (synced Done)) (s.armed - 1) s.pick)
+        → (if t then None else if b then None else go_on (s.armed - 1) s.pick (if same_truth m false && true then Some (if m then call_counted s.inner else call_done (call_counted s.inner) (synced Done)) else None)) ≡ Some u
+        → (s.stopped ≡ false) × ((s.armed == 1) ≡ false) × (u ≡ going (call_done (call_counted s.inner) (synced Done)) (s.armed - 1) s.pick)
     go true b m e f h = absurd cc
     go false true m e f h = absurd cc
     go false false true e f h = absurd cc
-    go false false false e f h = (e, f, sym (same_Some (going (done (counted s.inner) (synced Done)) (s.armed - 1) s.pick) u h))
+    go false false false e f h = (e, f, sym (same_Some (going (call_done (call_counted s.inner) (synced Done)) (s.armed - 1) s.pick) u h))
 
 -- a write within which the disk stopped
 pub wrote_stopped : (s u : StoppingState) (at len : ℕ) (byte : Option ℕ) → after_stop s (wrote at len byte Failed) ≡ Some u → s.stopped ≡ false → u.stopped ≡ true
-    → ((s.armed == 1) ≡ true) × (u ≡ halted (next s.inner (wrote at len byte Failed)) s.pick)
+    → ((s.armed == 1) ≡ true) × (u ≡ halted (next_disk_state s.inner (wrote at len byte Failed)) s.pick)
 wrote_stopped s u at len byte h ok stop = go s.stopped (s.armed == 1) (must_fail s.inner (wrote at len byte Failed)) ok refl h
   where
     go : (t b m : Bool) → t ≡ false → (s.armed == 1) ≡ b
-        → (if t then Some (record s { inner = counted s.inner; stopped = true }) else if b then Some (halted (next s.inner (wrote at len byte Failed)) s.pick) else go_on (s.armed - 1) s.pick (if same_truth m true && true then Some (if m then counted s.inner else done (counted s.inner) (wrote at len byte Failed)) else None)) ≡ Some u
-        → ((s.armed == 1) ≡ true) × (u ≡ halted (next s.inner (wrote at len byte Failed)) s.pick)
+        → (if t then Some (record s { inner = call_counted s.inner; stopped = true }) else if b then Some (halted (next_disk_state s.inner (wrote at len byte Failed)) s.pick) else go_on (s.armed - 1) s.pick (if same_truth m true && true then Some (if m then call_counted s.inner else call_done (call_counted s.inner) (wrote at len byte Failed)) else None)) ≡ Some u
+        → ((s.armed == 1) ≡ true) × (u ≡ halted (next_disk_state s.inner (wrote at len byte Failed)) s.pick)
     go true b m e f h = absurd cc
-    go false true m e f h = (f, sym (same_Some (halted (next s.inner (wrote at len byte Failed)) s.pick) u h))
-    go false false true e f h = absurd (let y = same_Some (going (counted s.inner) (s.armed - 1) s.pick) u h in let z : false ≡ true = ap (λ x. x.stopped) y ∙ stop in cc)
+    go false true m e f h = (f, sym (same_Some (halted (next_disk_state s.inner (wrote at len byte Failed)) s.pick) u h))
+    go false false true e f h = absurd (let y = same_Some (going (call_counted s.inner) (s.armed - 1) s.pick) u h in let z : false ≡ true = ap (λ x. x.stopped) y ∙ stop in cc)
     go false false false e f h = absurd cc
 
 -- a sync within which the disk stopped
 pub synced_stopped : (s u : StoppingState) → after_stop s (synced Failed) ≡ Some u → s.stopped ≡ false → u.stopped ≡ true
-    → ((s.armed == 1) ≡ true) × (u ≡ halted (counted s.inner) s.pick)
+    → ((s.armed == 1) ≡ true) × (u ≡ halted (call_counted s.inner) s.pick)
 synced_stopped s u h ok stop = go s.stopped (s.armed == 1) (must_fail s.inner (synced Failed)) ok refl h
   where
     go : (t b m : Bool) → t ≡ false → (s.armed == 1) ≡ b
-        → (if t then Some (record s { inner = counted s.inner; stopped = true }) else if b then Some (halted (counted s.inner) s.pick) else go_on (s.armed - 1) s.pick (if same_truth m true && true then Some (if m then counted s.inner else done (counted s.inner) (synced Failed)) else None)) ≡ Some u
-        → ((s.armed == 1) ≡ true) × (u ≡ halted (counted s.inner) s.pick)
+        → (if t then Some (record s { inner = call_counted s.inner; stopped = true }) else if b then Some (halted (call_counted s.inner) s.pick) else go_on (s.armed - 1) s.pick (if same_truth m true && true then Some (if m then call_counted s.inner else call_done (call_counted s.inner) (synced Failed)) else None)) ≡ Some u
+        → ((s.armed == 1) ≡ true) × (u ≡ halted (call_counted s.inner) s.pick)
     go true b m e f h = absurd cc
-    go false true m e f h = (f, sym (same_Some (halted (counted s.inner) s.pick) u h))
-    go false false true e f h = absurd (let y = same_Some (going (counted s.inner) (s.armed - 1) s.pick) u h in let z : false ≡ true = ap (λ x. x.stopped) y ∙ stop in cc)
+    go false true m e f h = (f, sym (same_Some (halted (call_counted s.inner) s.pick) u h))
+    go false false true e f h = absurd (let y = same_Some (going (call_counted s.inner) (s.armed - 1) s.pick) u h in let z : false ≡ true = ap (λ x. x.stopped) y ∙ stop in cc)
     go false false false e f h = absurd cc
 
 -- one call of several
@@ -86,7 +86,7 @@ pub record IsArmed (s : StoppingState) (size armed pick capacity changes bytes :
   pub bytes_are : bytes ≤ s.inner.bytes
 
 -- a write that has room is there
-pub fits_write : (s : DiskState) (at len : ℕ) (byte : Option ℕ) (answer : Disked) → s.fails_at ≡ 0 → at + len ≤ s.limits.capacity → 1 ≤ s.changes → len ≤ s.bytes → next s (wrote at len byte answer) ≡ done (counted s) (wrote at len byte answer)
+pub fits_write : (s : DiskState) (at len : ℕ) (byte : Option ℕ) (answer : Disked) → s.fails_at ≡ 0 → at + len ≤ s.limits.capacity → 1 ≤ s.changes → len ≤ s.bytes → next_disk_state s (wrote at len byte answer) ≡ call_done (call_counted s) (wrote at len byte answer)
 fits_write s at len byte answer sure room changes bytes =
     let a : (s.fails_at == 1) ≡ false = grind (arith, nat_tests, sure) in
     let b : misfit_write s.limits.capacity s.changes s.bytes at len ≡ false = grind (arith, nat_tests) in
@@ -103,7 +103,7 @@ pub record Written (s u : StoppingState) (at len : ℕ) : Type 0 where
   pub changes : u.inner.changes ≡ s.inner.changes - 1
   pub bytes : u.inner.bytes ≡ s.inner.bytes - len
 
-pub written : (s u : StoppingState) (at len : ℕ) (byte : Option ℕ) (armed : ℕ) → u ≡ going (done (counted s.inner) (wrote at len byte Done)) (s.armed - 1) s.pick → Written s u at len
+pub written : (s u : StoppingState) (at len : ℕ) (byte : Option ℕ) (armed : ℕ) → u ≡ going (call_done (call_counted s.inner) (wrote at len byte Done)) (s.armed - 1) s.pick → Written s u at len
 written s u at len byte armed e = record {
   armed = ap (λ x. x.armed) e;
   pick = ap (λ x. x.pick) e;
@@ -127,7 +127,7 @@ pub record AfterSync (s u : StoppingState) : Type 0 where
   pub bytes : u.inner.bytes ≡ s.inner.bytes
   pub goes : u.stopped ≡ false
 
-pub after_sync : (s u : StoppingState) → u ≡ going (done (counted s.inner) (synced Done)) (s.armed - 1) s.pick → AfterSync s u
+pub after_sync : (s u : StoppingState) → u ≡ going (call_done (call_counted s.inner) (synced Done)) (s.armed - 1) s.pick → AfterSync s u
 after_sync s u e = record {
   armed = ap (λ x. x.armed) e;
   pick = ap (λ x. x.pick) e;
@@ -275,22 +275,22 @@ pub wrote_fails : (s u : StoppingState) (at len : ℕ) (byte : Option ℕ) → a
 wrote_fails s u at len byte h ok fit = go s.stopped (s.armed == 1) (must_fail s.inner (wrote at len byte Failed)) ok fit h
   where
     go : (t b m : Bool) → t ≡ false → m ≡ false
-        → (if t then Some (record s { inner = counted s.inner; stopped = true }) else if b then Some (halted (next s.inner (wrote at len byte Failed)) s.pick) else go_on (s.armed - 1) s.pick (if same_truth m true && true then Some (if m then counted s.inner else done (counted s.inner) (wrote at len byte Failed)) else None)) ≡ Some u
+        → (if t then Some (record s { inner = call_counted s.inner; stopped = true }) else if b then Some (halted (next_disk_state s.inner (wrote at len byte Failed)) s.pick) else go_on (s.armed - 1) s.pick (if same_truth m true && true then Some (if m then call_counted s.inner else call_done (call_counted s.inner) (wrote at len byte Failed)) else None)) ≡ Some u
         → u.stopped ≡ true
     go true b m e f h = absurd cc
     go false b true e f h = absurd cc
-    go false true false e f h = sym (ap (λ x. x.stopped) (same_Some (halted (next s.inner (wrote at len byte Failed)) s.pick) u h))
+    go false true false e f h = sym (ap (λ x. x.stopped) (same_Some (halted (next_disk_state s.inner (wrote at len byte Failed)) s.pick) u h))
     go false false false e f h = absurd cc
 
 pub synced_fails : (s u : StoppingState) → after_stop s (synced Failed) ≡ Some u → s.stopped ≡ false → must_fail s.inner (synced Failed) ≡ false → u.stopped ≡ true
 synced_fails s u h ok fit = go s.stopped (s.armed == 1) (must_fail s.inner (synced Failed)) ok fit h
   where
     go : (t b m : Bool) → t ≡ false → m ≡ false
-        → (if t then Some (record s { inner = counted s.inner; stopped = true }) else if b then Some (halted (counted s.inner) s.pick) else go_on (s.armed - 1) s.pick (if same_truth m true && true then Some (if m then counted s.inner else done (counted s.inner) (synced Failed)) else None)) ≡ Some u
+        → (if t then Some (record s { inner = call_counted s.inner; stopped = true }) else if b then Some (halted (call_counted s.inner) s.pick) else go_on (s.armed - 1) s.pick (if same_truth m true && true then Some (if m then call_counted s.inner else call_done (call_counted s.inner) (synced Failed)) else None)) ≡ Some u
         → u.stopped ≡ true
     go true b m e f h = absurd cc
     go false b true e f h = absurd cc
-    go false true false e f h = sym (ap (λ x. x.stopped) (same_Some (halted (counted s.inner) s.pick) u h))
+    go false true false e f h = sym (ap (λ x. x.stopped) (same_Some (halted (call_counted s.inner) s.pick) u h))
     go false false false e f h = absurd cc
 
 -- a batch that has room fails by a stop alone

@@ -9,8 +9,8 @@ use Rattle.gated_log.specs.Version.{version_in, version_of, is_refused}
 use Rattle.gated_log.specs.declared.version.Version.{Version}
 use Rattle.gated_log.specs.declared.version.Version.TheVariants.{First, Second}
 use Rattle.gated_log.specs.Chain.{IsChain}
-use Rattle.gated_log.specs.Stands.{Closed, Opened, Has}
-use Rattle.gated_log.specs.Appending.{IsHanded, handed, behind_gate}
+use Rattle.gated_log.specs.Stands.{GateIsClosed, Opened, ImageHas}
+use Rattle.gated_log.specs.Appending.{IsHanded, handed_slots, behind_gate}
 use Rattle.std.proofs.Common.{◌∷◌, [], take, sym}
 use Rattle.gated_log.proofs.Chains.{small_test, large_test, log_closed, log_opened, log_small, first_front, first_read, gate_place}
 use Rattle.gated_log.specs.Layout.{empty_size}
@@ -38,15 +38,15 @@ version_front before c rest slots is current parts =
     not_first c (ap begins_first parts ∙ first_front before rest (omega (arith, gate_place before slots is)) ∙ current)
 
 -- an image whose chain ends at a closed gate, or at an open one
-pub has_closed : (before : List ℕ) (slots : List (List ℕ)) (c : List ℕ) (is : IsChain before slots) → begins_first before ≡ false → Closed before c → Has slots c
+pub has_closed : (before : List ℕ) (slots : List (List ℕ)) (c : List ℕ) (is : IsChain before slots) → begins_first before ≡ false → GateIsClosed before c → ImageHas slots c
 has_closed before slots c is current closed = (log_closed before slots c is closed, version_front before c (0 ∷ closed.0) slots is current closed.1)
 
-pub has_opened : (before bytes c : List ℕ) (slots : List (List ℕ)) (is : IsChain before slots) → begins_first before ≡ false → IsHanded bytes → Opened before (behind_gate bytes) c → Has (slots ++ handed bytes) c
+pub has_opened : (before bytes c : List ℕ) (slots : List (List ℕ)) (is : IsChain before slots) → begins_first before ≡ false → IsHanded bytes → Opened before (behind_gate bytes) c → ImageHas (slots ++ handed_slots bytes) c
 has_opened before bytes c slots is current h open_is =
     (log_opened before bytes c slots is h open_is, version_front before c (open_is.gate ∷ (behind_gate bytes ++ open_is.rest)) slots is current open_is.image_is)
 
 -- and one that is no longer than an archive without slots
-pub has_none : (c : List ℕ) → length c ≤ empty_size → Has [] c
+pub has_none : (c : List ℕ) → length c ≤ empty_size → ImageHas [] c
 has_none c short = (log_small c (small_test (length c) (omega arith)), short_version c short)
 
 -- what the first bytes of a longer image tell

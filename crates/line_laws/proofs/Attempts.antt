@@ -6,25 +6,25 @@ use Rattle.dmpaft_driver.specs.Attempt.{Heads, Requests, Attempt, End, esc}
 use Rattle.dmpaft_pump.specs.Command.{dmpaft}
 use Rattle.console_model.specs.Spelling.{plan_after}
 use Rattle.console_model.specs.declared.frame.FrameKind.TheVariants.{ForDump}
-use Rattle.console_model.specs.Console.State.{Frame}
+use Rattle.console_model.specs.Console.ConsoleState.{Frame}
 use Rattle.console_model.specs.Tick.{tick}
 use Rattle.schedule_file.specs.Fates.{Fates}
 use Rattle.station_sim.specs.Delivery.{delivered}
-use Rattle.station_sim.specs.Line.{Line, flies, hears, counted, says, due_all}
+use Rattle.station_sim.specs.Line.{Line, flies, hears, message_counted, says_byte, due_all}
 use Rattle.station_sim.specs.Sound.{IsSound, AreSound}
 use Rattle.station_sim.proofs.Sounding.{sound_talk}
 use Rattle.station_sim.specs.Calm.{pending, FewWaits, AreMild, IsCalm, IsBrief, count_bytes}
 use Rattle.serial_link.specs.declared.talk.TalkItem.{TalkItem}
-use Rattle.station_sim.specs.Talk.{step, console_talk}
+use Rattle.station_sim.specs.Talk.{line_step, console_talk}
 use Rattle.serial_link.specs.declared.talk.TalkItem.TheVariants.{Said, Heard, Quiet}
 use Rattle.line_laws.specs.Unharmed.{Rested}
-use Rattle.line_laws.specs.Host.{Listens, GathersPages}
+use Rattle.line_laws.specs.Host.{OnlyListens, GathersPages}
 use Rattle.serial_link.specs.Talk.{message}
 use Rattle.wake_retry.specs.Parts.{settled_waits}
 use Rattle.station_sim.specs.Joining.{and_then_some, talks_part}
 use Rattle.station_sim.proofs.OneByOne.{tick_begins}
 use Rattle.line_laws.proofs.Flight.{flight_law}
-use Rattle.line_laws.proofs.Listening.{bytes_of, Closed}
+use Rattle.line_laws.proofs.Listening.{bytes_of, EndsInByte}
 use Rattle.line_laws.proofs.Asked.{at_state}
 use Rattle.line_laws.proofs.Delivery.{delivered_length}
 use Rattle.line_laws.proofs.Settling.{Still-listens}
@@ -38,16 +38,16 @@ use Rattle.line_laws.proofs.Waking.{sound_history, wake_no_flood, own_plan, own_
 use Rattle.line_laws.proofs.Heading.{Begins, heads_law, short_frame, at_console}
 
 -- while nothing is said no message and no dump begins
-pub listens_begun : (f : Fates) (t : List TalkItem) (w v : Line) → Listens t → console_talk f t w ≡ Some v → (v.begun ≡ w.begun) × (v.dumps ≡ w.dumps)
+pub listens_begun : (f : Fates) (t : List TalkItem) (w v : Line) → OnlyListens t → console_talk f t w ≡ Some v → (v.begun ≡ w.begun) × (v.dumps ≡ w.dumps)
 listens_begun f [] w v s e = let q = same_Some w v e in (ap (λ x. x.begun) (sym q), ap (λ x. x.dumps) (sym q))
 listens_begun f (Said b ends ∷ t) w v s e = absurd s
 listens_begun f (Heard b ∷ t) w v s e =
-    let g = and_then_some (step f (Heard b) w) (console_talk f t) v e in
+    let g = and_then_some (line_step f (Heard b) w) (console_talk f t) v e in
     let q = hearing_is w.flight b w g.0 refl g.1 in
     let k = listens_begun f t g.0 v s g.2 in
     (k.0 ∙ ap (λ x. x.begun) q.2, k.1 ∙ ap (λ x. x.dumps) q.2)
 listens_begun f (Quiet ∷ t) w v s e =
-    let g = and_then_some (step f Quiet w) (console_talk f t) v e in
+    let g = and_then_some (line_step f Quiet w) (console_talk f t) v e in
     let q = waiting_is w.flight f w g.0 refl g.1 in
     let k = listens_begun f t g.0 v s g.2 in
     let c = w.console in (
@@ -58,9 +58,9 @@ listens_begun f (Quiet ∷ t) w v s e =
 -- the host gives up after it strayed
 stray_ends : (f : Fates) → AreMild f → (w u v : Line) → Strayed w u → console_talk f esc u ≡ Some v → v.unseen ≡ None → IsCalm v × (v.dumps ≡ w.dumps)
 stray_ends f mild w u v k e un =
-    let is : says f 27 true u ≡ v = same_Some _ v e in
+    let is : says_byte f 27 true u ≡ v = same_Some _ v e in
     let q = gives_up k.history k.plan k.low k.high 5000 f mild u k.begun k.tame (ap (λ x. x.unseen) is ∙ un) in
-    (subst IsCalm is (tame_calm k.history k.plan k.low (k.high + 1) (5000 + page_size) (says f 27 true u) (omega arith) q.2 q.0), ap (λ x. x.dumps) (sym is) ∙ q.1 ∙ k.dumps)
+    (subst IsCalm is (tame_calm k.history k.plan k.low (k.high + 1) (5000 + page_size) (says_byte f 27 true u) (omega arith) q.2 q.0), ap (λ x. x.dumps) (sym is) ∙ q.1 ∙ k.dumps)
 
 rested_strayed : (w u : Line) → Rested u → u.dumps ≡ w.dumps → Strayed w u
 rested_strayed w u r d = record {
@@ -68,7 +68,7 @@ rested_strayed w u r d = record {
   plan = own_plan u.console.state;
   low = own_sent u.console.state;
   high = own_sent u.console.state;
-  tame = record { near = near_itself u.console r.rests (sound_history u r.sound); few = subst (FewWaits 2 2) (sym r.flight) tt; closed = subst Closed (sym r.flight) tt; size = omega (arith, ap (λ l. length (bytes_of l)) r.flight) };
+  tame = record { near = near_itself u.console r.rests (sound_history u r.sound); few = subst (FewWaits 2 2) (sym r.flight) tt; closed = subst EndsInByte (sym r.flight) tt; size = omega (arith, ap (λ l. length (bytes_of l)) r.flight) };
   begun = r.begun;
   dumps = d;
 }
@@ -76,20 +76,20 @@ rested_strayed w u r d = record {
 -- the host gives up while the console awaits a frame
 await_ends : (f : Fates) → (w u v : Line) → Awaiting [] w u → console_talk f esc u ≡ Some v → IsCalm v × (v.dumps ≡ w.dumps)
 await_ends f w u v k e =
-    let is : says f 27 true u ≡ v = same_Some _ v e in
+    let is : says_byte f 27 true u ≡ v = same_Some _ v e in
     let m = u.begun ++ 27 ∷ [] in
     let got = delivered (f.host (u.messages + 1)) m in
     let rs = f.mids (u.messages + 1) in
-    let q = short_frame k.history k.store k.held f got [] k.idle (counted f m u) (omega (arith, delivered_length (f.host (u.messages + 1)) m, ap (λ x. length (x ++ 27 ∷ [])) k.begun)) in
-    let z : hears f got (counted f m u) ≡ at_console (counted f m u) (at_state k.history k.store k.held (Frame ForDump got) q.0) = ap (λ c. hears f got (at_console (counted f m u) c)) k.console ∙ q.2 in
+    let q = short_frame k.history k.store k.held f got [] k.idle (message_counted f m u) (omega (arith, delivered_length (f.host (u.messages + 1)) m, ap (λ x. length (x ++ 27 ∷ [])) k.begun)) in
+    let z : hears f got (message_counted f m u) ≡ at_console (message_counted f m u) (at_state k.history k.store k.held (Frame ForDump got) q.0) = ap (λ c. hears f got (at_console (message_counted f m u) c)) k.console ∙ q.2 in
     let y = due_framed rs got k.history k.store k.held q.0 in
-    let c : (says f 27 true u).console ≡ at_state y.0 k.store k.held (Frame ForDump got) q.0 = ap (λ x. due_all rs x.console) z ∙ y.1 in
-    let fl : (says f 27 true u).flight ≡ [] = ap (λ x. x.flight) z ∙ k.flight in (
+    let c : (says_byte f 27 true u).console ≡ at_state y.0 k.store k.held (Frame ForDump got) q.0 = ap (λ x. due_all rs x.console) z ∙ y.1 in
+    let fl : (says_byte f 27 true u).flight ≡ [] = ap (λ x. x.flight) z ∙ k.flight in (
       subst IsCalm is (record {
         begun = ap (λ x. x.begun) z;
         brief = subst (λ x. IsBrief x.state x.idle) (sym c) (omega (arith, q.1, k.soon));
-        closed = subst Closed (sym fl) tt;
-        bytes = subst (λ l. count_bytes l + pending (says f 27 true u).console.state < 65000) (sym fl) (omega (arith, pending_at_most (says f 27 true u).console.state));
+        closed = subst EndsInByte (sym fl) tt;
+        bytes = subst (λ l. count_bytes l + pending (says_byte f 27 true u).console.state < 65000) (sym fl) (omega (arith, pending_at_most (says_byte f 27 true u).console.state));
         waits = subst (FewWaits 2 2) (sym fl) tt;
       }),
       ap (λ x. x.dumps) (sym is) ∙ ap (λ x. x.dumps) z ∙ k.dumps,
@@ -99,9 +99,9 @@ await_ends f w u v k e =
 begins_ends : (g : List (List ℕ)) (frame : List ℕ) (f : Fates) → AreMild f → (t : List TalkItem) (w u v : Line) → Begins g frame w t u → console_talk f esc u ≡ Some v → v.unseen ≡ None →
     IsCalm v × (v.dumps ≡ w.dumps ++ record { history = g; frame = frame; plan = plan_after g frame } ∷ [])
 begins_ends g frame f mild t w u v k e un =
-    let is : says f 27 true u ≡ v = same_Some _ v e in
+    let is : says_byte f 27 true u ≡ v = same_Some _ v e in
     let q = gives_up g (plan_after g frame) 0 0 5000 f mild u k.begun k.tame (ap (λ x. x.unseen) is ∙ un) in
-    (subst IsCalm is (tame_calm g (plan_after g frame) 0 (0 + 1) (5000 + page_size) (says f 27 true u) (omega arith) q.2 q.0), ap (λ x. x.dumps) (sym is) ∙ q.1 ∙ k.dumps)
+    (subst IsCalm is (tame_calm g (plan_after g frame) 0 (0 + 1) (5000 + page_size) (says_byte f 27 true u) (omega arith) q.2 q.0), ap (λ x. x.dumps) (sym is) ∙ q.1 ∙ k.dumps)
 
 module _ (f : Fates) (ok : AreSound f) (frame : List ℕ) (six : length frame ≡ 6) where
   heads_end : (talk : List TalkItem) (place : ℕ) (taken : List (List ℕ)) (end : End) (w u v : Line) → Awaiting [] w u → Heads frame talk place taken end → console_talk f talk u ≡ Some v → v.unseen ≡ None → IsCalm v × GathersPages frame w place taken end v

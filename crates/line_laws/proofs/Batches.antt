@@ -9,7 +9,7 @@ use Rattle.archive_record.specs.Record.{ReadsAsRow}
 use Rattle.vantage_frames.specs.Words.{frame_of_words}
 use Rattle.vantage_frames.specs.StampFrame.{date_asked, time_asked, stamp_frame_of}
 use Rattle.console_ring.specs.declared.plan.Plan.{Plan}
-use Rattle.console_ring.specs.History.{retained, newer, is_newer, ring_size}
+use Rattle.console_ring.specs.History.{retained, newer, record_is_newer, ring_size}
 use Rattle.console_ring.specs.Picture.{plan_by, plan_from, plan_of, no_plan}
 use Rattle.console_model.specs.Spelling.{plan_after, date_in, time_in}
 use Rattle.console_model.specs.Valid.{EachFollows}
@@ -25,7 +25,7 @@ use Rattle.station_sim.specs.Calm.{IsCalm}
 use Rattle.station_sim.specs.Sound.{AreRecords, IsSound, AreSound}
 use Rattle.station_sim.proofs.Sounding.{records_front}
 use Rattle.line_laws.specs.Host.{ArePages}
-use Rattle.line_laws.specs.Gathers.{IsStamp, IsFrontOf, newer_held, Gives}
+use Rattle.line_laws.specs.Gathers.{IsStamp, IsFrontOf, newer_held, AttemptGives}
 use Rattle.line_laws.proofs.Attempts.{attempt_law}
 use Rattle.line_laws.proofs.Headers.{plan_small}
 use Rattle.line_laws.proofs.Levels.{level, level_of, Ascend, newer_level, all_ascend}
@@ -116,7 +116,7 @@ module _ (after : Option CivilMinute) (ok : IsStamp after) (h : List (List ℕ))
   plan_is old x new split up above_it few =
       let words = frame_words (date_asked after) (time_asked after) (small_asked after ok).0 (small_asked after ok).1 in
       let c = length h - ring_size in
-      let test = is_newer (date_asked after) (time_asked after) in
+      let test = record_is_newer (date_asked after) (time_asked after) in
       let parts : retained h ≡ drop c old ++ x ∷ new = ap (drop c) split ∙ drop_join c old (x ∷ new) (omega arith) in
       let all : AreRecords (drop c old ++ x ∷ new) = subst AreRecords parts (records_drop c h are) in
       let none : filter test (drop c old) ≡ [] = newer_above after ok (drop c old) (records_front (drop c old) (x ∷ new) all) ∙ filter_up (level after) (drop c old) up in
@@ -126,8 +126,8 @@ module _ (after : Option CivilMinute) (ok : IsStamp after) (h : List (List ℕ))
       let at : position test (retained h) ≡ Some (length (drop c old)) = ap (λ xs. position test xs) parts ∙ found_at test (drop c old) x new none passes in
       let long : length h ≡ length old + suc (length new) = ap length split ∙ length-append old (x ∷ new) in
       let first : c + length (drop c old) ≡ length old = omega (arith, length-drop c old, long) in
-      ap (λ d. plan_by (position (is_newer d (time_in (stamp_frame_of after))) (retained h)) (length h - ring_size) (length h)) words.0
-      ∙ ap (λ t. plan_by (position (is_newer (date_asked after) t) (retained h)) (length h - ring_size) (length h)) words.1
+      ap (λ d. plan_by (position (record_is_newer d (time_in (stamp_frame_of after))) (retained h)) (length h - ring_size) (length h)) words.0
+      ∙ ap (λ t. plan_by (position (record_is_newer (date_asked after) t) (retained h)) (length h - ring_size) (length h)) words.1
       ∙ ap (λ o. plan_by o (length h - ring_size) (length h)) at
       ∙ ap (λ f. plan_from f (length h)) first
 
@@ -136,11 +136,11 @@ module _ (after : Option CivilMinute) (ok : IsStamp after) (h : List (List ℕ))
   plan_none old split up =
       let words = frame_words (date_asked after) (time_asked after) (small_asked after ok).0 (small_asked after ok).1 in
       let c = length h - ring_size in
-      let test = is_newer (date_asked after) (time_asked after) in
+      let test = record_is_newer (date_asked after) (time_asked after) in
       let same : UpTo (level after) (retained h) = subst (λ xs. UpTo (level after) (drop c xs)) (sym split) up in
       let none : filter test (retained h) ≡ [] = newer_above after ok (retained h) (records_drop c h are) ∙ filter_up (level after) (retained h) same in
-      ap (λ d. plan_by (position (is_newer d (time_in (stamp_frame_of after))) (retained h)) (length h - ring_size) (length h)) words.0
-      ∙ ap (λ t. plan_by (position (is_newer (date_asked after) t) (retained h)) (length h - ring_size) (length h)) words.1
+      ap (λ d. plan_by (position (record_is_newer d (time_in (stamp_frame_of after))) (retained h)) (length h - ring_size) (length h)) words.0
+      ∙ ap (λ t. plan_by (position (record_is_newer (date_asked after) t) (retained h)) (length h - ring_size) (length h)) words.1
       ∙ ap (λ o. plan_by o (length h - ring_size) (length h)) (not_found test (retained h) none)
 
   -- what taken pages give is what climbs in the slots that they show
@@ -194,7 +194,7 @@ placed_as after p place (x ∷ taken) e = ap (λ n. batches after n (x ∷ taken
 
 -- one attempt after a stamp
 pub attempt_gives : (f : Fates) → AreSound f → (after : Option CivilMinute) → IsStamp after → (talk : List TalkItem) (place : ℕ) (taken : List (List ℕ)) (end : End) (w v : Line) → IsSound w → IsCalm w
-    → Attempt (stamp_frame_of after) talk place taken end → ConsoleTalk f talk w v → v.unseen ≡ None → IsCalm v × Gives after w (batches after place taken) end v
+    → Attempt (stamp_frame_of after) talk place taken end → ConsoleTalk f talk w v → v.unseen ≡ None → IsCalm v × AttemptGives after w (batches after place taken) end v
 attempt_gives f ok after stamp talk place taken end w v sound calm at e un =
     let q = attempt_law f ok (stamp_frame_of after) (frame_long after) talk place taken end w v sound calm at e un in (
       q.0,

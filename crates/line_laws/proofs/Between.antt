@@ -1,18 +1,18 @@
 -- Between attempts a calm line stays calm: at a tick, and at a record that falls due.
 use Rattle.std.proofs.Common.{Option, Some, None, ◌≡◌, ℕ, ◌+◌, ◌≤◌, ◌==◌, ◌%◌, if◌then◌else◌, Bool, true, false, List, [], ◌∷◌, length, refl, sym, ◌∙◌, ap, subst, arith}
 use Rattle.std.specs.Prelude.{nat_lt}
-use Rattle.console_model.specs.Console.{Store, State, Console, Outcome}
+use Rattle.console_model.specs.Console.{Store, ConsoleState, Console, Outcome}
 use Rattle.console_model.specs.declared.reply.ReplyKind.{ReplyKind}
-use Rattle.console_model.specs.Console.State.{Asleep, Command, Overlong, Frame, Dump, Looping}
+use Rattle.console_model.specs.Console.ConsoleState.{Asleep, Command, Overlong, Frame, Dump, Looping}
 use Rattle.console_model.specs.declared.reply.ReplyKind.TheVariants.{Nothing, Code, Test, Wake, Ack, AckFrame, Page, Packet}
 use Rattle.console_model.specs.Tick.{tick, ticked_in, idle_after}
-use Rattle.console_model.specs.Due.{due, due_in, due_by, in_the_way, hold, put}
+use Rattle.console_model.specs.Due.{due, due_in_state, due_by, in_the_way, hold, put}
 use Rattle.station_base.specs.CivilMinute.{CivilMinute}
-use Rattle.console_model.specs.Hear.{ended}
+use Rattle.console_model.specs.Hear.{dump_ended}
 use Rattle.schedule_file.specs.Fates.{Fates}
 use Rattle.station_sim.specs.Delivery.{delivered, late}
-use Rattle.station_sim.specs.Line.{Line, happens, joins, replied, waited}
-use Rattle.station_sim.specs.Calm.{IsCalm, IsBrief, FewWaits, Closed, AreMild, pending}
+use Rattle.station_sim.specs.Line.{Line, happens, joins, reply_joins, waited}
+use Rattle.station_sim.specs.Calm.{IsCalm, IsBrief, FewWaits, EndsInByte, AreMild, pending}
 use Rattle.station_sim.proofs.Calming.{closed_late, few_late}
 use Rattle.station_sim.proofs.Sounding.{console_joins}
 use Rattle.line_laws.proofs.Listening.{below_three}
@@ -21,7 +21,7 @@ use Rattle.line_laws.proofs.Places.{count_is}
 use Rattle.line_laws.proofs.Plainly.{few_joined, closed_join, begun_joins}
 use Rattle.line_laws.proofs.Floods.{tick_little, joins_bytes, brief_loops}
 
-brief_tick : (s : State) (three much fifth : Bool) (g : List (List ℕ)) (d : Store) (hs : List (List ℕ)) (i : ℕ) → (i + 1 == 3) ≡ three → IsBrief s i → (let c = (ticked_in s three much fifth (at_state g d hs s (idle_after s i))).next in IsBrief c.state c.idle)
+brief_tick : (s : ConsoleState) (three much fifth : Bool) (g : List (List ℕ)) (d : Store) (hs : List (List ℕ)) (i : ℕ) → (i + 1 == 3) ≡ three → IsBrief s i → (let c = (ticked_in s three much fifth (at_state g d hs s (idle_after s i))).next in IsBrief c.state c.idle)
 brief_tick Asleep three much fifth g d hs i e b = tt
 brief_tick (Command []) three true fifth g d hs i e b = tt
 brief_tick (Command []) three false fifth g d hs i e b = tt
@@ -35,7 +35,7 @@ brief_tick (Dump p sent) three true fifth g d hs i e b = tt
 brief_tick (Dump p sent) three false fifth g d hs i e b = tt
 brief_tick (Looping n) three much fifth g d hs i e b = absurd b
 
-few_replied : (f : Fates) → AreMild f → (o : Outcome) (w : Line) → Closed w.flight → FewWaits 2 2 w.flight → FewWaits 2 2 (replied f o w).flight × Closed (replied f o w).flight
+few_replied : (f : Fates) → AreMild f → (o : Outcome) (w : Line) → EndsInByte w.flight → FewWaits 2 2 w.flight → FewWaits 2 2 (reply_joins f o w).flight × EndsInByte (reply_joins f o w).flight
 few_replied f mild o w c a =
     let n = w.replies + 1 in
     let got = delivered (f.reply (w.replies + 1)) o.bytes in (
@@ -43,7 +43,7 @@ few_replied f mild o w c a =
       closed_join w.flight (late (f.late n).waits (f.late n).place got) c (closed_late (f.late n).waits (f.late n).place got),
     )
 
-few_joins : (k : ReplyKind) (f : Fates) → AreMild f → (o : Outcome) (w : Line) → Closed w.flight → FewWaits 2 2 w.flight → FewWaits 2 2 (joins k f o w).flight × Closed (joins k f o w).flight
+few_joins : (k : ReplyKind) (f : Fates) → AreMild f → (o : Outcome) (w : Line) → EndsInByte w.flight → FewWaits 2 2 w.flight → FewWaits 2 2 (joins k f o w).flight × EndsInByte (joins k f o w).flight
 few_joins Nothing f mild o w c a = (a, c)
 few_joins Code f mild o w c a = few_replied f mild o w c a
 few_joins Wake f mild o w c a = few_replied f mild o w c a
@@ -72,20 +72,20 @@ record_if : (P : Console → Type 0) (t : Bool) (a b : Console) → P a → P b 
 record_if P true a b x y = x
 record_if P false a b x y = y
 
-Stays : State → ℕ → Console → Type 0
+Stays : ConsoleState → ℕ → Console → Type 0
 Stays s i c = IsBrief c.state c.idle × (pending c.state ≤ pending s)
 
-due_stays : (s : State) (r : List ℕ) (g : List (List ℕ)) (d : Store) (hs : List (List ℕ)) (i : ℕ) → IsBrief s i → Stays s i (due_in s r (at_state g d hs s i))
+due_stays : (s : ConsoleState) (r : List ℕ) (g : List (List ℕ)) (d : Store) (hs : List (List ℕ)) (i : ℕ) → IsBrief s i → Stays s i (due_in_state s r (at_state g d hs s i))
 unfolding Stays
 due_stays Asleep r g d hs i b = (b, omega arith)
 due_stays (Command []) r g d hs i b = (b, omega arith)
 due_stays (Command (c ∷ line)) r g d hs i b = (b, omega arith)
 due_stays Overlong r g d hs i b = (b, omega arith)
 due_stays (Frame kind got) r g d hs i b = (b, omega arith)
-due_stays (Dump p sent) r g d hs i b = record_if (Stays (Dump p sent) i) (nat_lt (length hs) 64) (hold r (at_state g d hs (Dump p sent) i)) (put r (ended (at_state g d hs (Dump p sent) i))) (tt, omega arith) (tt, omega arith)
+due_stays (Dump p sent) r g d hs i b = record_if (Stays (Dump p sent) i) (nat_lt (length hs) 64) (hold r (at_state g d hs (Dump p sent) i)) (put r (dump_ended (at_state g d hs (Dump p sent) i))) (tt, omega arith) (tt, omega arith)
 due_stays (Looping n) r g d hs i b = absurd b
 
-way_stays : (s : State) (i : ℕ) (way : Option CivilMinute) (r : List ℕ) (c : Console) → Stays s i (due_in c.state r c) → Stays s i c → Stays s i (due_by way r c)
+way_stays : (s : ConsoleState) (i : ℕ) (way : Option CivilMinute) (r : List ℕ) (c : Console) → Stays s i (due_in_state c.state r c) → Stays s i c → Stays s i (due_by way r c)
 way_stays s i None r c put not = put
 way_stays s i (Some newest) r c put not = not
 

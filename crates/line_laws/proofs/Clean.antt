@@ -1,9 +1,9 @@
 -- Listening to a console that rests, where nothing is harmed.
 use Rattle.std.proofs.Common.{◌≡◌, ℕ, zero, suc, ◌+◌, ◌-◌, ◌<◌, ◌≤◌, ◌==◌, if◌then◌else◌, Bool, true, false, ◌⊎◌, inl, inr, List, [], ◌∷◌, ◌++◌, length, Some, refl, sym, ◌∙◌, ap, subst, arith, append-nil}
 use Rattle.std.proofs.lemmas.Option.{same_Some}
-use Rattle.console_model.specs.Console.{Store, State, Outcome}
+use Rattle.console_model.specs.Console.{Store, ConsoleState, Outcome}
 use Rattle.console_model.specs.declared.reply.ReplyKind.{ReplyKind}
-use Rattle.console_model.specs.Console.State.{Asleep, Command, Overlong, Frame, Dump, Looping}
+use Rattle.console_model.specs.Console.ConsoleState.{Asleep, Command, Overlong, Frame, Dump, Looping}
 use Rattle.console_model.specs.declared.reply.ReplyKind.TheVariants.{Nothing, Code, Test, Wake, Ack, AckFrame, Page, Packet}
 use Rattle.console_model.specs.Hear.{hear}
 use Rattle.console_model.specs.Tick.{tick, ticked_in, idle_after}
@@ -12,9 +12,9 @@ use Rattle.station_sim.specs.declared.part.Part.{Part}
 use Rattle.schedule_file.specs.Fates.{Fates}
 use Rattle.station_sim.specs.Delivery.{delivered, late, waits, all_bytes}
 use Rattle.station_sim.specs.declared.part.Part.TheVariants.{Byte, Wait}
-use Rattle.station_sim.specs.Line.{Line, flies, happens, joins, replied, hears, counted, sends, says, is_harmed}
+use Rattle.station_sim.specs.Line.{Line, flies, happens, joins, reply_joins, hears, message_counted, sends_message, says_byte, is_harmed}
 use Rattle.serial_link.specs.declared.talk.TalkItem.{TalkItem}
-use Rattle.station_sim.specs.Talk.{step, console_talk, waiting}
+use Rattle.station_sim.specs.Talk.{line_step, console_talk, waiting}
 use Rattle.station_sim.specs.Calm.{FewWaits}
 use Rattle.wake_retry.specs.Parts.{StillFrom, heard, IsFull, IsShort, Awaits, answer_waits}
 use Rattle.serial_link.specs.declared.talk.TalkItem.TheVariants.{Said, Heard, Quiet}
@@ -39,46 +39,46 @@ pub hears_harmed : (f : Fates) (got : List ℕ) (w : Line) → w.harmed ≤ (hea
 hears_harmed f [] w = omega arith
 hears_harmed f (x ∷ got) w = omega (arith, joins_harmed (hear w.console x).kind f (hear w.console x) w, hears_harmed f got (happens f (hear w.console x) w))
 
-pub sends_harmed : (f : Fates) (m : List ℕ) (w : Line) → w.harmed ≤ (sends f m w).harmed
-sends_harmed f m w = omega (arith, hears_harmed f (delivered (f.host (w.messages + 1)) m) (counted f m w))
+pub sends_harmed : (f : Fates) (m : List ℕ) (w : Line) → w.harmed ≤ (sends_message f m w).harmed
+sends_harmed f m w = omega (arith, hears_harmed f (delivered (f.host (w.messages + 1)) m) (message_counted f m w))
 
 pub goes_harmed : (f : Fates) (t : List TalkItem) (w v : Line) → console_talk f t w ≡ Some v → w.harmed ≤ v.harmed
 goes_harmed f [] w v e = omega (arith, ap (λ x. x.harmed) (same_Some w v e))
-goes_harmed f (Said b false ∷ t) w v e = goes_harmed f t (says f b false w) v e
-goes_harmed f (Said b true ∷ t) w v e = omega (arith, sends_harmed f (w.begun ++ b ∷ []) w, goes_harmed f t (says f b true w) v e)
+goes_harmed f (Said b false ∷ t) w v e = goes_harmed f t (says_byte f b false w) v e
+goes_harmed f (Said b true ∷ t) w v e = omega (arith, sends_harmed f (w.begun ++ b ∷ []) w, goes_harmed f t (says_byte f b true w) v e)
 goes_harmed f (Heard b ∷ t) w v e =
-    let g = and_then_some (step f (Heard b) w) (console_talk f t) v e in
+    let g = and_then_some (line_step f (Heard b) w) (console_talk f t) v e in
     let q = hearing_is w.flight b w g.0 refl g.1 in
     omega (arith, ap (λ x. x.harmed) q.2, goes_harmed f t g.0 v g.2)
 goes_harmed f (Quiet ∷ t) w v e =
-    let g = and_then_some (step f Quiet w) (console_talk f t) v e in
+    let g = and_then_some (line_step f Quiet w) (console_talk f t) v e in
     let q = waiting_is w.flight f w g.0 refl g.1 in
     omega (arith, ap (λ x. x.harmed) q.2, joins_harmed (tick w.console).kind f (tick w.console) (flies w q.0), goes_harmed f t g.0 v g.2)
 
 -- a message that is not harmed is delivered as sent
-pub sent_whole : (f : Fates) (m : List ℕ) (w : Line) → (sends f m w).harmed ≡ w.harmed →
-    (delivered (f.host (w.messages + 1)) m ≡ m) × ((hears f (delivered (f.host (w.messages + 1)) m) (counted f m w)).harmed ≡ (counted f m w).harmed) × ((counted f m w).harmed ≡ w.harmed)
+pub sent_whole : (f : Fates) (m : List ℕ) (w : Line) → (sends_message f m w).harmed ≡ w.harmed →
+    (delivered (f.host (w.messages + 1)) m ≡ m) × ((hears f (delivered (f.host (w.messages + 1)) m) (message_counted f m w)).harmed ≡ (message_counted f m w).harmed) × ((message_counted f m w).harmed ≡ w.harmed)
 sent_whole f m w e = go (is_harmed m (delivered (f.host (w.messages + 1)) m)) refl
   where
-    up : (counted f m w).harmed ≤ (sends f m w).harmed
-    up = hears_harmed f (delivered (f.host (w.messages + 1)) m) (counted f m w)
+    up : (message_counted f m w).harmed ≤ (sends_message f m w).harmed
+    up = hears_harmed f (delivered (f.host (w.messages + 1)) m) (message_counted f m w)
 
     go : (t : Bool) → is_harmed m (delivered (f.host (w.messages + 1)) m) ≡ t →
-        (delivered (f.host (w.messages + 1)) m ≡ m) × ((hears f (delivered (f.host (w.messages + 1)) m) (counted f m w)).harmed ≡ (counted f m w).harmed) × ((counted f m w).harmed ≡ w.harmed)
-    go true q = let z : (counted f m w).harmed ≡ w.harmed + 1 = ap (λ x. w.harmed + (if x then 1 else 0)) q in absurd (omega (arith, up, z, e))
-    go false q = let z : (counted f m w).harmed ≡ w.harmed + 0 = ap (λ x. w.harmed + (if x then 1 else 0)) q in
+        (delivered (f.host (w.messages + 1)) m ≡ m) × ((hears f (delivered (f.host (w.messages + 1)) m) (message_counted f m w)).harmed ≡ (message_counted f m w).harmed) × ((message_counted f m w).harmed ≡ w.harmed)
+    go true q = let z : (message_counted f m w).harmed ≡ w.harmed + 1 = ap (λ x. w.harmed + (if x then 1 else 0)) q in absurd (omega (arith, up, z, e))
+    go false q = let z : (message_counted f m w).harmed ≡ w.harmed + 0 = ap (λ x. w.harmed + (if x then 1 else 0)) q in
         (unharmed m _ q, omega (arith, z, e), omega (arith, z))
 
 -- and so is a reply
-pub reply_whole : (f : Fates) (o : Outcome) (w : Line) → (replied f o w).harmed ≡ w.harmed → delivered (f.reply (w.replies + 1)) o.bytes ≡ o.bytes
+pub reply_whole : (f : Fates) (o : Outcome) (w : Line) → (reply_joins f o w).harmed ≡ w.harmed → delivered (f.reply (w.replies + 1)) o.bytes ≡ o.bytes
 reply_whole f o w e = go (is_harmed o.bytes (delivered (f.reply (w.replies + 1)) o.bytes)) refl
   where
     go : (t : Bool) → is_harmed o.bytes (delivered (f.reply (w.replies + 1)) o.bytes) ≡ t → delivered (f.reply (w.replies + 1)) o.bytes ≡ o.bytes
-    go true q = let z : (replied f o w).harmed ≡ w.harmed + 1 = ap (λ x. w.harmed + (if x then 1 else 0)) q in absurd (omega (arith, z, e))
+    go true q = let z : (reply_joins f o w).harmed ≡ w.harmed + 1 = ap (λ x. w.harmed + (if x then 1 else 0)) q in absurd (omega (arith, z, e))
     go false q = unharmed o.bytes _ q
 
 -- B. a console that is awake and rests stays as it is, while it has not been idle for 32 waits
-abbrev pub Waits : State → Type 0
+abbrev pub Waits : ConsoleState → Type 0
 Waits Asleep = ⊥
 Waits (Command line) = line ≡ []
 Waits Overlong = ⊥
@@ -86,7 +86,7 @@ Waits (Frame kind got) = ⊥
 Waits (Dump p sent) = Unit {0}
 Waits (Looping n) = ⊥
 
-steady_by : (s : State) (three much fifth : Bool) (g : List (List ℕ)) (d : Store) (hs : List (List ℕ)) (i : ℕ) → Waits s → i + 1 < 32 → (i + 1 == 32) ≡ much → ticked_in s three much fifth (at_state g d hs s (idle_after s i)) ≡ silent (at_state g d hs s (i + 1))
+steady_by : (s : ConsoleState) (three much fifth : Bool) (g : List (List ℕ)) (d : Store) (hs : List (List ℕ)) (i : ℕ) → Waits s → i + 1 < 32 → (i + 1 == 32) ≡ much → ticked_in s three much fifth (at_state g d hs s (idle_after s i)) ≡ silent (at_state g d hs s (i + 1))
 steady_by Asleep three much fifth g d hs i r n e = absurd r
 steady_by (Command []) three true fifth g d hs i r n e = absurd (grind arith)
 steady_by (Command []) three false fifth g d hs i r n e = refl
@@ -97,7 +97,7 @@ steady_by (Dump p sent) three true fifth g d hs i r n e = absurd (grind arith)
 steady_by (Dump p sent) three false fifth g d hs i r n e = refl
 steady_by (Looping k) three much fifth g d hs i r n e = absurd r
 
-pub steady : (g : List (List ℕ)) (d : Store) (hs : List (List ℕ)) (s : State) (i : ℕ) → Waits s → i + 1 < 32 → tick (at_state g d hs s i) ≡ silent (at_state g d hs s (i + 1))
+pub steady : (g : List (List ℕ)) (d : Store) (hs : List (List ℕ)) (s : ConsoleState) (i : ℕ) → Waits s → i + 1 < 32 → tick (at_state g d hs s i) ≡ silent (at_state g d hs s (i + 1))
 steady g d hs s i r n = steady_by s _ _ _ g d hs i r n refl
 
 -- the waits among the parts
@@ -120,7 +120,7 @@ waits_late k zero (b ∷ bs) = omega (arith, waits_waits k (Byte b ∷ all_bytes
 waits_late k (suc p) (b ∷ bs) = waits_late k p bs
 
 -- a wait, of a console that stays
-pub steady_quiet : (g : List (List ℕ)) (d : Store) (hs : List (List ℕ)) (s : State) (i : ℕ) (l : List Part) (f : Fates) (w u : Line) → Waits s → w.console ≡ at_state g d hs s i → i + 1 < 32 → w.flight ≡ l → waiting l f w ≡ Some u →
+pub steady_quiet : (g : List (List ℕ)) (d : Store) (hs : List (List ℕ)) (s : ConsoleState) (i : ℕ) (l : List Part) (f : Fates) (w u : Line) → Waits s → w.console ≡ at_state g d hs s i → i + 1 < 32 → w.flight ≡ l → waiting l f w ≡ Some u →
     (m : List Part) × (((w.flight ≡ []) × (m ≡ [])) ⊎ (w.flight ≡ Wait ∷ m)) × (u ≡ record (flies w m) { console = at_state g d hs s (i + 1) })
 steady_quiet g d hs s i [] f w u r c n e q =
     let k : tick w.console ≡ silent (at_state g d hs s (i + 1)) = ap tick c ∙ steady g d hs s i r n in
@@ -138,14 +138,14 @@ full_hears r (Heard b ∷ i ∷ t) s = omega arith
 full_hears r (Quiet ∷ t) s = full_hears (r + 1) t s.1
 
 -- what a console that stays leaves
-pub record Stayed (g : List (List ℕ)) (d : Store) (hs : List (List ℕ)) (s : State) (i n : ℕ) (w : Line) (t : List TalkItem) (v : Line) : Type 0 where
+pub record Stayed (g : List (List ℕ)) (d : Store) (hs : List (List ℕ)) (s : ConsoleState) (i n : ℕ) (w : Line) (t : List TalkItem) (v : Line) : Type 0 where
   pub console : v.console ≡ at_state g d hs s (i + quiets t)
   pub quiet : quiets t ≤ n
   pub bytes : bytes_of w.flight ≡ heard t ++ bytes_of v.flight
   pub begun : v.begun ≡ w.begun
   pub dumps : v.dumps ≡ w.dumps
 
-module _ (g : List (List ℕ)) (d : Store) (hs : List (List ℕ)) (s : State) (rests : Waits s) (f : Fates) where
+module _ (g : List (List ℕ)) (d : Store) (hs : List (List ℕ)) (s : ConsoleState) (rests : Waits s) (f : Fates) where
   stayed_heard : (b i n : ℕ) (t : List TalkItem) (w v : Line) (m : List Part) → w.flight ≡ Byte b ∷ m → Stayed g d hs s i n (flies w m) t v → Stayed g d hs s i n w (Heard b ∷ t) v
   stayed_heard b i n t w v m e k = record { console = k.console; quiet = k.quiet; bytes = ap bytes_of e ∙ ap (λ x. b ∷ x) k.bytes; begun = k.begun; dumps = k.dumps }
 
@@ -169,17 +169,17 @@ module _ (g : List (List ℕ)) (d : Store) (hs : List (List ℕ)) (s : State) (r
   steady_full [] r i w v a c n b e = absurd a
   steady_full (Said x ends ∷ t) r i w v a c n b e = absurd a
   steady_full (Heard x ∷ []) r i w v a c n b e =
-      let q = and_then_some (step f (Heard x) w) (console_talk f []) v e in
+      let q = and_then_some (line_step f (Heard x) w) (console_talk f []) v e in
       let h = hearing_is w.flight x w q.0 refl q.1 in
       stayed_heard x i (waits_of w.flight) [] w v h.0 h.1 (here i (waits_of w.flight) (flies w h.0) v c (sym h.2 ∙ same_Some q.0 v q.2))
   steady_full (Heard x ∷ y ∷ t) r i w v a c n b e =
-      let q = and_then_some (step f (Heard x) w) (console_talk f (y ∷ t)) v e in
+      let q = and_then_some (line_step f (Heard x) w) (console_talk f (y ∷ t)) v e in
       let h = hearing_is w.flight x w q.0 refl q.1 in
       let z = ap (λ l. waits_of l) h.1 in
       stayed_heard x i (waits_of w.flight) (y ∷ t) w v h.0 h.1 (stayed_less i (waits_of h.0) (waits_of w.flight) (y ∷ t) (flies w h.0) v (omega (arith, z))
       (steady_full (y ∷ t) 0 i (flies w h.0) v a c (omega (arith, z)) (omega (arith, ap (λ l. length (bytes_of l)) h.1)) (ap (console_talk f (y ∷ t)) (sym h.2) ∙ q.2)))
   steady_full (Quiet ∷ t) r i w v a c n b e =
-      let q = and_then_some (step f Quiet w) (console_talk f t) v e in
+      let q = and_then_some (line_step f Quiet w) (console_talk f t) v e in
       let h = steady_quiet g d hs s i w.flight f w q.0 rests c (omega arith) refl q.1 in
       elim h.1 [
         | inl z ↦ absurd (omega (arith, full_hears (r + 1) t a.1, b, ap (λ l. length (bytes_of l)) z.0))
@@ -194,11 +194,11 @@ module _ (g : List (List ℕ)) (d : Store) (hs : List (List ℕ)) (s : State) (r
   steady_empty q [] r n i w v a c l b e = (here i (q - r) w v c (same_Some w v e), omega (arith, a.0))
   steady_empty q (Said x ends ∷ t) r n i w v a c l b e = absurd a
   steady_empty q (Heard x ∷ t) r n i w v a c l b e =
-      let k = and_then_some (step f (Heard x) w) (console_talk f t) v e in
+      let k = and_then_some (line_step f (Heard x) w) (console_talk f t) v e in
       let h = hearing_is w.flight x w k.0 refl k.1 in
       absurd (let z : Byte x ∷ h.0 ≡ [] = sym h.1 ∙ l in cc)
   steady_empty q (Quiet ∷ t) r n i w v a c l b e =
-      let k = and_then_some (step f Quiet w) (console_talk f t) v e in
+      let k = and_then_some (line_step f Quiet w) (console_talk f t) v e in
       let h = steady_quiet g d hs s i w.flight f w k.0 rests c (omega (arith, a.0)) refl k.1 in
       elim h.1 [
         | inl z ↦ (let y = steady_empty q t (r + 1) n (i + 1) (record (flies w h.0) { console = at_state g d hs s (i + 1) }) v a.1 refl z.1 (omega arith) (ap (console_talk f t) (sym h.2) ∙ k.2) in
@@ -211,13 +211,13 @@ module _ (g : List (List ℕ)) (d : Store) (hs : List (List ℕ)) (s : State) (r
   steady_still q [] r n i w v a c b e = here i (waits_of w.flight + q) w v c (same_Some w v e)
   steady_still q (Said x ends ∷ t) r n i w v a c b e = absurd a
   steady_still q (Heard x ∷ t) r n i w v a c b e =
-      let k = and_then_some (step f (Heard x) w) (console_talk f t) v e in
+      let k = and_then_some (line_step f (Heard x) w) (console_talk f t) v e in
       let h = hearing_is w.flight x w k.0 refl k.1 in
       let z = ap (λ l. waits_of l) h.1 in
       stayed_heard x i (waits_of w.flight + q) t w v h.0 h.1 (stayed_less i (waits_of h.0 + q) (waits_of w.flight + q) t (flies w h.0) v (omega (arith, z))
       (steady_still q t 0 (n + 1) i (flies w h.0) v a.1 c (omega (arith, z, b)) (ap (console_talk f t) (sym h.2) ∙ k.2)))
   steady_still q (Quiet ∷ t) r n i w v a c b e =
-      let k = and_then_some (step f Quiet w) (console_talk f t) v e in
+      let k = and_then_some (line_step f Quiet w) (console_talk f t) v e in
       let h = steady_quiet g d hs s i w.flight f w k.0 rests c (omega (arith, a.0)) refl k.1 in
       elim h.1 [
         | inl z ↦ (let y = steady_empty q t (r + 1) n (i + 1) (record (flies w h.0) { console = at_state g d hs s (i + 1) }) v a.1 refl z.1 (omega (arith, b)) (ap (console_talk f t) (sym h.2) ∙ k.2) in
@@ -262,12 +262,12 @@ short_none f [] n k r w v a l m b e = omega arith
 short_none f (Said x ends ∷ t) n k r w v a l m b e = a
 short_none f (Heard x ∷ t) zero k r w v a l m b e = omega arith
 short_none f (Heard x ∷ t) (suc n) k r w v a l m b e =
-    let q = and_then_some (step f (Heard x) w) (console_talk f t) v e in
+    let q = and_then_some (line_step f (Heard x) w) (console_talk f t) v e in
     let h = hearing_is w.flight x w q.0 refl q.1 in
     short_none f t n 2 0 q.0 v a.1 (omega arith) (subst (λ y. Ample n 2 y.flight) (sym h.2) (let z : Ample (suc n) k (Byte x ∷ h.0) = subst (Ample (suc n) k) h.1 m in z)) (omega arith) q.2
 short_none f (Quiet ∷ t) zero k r w v a l m b e = omega arith
 short_none f (Quiet ∷ t) (suc n) k r w v a l m b e =
-    let q = and_then_some (step f Quiet w) (console_talk f t) v e in
+    let q = and_then_some (line_step f Quiet w) (console_talk f t) v e in
     let h = waiting_in w.flight f w q.0 refl q.1 in
     let o = tick w.console in
     elim h.1 [

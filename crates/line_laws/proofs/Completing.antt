@@ -2,25 +2,25 @@
 use Rattle.std.proofs.Common.{◌≡◌, ℕ, zero, suc, ◌+◌, ◌-◌, ◌<◌, ◌≤◌, ◌==◌, ◌%◌, if◌then◌else◌, Bool, true, false, ◌&&◌, ◌⊎◌, inl, inr, List, [], ◌∷◌, ◌++◌, length, Some, refl, sym, ◌∙◌, ap, subst, arith, append_assoc, append-nil}
 use Rattle.std.specs.Prelude.{nat_lt}
 use Rattle.std.proofs.lemmas.Option.{same_Some}
-use Rattle.console_model.specs.Console.{Store, State, Console}
+use Rattle.console_model.specs.Console.{Store, ConsoleState, Console}
 use Rattle.console_ring.specs.declared.plan.Plan.{Plan}
-use Rattle.dmpaft_driver.specs.Attempt.{AskFloods, Takes, Misses, Pages, Heads, Requests, Attempt, End, esc}
+use Rattle.dmpaft_driver.specs.Attempt.{AskFloods, TakesPage, Misses, Pages, Heads, Requests, Attempt, End, esc}
 use Rattle.dmpaft_pump.specs.Command.{dmpaft}
 use Rattle.crc_ccitt.specs.Check.{is_good}
-use Rattle.console_model.specs.Spelling.{plan_after, header_of}
+use Rattle.console_model.specs.Spelling.{plan_after, plan_header}
 use Rattle.console_ring.specs.Picture.{page_of}
 use Rattle.console_model.specs.declared.frame.FrameKind.TheVariants.{ForDump}
-use Rattle.console_model.specs.Console.State.{Asleep, Command, Overlong, Frame, Dump, Looping}
+use Rattle.console_model.specs.Console.ConsoleState.{Asleep, Command, Overlong, Frame, Dump, Looping}
 use Rattle.console_model.specs.Tick.{tick, ticked_in, idle_after}
 use Rattle.schedule_file.specs.Fates.{Fates}
 use Rattle.station_sim.specs.Delivery.{delivered}
-use Rattle.station_sim.specs.Line.{Line, flies, happens, replied, hears, counted, sends, due_all}
+use Rattle.station_sim.specs.Line.{Line, flies, happens, reply_joins, hears, message_counted, sends_message, due_all}
 use Rattle.serial_link.specs.declared.talk.TalkItem.{TalkItem}
-use Rattle.station_sim.specs.Talk.{step, console_talk}
+use Rattle.station_sim.specs.Talk.{line_step, console_talk}
 use Rattle.station_sim.specs.Calm.{FewWaits, IsCalm, mids_count}
 use Rattle.serial_link.specs.declared.talk.TalkItem.TheVariants.{Said, Heard, Quiet}
 use Rattle.wake_retry.specs.Parts.{heard, Awaits, answer_waits, settled_waits}
-use Rattle.line_laws.specs.Host.{Listens, Near}
+use Rattle.line_laws.specs.Host.{OnlyListens, Near}
 use Rattle.console_model.specs.Valid.{IsTidy}
 use Rattle.serial_link.specs.Talk.{message}
 use Rattle.vantage_frames.specs.Header.{CanBegin, CannotBegin}
@@ -36,7 +36,7 @@ use Rattle.dmpaft_pump.specs.Page.{is_page_for, has_sequence}
 use Rattle.dmpaft_pump.specs.Pump.{most_askings}
 use Rattle.station_sim.specs.Joining.{and_then_some, talks_part}
 use Rattle.line_laws.proofs.Flight.{flight_law}
-use Rattle.line_laws.proofs.Listening.{listens, bytes_of, Closed, closed_empty}
+use Rattle.line_laws.proofs.Listening.{listens, bytes_of, EndsInByte, closed_empty}
 use Rattle.line_laws.proofs.Asked.{at_state, near_due_all}
 use Rattle.line_laws.proofs.Delivery.{page_length}
 use Rattle.line_laws.proofs.Settling.{Still-listens}
@@ -88,7 +88,7 @@ tidy_if : (t : Bool) (a b : Console) → IsTidy a.state a.held → IsTidy b.stat
 tidy_if true a b x y = x
 tidy_if false a b x y = y
 
-tidy_tick : (s : State) (three much fifth : Bool) (g : List (List ℕ)) (d : Store) (hs : List (List ℕ)) (i : ℕ) → IsTidy s hs → (let c = (ticked_in s three much fifth (at_state g d hs s i)).next in IsTidy c.state c.held)
+tidy_tick : (s : ConsoleState) (three much fifth : Bool) (g : List (List ℕ)) (d : Store) (hs : List (List ℕ)) (i : ℕ) → IsTidy s hs → (let c = (ticked_in s three much fifth (at_state g d hs s i)).next in IsTidy c.state c.held)
 tidy_tick Asleep three much fifth g d hs i t = t
 tidy_tick (Command []) three true fifth g d hs i t = t
 tidy_tick (Command []) three false fifth g d hs i t = t
@@ -103,15 +103,15 @@ tidy_tick (Dump p sent) three false fifth g d hs i t = tt
 tidy_tick (Looping n) three much true g d hs i t = tidy_if (nat_lt 1 n) (at_state g d hs (Looping (n - 1)) i) (at_state g d hs (Command []) 0) t t
 tidy_tick (Looping n) three much false g d hs i t = t
 
-listens_tidy : (f : Fates) (t : List TalkItem) (w v : Line) → Listens t → IsTidy w.console.state w.console.held → console_talk f t w ≡ Some v → IsTidy v.console.state v.console.held
+listens_tidy : (f : Fates) (t : List TalkItem) (w v : Line) → OnlyListens t → IsTidy w.console.state w.console.held → console_talk f t w ≡ Some v → IsTidy v.console.state v.console.held
 listens_tidy f [] w v s k e = subst (λ x. IsTidy x.console.state x.console.held) (same_Some w v e) k
 listens_tidy f (Said b ends ∷ t) w v s k e = absurd s
 listens_tidy f (Heard b ∷ t) w v s k e =
-    let g = and_then_some (step f (Heard b) w) (console_talk f t) v e in
+    let g = and_then_some (line_step f (Heard b) w) (console_talk f t) v e in
     let q = hearing_is w.flight b w g.0 refl g.1 in
     listens_tidy f t g.0 v s (subst (λ x. IsTidy x.console.state x.console.held) (sym q.2) k) g.2
 listens_tidy f (Quiet ∷ t) w v s k e =
-    let g = and_then_some (step f Quiet w) (console_talk f t) v e in
+    let g = and_then_some (line_step f Quiet w) (console_talk f t) v e in
     let q = waiting_is w.flight f w g.0 refl g.1 in
     let c = w.console in
     let y : g.0.console ≡ (tick c).next = ap (λ x. x.console) q.2 ∙ console_joins (tick c).kind f (tick c) (flies w q.0) in
@@ -122,7 +122,7 @@ module _ (frame : List ℕ) (good : is_good frame ≡ true) (f : Fates) (ok : Ar
   is_page g p k bytes records e = page_for k bytes (ap length e ∙ page_length g p k records) (ap is_good e ∙ page_is_good g p k) (ap (has_sequence (k % 256)) e ∙ page_has g p k)
 
   -- each page comes at its first asking
-  takes_clean : (g : List (List ℕ)) (p : Plan) (left k : ℕ) (talk : List TalkItem) (bytes : List ℕ) (w v : Line) → k < p.pages → Takes left k 6 talk bytes → InDump f g p k w → console_talk f talk w ≡ Some v → v.harmed ≡ w.harmed → InDump f g p (k + 1) v
+  takes_clean : (g : List (List ℕ)) (p : Plan) (left k : ℕ) (talk : List TalkItem) (bytes : List ℕ) (w v : Line) → k < p.pages → TakesPage left k 6 talk bytes → InDump f g p k w → console_talk f talk w ≡ Some v → v.harmed ≡ w.harmed → InDump f g p (k + 1) v
   takes_clean g p zero k talk bytes w v n x a e h = absurd x
   takes_clean g p (suc left) k talk bytes w v n (t, rest, split, awaits, inl (page, none, is)) a e h =
       let q : Said 6 true ∷ t ≡ talk = rw (split, none) (sym (append-nil (Said 6 true ∷ t))) in
@@ -165,30 +165,30 @@ module _ (frame : List ℕ) (good : is_good frame ≡ true) (f : Fates) (ok : Ar
   start_dump g d p false rs c e l z = subst (Held p 0 g d 0 (0 + length rs)) (sym e) (due_dump rs p 0 g d 0 [] (omega arith))
 
   pub header_law : (t : List TalkItem) (w u v : Line) → length frame ≡ 6 → (a : Waiting w u) → AreRecords a.history → Awaits answer_waits 7 t → console_talk f (message frame ++ t) u ≡ Some v → v.harmed ≡ u.harmed →
-      (heard t ≡ 6 ∷ header_of (plan_after a.history frame)) × ((0 < (plan_after a.history frame).pages) → InDump f a.history (plan_after a.history frame) 0 v)
+      (heard t ≡ 6 ∷ plan_header (plan_after a.history frame)) × ((0 < (plan_after a.history frame).pages) → InDump f a.history (plan_after a.history frame) 0 v)
   header_law t w u v six a records awaits e h =
       let g = a.history in
       let p = plan_after a.history frame in
       let m = u.begun ++ frame in
       let is : m ≡ frame = ap (λ x. x ++ frame) a.begun in
-      let x = sends f m u in
+      let x = sends_message f m u in
       let e' : console_talk f t x ≡ Some v = sym (frame_goes f frame t u six) ∙ e in
       let z = sent_whole f m u (omega (arith, h, sends_harmed f m u, goes_harmed f t x v e')) in
       let got = delivered (f.host (u.messages + 1)) m in
       let rs = f.mids (u.messages + 1) in
       let o = heading frame (at_state a.history a.store [] (Frame ForDump []) 0) in
-      let y : hears f got (counted f m u) ≡ replied f o (counted f m u) = ap (λ y. hears f y (counted f m u)) (z.0 ∙ is) ∙ ap (λ c. hears f frame (record (counted f m u) { console = c })) a.console
-      ∙ (whole_frame a.history a.store [] f frame a.idle (counted f m u) six).0 ∙ ap (λ o. happens f o (counted f m u)) (good_frame frame (at_state a.history a.store [] (Frame ForDump []) 0) good) in
-      let q = replies_whole f ok.mild o (counted f m u) a.flight (ap (λ x. x.harmed) (sym y) ∙ z.1) in
-      let fl : (replied f o (counted f m u)).flight ≡ x.flight = ap (λ x. x.flight) (sym y) in
+      let y : hears f got (message_counted f m u) ≡ reply_joins f o (message_counted f m u) = ap (λ y. hears f y (message_counted f m u)) (z.0 ∙ is) ∙ ap (λ c. hears f frame (record (message_counted f m u) { console = c })) a.console
+      ∙ (whole_frame a.history a.store [] f frame a.idle (message_counted f m u) six).0 ∙ ap (λ o. happens f o (message_counted f m u)) (good_frame frame (at_state a.history a.store [] (Frame ForDump []) 0) good) in
+      let q = replies_whole f ok.mild o (message_counted f m u) a.flight (ap (λ x. x.harmed) (sym y) ∙ z.1) in
+      let fl : (reply_joins f o (message_counted f m u)).flight ≡ x.flight = ap (λ x. x.flight) (sym y) in
       let few' : FewWaits 2 2 x.flight = subst (FewWaits 2 2) fl q.few in
-      let bytes : bytes_of x.flight ≡ 6 ∷ header_of p = ap bytes_of (sym fl) ∙ q.bytes in
+      let bytes : bytes_of x.flight ≡ 6 ∷ plan_header p = ap bytes_of (sym fl) ∙ q.bytes in
       let size : length (bytes_of x.flight) ≡ 7 = omega (arith, ap length bytes, header_length p) in
       let full = awaits_full f t 7 x v awaits few' (omega (arith, size)) e' in
       let console : x.console ≡ due_all rs (at_state g a.store [] (if p.pages == 0 then Command [] else Dump p 0) 0) = ap (λ x. due_all rs x.console) y in
       let near : Near g p 0 0 x.console = subst (Near g p 0 0) (sym console) (near_due_all g p 0 0 rs (at_state g a.store [] (if p.pages == 0 then Command [] else Dump p 0) 0) (near_start g p a.store [] (p.pages == 0) records)) in
       let l = listens g p 0 0 f t x v (awaits_listens 7 t awaits) near e' in
-      let b = whole_of (6 ∷ header_of p) (heard t) (bytes_of v.flight) (sym bytes ∙ l.bytes) (omega (arith, full.1, header_length p)) in
+      let b = whole_of (6 ∷ plan_header p) (heard t) (bytes_of v.flight) (sym bytes ∙ l.bytes) (omega (arith, full.1, header_length p)) in
       let n : v.messages ≡ u.messages + 1 = listens_messages f t x v (awaits_listens 7 t awaits) e' ∙ ap (λ x. x.messages) y in (
         b.0,
         λ some.
@@ -200,13 +200,13 @@ module _ (frame : List ℕ) (good : is_good frame ≡ true) (f : Fates) (ok : Ar
               idle = 0 + quiets t;
               console = s.console;
               room = λ m. subst (λ k. length c.0 + mids_count f k m ≤ 64) (sym n) (omega (arith, c.1, ok.few u.messages (suc m)));
-              flight = closed_empty v.flight (l.closed (subst Closed fl q.closed)) b.1;
+              flight = closed_empty v.flight (l.closed (subst EndsInByte fl q.closed)) b.1;
               begun = l.begun ∙ ap (λ x. x.begun) y;
               records = records;
             },
       )
 
-  is_header : (t : List TalkItem) (p : Plan) → IsSmall p → heard t ≡ 6 ∷ header_of p → IsHeader (heard t) p.pages p.place
+  is_header : (t : List TalkItem) (p : Plan) → IsSmall p → heard t ≡ 6 ∷ plan_header p → IsHeader (heard t) p.pages p.place
   is_header t p small e = subst (λ b. IsHeader b p.pages p.place) (sym e) (header_made p small)
 
   heads_clean : (talk : List TalkItem) (place : ℕ) (taken : List (List ℕ)) (end : End) (w u v : Line) → length frame ≡ 6 → IsSound u → Waiting w u → Heads frame talk place taken end → console_talk f talk u ≡ Some v → v.harmed ≡ u.harmed → (end ≡ End.Whole) ⊎ (end ≡ End.Refused)

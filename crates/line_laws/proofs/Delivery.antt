@@ -5,7 +5,7 @@ use Rattle.std.proofs.lemmas.List.{length-replicate}
 use Rattle.std.proofs.lemmas.Slice.Eq.{bytes_eq-Decides}
 use Rattle.console_ring.specs.declared.plan.Plan.{Plan}
 use Rattle.console_model.specs.declared.reply.ReplyKind.{ReplyKind}
-use Rattle.console_ring.specs.Picture.{page_of, shown, slot_of, slot_on, slots_before, last_in}
+use Rattle.console_ring.specs.Picture.{page_of, shown, ring_slot, slot_on, slots_before, last_number_in}
 use Rattle.crc_ccitt.specs.Check.{check_bytes}
 use Rattle.station_sim.specs.Sound.{AreRecords}
 use Rattle.crc_ccitt.specs.Check.{is_good}
@@ -68,11 +68,11 @@ get_long [] i ok = length-replicate {A = ℕ} 52 255
 get_long (r ∷ h) zero ok = ok.0.long
 get_long (r ∷ h) (suc i) ok = get_long h i ok.2
 
-pub slot_long : (h : List (List ℕ)) → AreRecords h → (s : ℕ) → length (shown (slot_of h s)) ≡ 52
+pub slot_long : (h : List (List ℕ)) → AreRecords h → (s : ℕ) → length (shown (ring_slot h s)) ≡ 52
 slot_long h ok s = go (nat_lt s (length h))
   where
-    go : (t : Bool) → length (shown (if t then slice_get h (last_in (length h) s) else None)) ≡ 52
-    go true = get_long h (last_in (length h) s) ok
+    go : (t : Bool) → length (shown (if t then slice_get h (last_number_in (length h) s) else None)) ≡ 52
+    go true = get_long h (last_number_in (length h) s) ok
     go false = length-replicate {A = ℕ} 52 255
 
 slots_long : (slot : ℕ → List ℕ) → ((n : ℕ) → length (slot n) ≡ 52) → (n : ℕ) → length (slots_before slot n) ≡ 52 * n

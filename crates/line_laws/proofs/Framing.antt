@@ -4,24 +4,24 @@ use Rattle.std.proofs.lemmas.Option.{same_Some}
 use Rattle.console_model.specs.Console.{Store, Console, Outcome}
 use Rattle.console_ring.specs.declared.plan.Plan.{Plan}
 use Rattle.console_model.specs.declared.frame.FrameKind.TheVariants.{ForDump}
-use Rattle.console_model.specs.Console.State.{Command, Frame}
+use Rattle.console_model.specs.Console.ConsoleState.{Command, Frame}
 use Rattle.console_model.specs.declared.reply.ReplyKind.TheVariants.{Nothing, Code}
 use Rattle.console_model.specs.Tick.{tick, ticked_in}
-use Rattle.console_model.specs.Line.{says}
+use Rattle.console_model.specs.Line.{says_reply}
 use Rattle.station_sim.specs.declared.part.Part.{Part}
 use Rattle.schedule_file.specs.Fates.{Fates}
 use Rattle.station_sim.specs.Delivery.{delivered, late}
 use Rattle.station_sim.specs.declared.part.Part.TheVariants.{Byte, Wait}
-use Rattle.station_sim.specs.Line.{Line, flies, happens, replied}
+use Rattle.station_sim.specs.Line.{Line, flies, happens, reply_joins}
 use Rattle.serial_link.specs.declared.talk.TalkItem.{TalkItem}
-use Rattle.station_sim.specs.Talk.{step, console_talk, hearing, waiting}
+use Rattle.station_sim.specs.Talk.{line_step, console_talk, hearing, waiting}
 use Rattle.station_sim.specs.Calm.{FewWaits, AreMild}
 use Rattle.serial_link.specs.declared.talk.TalkItem.TheVariants.{Said, Heard, Quiet}
 use Rattle.wake_retry.specs.Parts.{heard, IsFull, IsShort, answer_waits}
 use Rattle.station_sim.proofs.Calming.{closed_late, few_late}
-use Rattle.line_laws.specs.Host.{Listens}
+use Rattle.line_laws.specs.Host.{OnlyListens}
 use Rattle.station_sim.specs.Joining.{and_then_some}
-use Rattle.line_laws.proofs.Listening.{bytes_of, Closed, closed_tail, few_less, listens}
+use Rattle.line_laws.proofs.Listening.{bytes_of, EndsInByte, closed_tail, few_less, listens}
 use Rattle.line_laws.proofs.Asked.{at_state}
 use Rattle.line_laws.proofs.Delivery.{delivered_length, bytes_of_late}
 use Rattle.line_laws.proofs.Plainly.{Tame, few_joined, closed_join, bytes_join}
@@ -84,7 +84,7 @@ pub record StillFramed (got : List ℕ) (g : List (List ℕ)) (d : Store) (hs : 
   pub soon : i + quiets t < 3
   pub bytes : bytes_of w.flight ≡ heard t ++ bytes_of v.flight
   pub few : FewWaits 2 2 v.flight
-  pub closed : Closed v.flight
+  pub closed : EndsInByte v.flight
   pub unseen : v.unseen ≡ w.unseen
   pub begun : v.begun ≡ w.begun
   pub dumps : v.dumps ≡ w.dumps
@@ -103,7 +103,7 @@ module _ (h : List (List ℕ)) (p : Plan) (low high : ℕ) (got : List ℕ) (g :
   -- a tick of a console in Frame
   Ticked : ℕ → Outcome → Type 0
   Ticked i o = ((i + 1 < 3) × (o ≡ record { kind = Nothing; bytes = []; completes = false; begins = []; next = at_state g d hs (Frame ForDump got) (i + 1) }))
-      ⊎ ((2 < i + 1) × (o ≡ says Code (33 ∷ []) (at_state g d hs (Command []) (i + 1))))
+      ⊎ ((2 < i + 1) × (o ≡ says_reply Code (33 ∷ []) (at_state g d hs (Command []) (i + 1))))
 
   ticked_frame : (i : ℕ) (three much fifth : Bool) → i < 3 → (i + 1 == 3) ≡ three → Ticked i (ticked_in (Frame ForDump got) three much fifth (at_state g d hs (Frame ForDump got) (i + 1)))
   unfolding Ticked
@@ -117,8 +117,8 @@ module _ (h : List (List ℕ)) (p : Plan) (low high : ℕ) (got : List ℕ) (g :
   Waited : ℕ → ℕ → Line → Line → Type 0
   Waited n i b u = ((i + 1 < 3) × (u ≡ record b { console = at_state g d hs (Frame ForDump got) (i + 1) })) ⊎ ((2 < i + 1) × Tame h p low high (n + 1) u × (u.begun ≡ b.begun) × (u.dumps ≡ b.dumps))
 
-  code_joins : (n i : ℕ) (b : Line) → FewWaits 2 2 b.flight → Closed b.flight → length (bytes_of b.flight) ≤ n →
-      Tame h p low high (n + 1) (replied f (says Code (33 ∷ []) (at_state g d hs (Command []) (i + 1))) b)
+  code_joins : (n i : ℕ) (b : Line) → FewWaits 2 2 b.flight → EndsInByte b.flight → length (bytes_of b.flight) ≤ n →
+      Tame h p low high (n + 1) (reply_joins f (says_reply Code (33 ∷ []) (at_state g d hs (Command []) (i + 1))) b)
   code_joins n i b few closed size =
       let l = late (f.late (b.replies + 1)).waits (f.late (b.replies + 1)).place (delivered (f.reply (b.replies + 1)) (33 ∷ [])) in
       record {
@@ -134,7 +134,7 @@ module _ (h : List (List ℕ)) (p : Plan) (low high : ℕ) (got : List ℕ) (g :
         );
       }
 
-  waited_frame : (n i : ℕ) (b : Line) (o : Outcome) → Ticked i o → FewWaits 2 2 b.flight → Closed b.flight → length (bytes_of b.flight) ≤ n → Waited n i b (happens f o b)
+  waited_frame : (n i : ℕ) (b : Line) (o : Outcome) → Ticked i o → FewWaits 2 2 b.flight → EndsInByte b.flight → length (bytes_of b.flight) ≤ n → Waited n i b (happens f o b)
   unfolding Ticked Waited
   waited_frame n i b o (inl (a, e)) few closed size = inl (a, ap (λ x. happens f x b) e)
   waited_frame n i b o (inr (a, e)) few closed size = inr (
@@ -149,7 +149,7 @@ module _ (h : List (List ℕ)) (p : Plan) (low high : ℕ) (got : List ℕ) (g :
     pub console : w.console ≡ at_state g d hs (Frame ForDump got) i
     pub soon : i < 3
     pub few : FewWaits 2 2 w.flight
-    pub closed : Closed w.flight
+    pub closed : EndsInByte w.flight
     pub size : length (bytes_of w.flight) ≤ n
 
   frame_heard : (b : ℕ) (t : List TalkItem) (n i : ℕ) (w v : Line) (m : List Part) → w.flight ≡ Byte b ∷ m → StillFramed got g d hs i (flies w m) t v ⊎ Unframed h p low high (n - 1) i (flies w m) t v → 1 ≤ n →
@@ -171,7 +171,7 @@ module _ (h : List (List ℕ)) (p : Plan) (low high : ℕ) (got : List ℕ) (g :
   })
   frame_waited t n i w v m c e (inr q) = inr (record { tame = q.tame; late = omega (arith, q.late); heard = q.heard; begun = q.begun; dumps = q.dumps })
 
-  frame_left : (t : List TalkItem) (n i : ℕ) (w u v : Line) → Listens t → 2 < i + 1 → Tame h p low high (n + 1) u → u.begun ≡ w.begun → u.dumps ≡ w.dumps → console_talk f t u ≡ Some v → Unframed h p low high n i w (Quiet ∷ t) v
+  frame_left : (t : List TalkItem) (n i : ℕ) (w u v : Line) → OnlyListens t → 2 < i + 1 → Tame h p low high (n + 1) u → u.begun ≡ w.begun → u.dumps ≡ w.dumps → console_talk f t u ≡ Some v → Unframed h p low high n i w (Quiet ∷ t) v
   frame_left t n i w u v s a k b m e =
       let l = listens h p low high f t u v s k.near e in
       let z = ap length l.bytes in
@@ -183,14 +183,14 @@ module _ (h : List (List ℕ)) (p : Plan) (low high : ℕ) (got : List ℕ) (g :
         dumps = l.dumps ∙ m;
       }
 
-  frame_after : (t : List TalkItem) (n i : ℕ) (w u v : Line) (m : List Part) → Listens t → bytes_of w.flight ≡ bytes_of m → Waited n i (flies w m) u →
+  frame_after : (t : List TalkItem) (n i : ℕ) (w u v : Line) (m : List Part) → OnlyListens t → bytes_of w.flight ≡ bytes_of m → Waited n i (flies w m) u →
       ((i + 1 < 3) → u ≡ record (flies w m) { console = at_state g d hs (Frame ForDump got) (i + 1) } → StillFramed got g d hs (i + 1) (record (flies w m) { console = at_state g d hs (Frame ForDump got) (i + 1) }) t v ⊎ Unframed h p low high n (i + 1) (record (flies w m) { console = at_state g d hs (Frame ForDump got) (i + 1) }) t v) →
       console_talk f t u ≡ Some v → StillFramed got g d hs i w (Quiet ∷ t) v ⊎ Unframed h p low high n i w (Quiet ∷ t) v
   unfolding Waited
   frame_after t n i w u v m s e (inl (a, q)) ih x = frame_waited t n i w v m (at_state g d hs (Frame ForDump got) (i + 1)) e (ih a q)
   frame_after t n i w u v m s e (inr (a, k, b, z)) ih x = inr (frame_left t n i w u v s a k b z x)
 
-  pub frame_listens : (t : List TalkItem) (n i : ℕ) (w v : Line) → Listens t → Known n i w → console_talk f t w ≡ Some v → StillFramed got g d hs i w t v ⊎ Unframed h p low high n i w t v
+  pub frame_listens : (t : List TalkItem) (n i : ℕ) (w v : Line) → OnlyListens t → Known n i w → console_talk f t w ≡ Some v → StillFramed got g d hs i w t v ⊎ Unframed h p low high n i w t v
   frame_listens [] n i w v s k e = inl (subst (λ x. StillFramed got g d hs i w [] x) (same_Some w v e) (record {
     console = k.console ∙ ap (at_state g d hs (Frame ForDump got)) (let z : i ≡ i + 0 = omega arith in z);
     soon = omega (arith, k.soon);
@@ -203,21 +203,21 @@ module _ (h : List (List ℕ)) (p : Plan) (low high : ℕ) (got : List ℕ) (g :
   }))
   frame_listens (Said b ends ∷ t) n i w v s k e = absurd s
   frame_listens (Heard b ∷ t) n i w v s k e =
-      let g' = and_then_some (step f (Heard b) w) (console_talk f t) v e in
+      let g' = and_then_some (line_step f (Heard b) w) (console_talk f t) v e in
       let q = hearing_is w.flight b w g'.0 refl g'.1 in
       frame_heard b t n i w v q.0 q.1 (frame_listens t (n - 1) i (flies w q.0) v s
       (record {
         console = k.console;
         soon = k.soon;
         few = let z : FewWaits 2 2 (Byte b ∷ q.0) = subst (FewWaits 2 2) q.1 k.few in z;
-        closed = closed_tail (Byte b) q.0 (subst Closed q.1 k.closed);
+        closed = closed_tail (Byte b) q.0 (subst EndsInByte q.1 k.closed);
         size = omega (arith, k.size, ap (λ x. length (bytes_of x)) q.1);
       }) (ap (console_talk f t) (sym q.2) ∙ g'.2)) (omega (arith, k.size, ap (λ x. length (bytes_of x)) q.1))
   frame_listens (Quiet ∷ t) n i w v s k e =
-      let g' = and_then_some (step f Quiet w) (console_talk f t) v e in
+      let g' = and_then_some (line_step f Quiet w) (console_talk f t) v e in
       let q = waiting_is w.flight f w g'.0 refl g'.1 in
       let few : FewWaits 2 2 q.0 = elim q.1 [ inl z ↦ subst (FewWaits 2 2) z k.few | inr z ↦ few_less 2 1 q.0 (omega arith) (let y : FewWaits 2 2 (Wait ∷ q.0) = subst (FewWaits 2 2) z k.few in y.1) ] in
-      let closed : Closed q.0 = elim q.1 [ inl z ↦ subst Closed z k.closed | inr z ↦ closed_tail Wait q.0 (subst Closed z k.closed) ] in
+      let closed : EndsInByte q.0 = elim q.1 [ inl z ↦ subst EndsInByte z k.closed | inr z ↦ closed_tail Wait q.0 (subst EndsInByte z k.closed) ] in
       let bytes : bytes_of w.flight ≡ bytes_of q.0 = elim q.1 [ inl z ↦ ap bytes_of z | inr z ↦ ap bytes_of z ] in
       let size : length (bytes_of q.0) ≤ n = omega (arith, k.size, ap length bytes) in
       let o : Waited n i (flies w q.0) g'.0 = subst (Waited n i (flies w q.0)) (sym q.2) (waited_frame n i (flies w q.0) (tick w.console) (tick_frame i w.console k.soon k.console) few closed size) in

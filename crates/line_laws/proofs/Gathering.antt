@@ -4,12 +4,12 @@ use Rattle.std.specs.Prelude.{nat_lt, slice_get}
 use Rattle.std.specs.Prelude.{filter}
 use Rattle.console_ring.specs.declared.plan.Plan.{Plan}
 use Rattle.console_ring.specs.History.{retained, ring_size, ring_pages}
-use Rattle.console_ring.specs.Picture.{last_in, slot_of, plan_from}
+use Rattle.console_ring.specs.Picture.{last_number_in, ring_slot, plan_from}
 use Rattle.line_laws.proofs.Levels.{level_of, Ascend}
 
 -- what a plan shows at a place of a page, and on so many places from one on
 abbrev pub seen_at : List (List ℕ) → Plan → ℕ → ℕ → Option (List ℕ)
-seen_at h p k j = slot_of h (5 * ((p.first_page + k) % ring_pages) + j)
+seen_at h p k j = ring_slot h (5 * ((p.first_page + k) % ring_pages) + j)
 
 abbrev pub seen_from : List (List ℕ) → Plan → ℕ → ℕ → ℕ → List (Option (List ℕ))
 seen_from h p k j zero = []
@@ -46,14 +46,14 @@ Follows a old (x ∷ new) = UpTo (level_of x) old
 -- the slots of the records that have numbers i and on, so many
 abbrev pub run : List (List ℕ) → ℕ → ℕ → List (Option (List ℕ))
 run h i zero = []
-run h i (suc m) = slot_of h (i % ring_size) ∷ run h (i + 1) m
+run h i (suc m) = ring_slot h (i % ring_size) ∷ run h (i + 1) m
 
 run_more : (h : List (List ℕ)) (i m n : ℕ) → run h i (m + n) ≡ run h i m ++ run h (i + m) n
 run_more h i zero n = let a : 0 + n ≡ n = omega arith in let b : i + 0 ≡ i = omega arith in rw (a, b)
 run_more h i (suc m) n =
     let a : suc m + n ≡ suc (m + n) = omega arith in
     let b : i + suc m ≡ i + 1 + m = omega arith in
-    ap (run h i) a ∙ ap (λ l. slot_of h (i % ring_size) ∷ l) (run_more h (i + 1) m n) ∙ ap (λ x. run h i (suc m) ++ run h x n) (sym b)
+    ap (run h i) a ∙ ap (λ l. ring_slot h (i % ring_size) ∷ l) (run_more h (i + 1) m n) ∙ ap (λ x. run h i (suc m) ++ run h x n) (sym b)
 
 run_drop : (h : List (List ℕ)) (m i n : ℕ) → drop m (run h i n) ≡ run h (i + m) (n - m)
 run_drop h zero i n = let a : i + 0 ≡ i = omega arith in let b : n - 0 ≡ n = omega arith in rw (a, b)
@@ -69,7 +69,7 @@ module _ (h : List (List ℕ)) (f n : ℕ) where
   slots_run (suc left) k j a =
       let e = slot_number f k j (omega arith) in
       let b : f - f % ring_size % 5 + 5 * k + (j + 1) ≡ f - f % ring_size % 5 + 5 * k + j + 1 = omega arith in
-      ap (λ s. slot_of h s ∷ seen_from h (plan_from f n) k (j + 1) left) e ∙ ap (λ l. slot_of h ((f - f % ring_size % 5 + 5 * k + j) % ring_size) ∷ l) (slots_run left k (j + 1) (omega arith) ∙ ap (λ x. run h x left) b)
+      ap (λ s. ring_slot h s ∷ seen_from h (plan_from f n) k (j + 1) left) e ∙ ap (λ l. ring_slot h ((f - f % ring_size % 5 + 5 * k + j) % ring_size) ∷ l) (slots_run left k (j + 1) (omega arith) ∙ ap (λ x. run h x left) b)
 
   pages_run : (left k : ℕ) → pages_from h (plan_from f n) k left ≡ run h (f - f % ring_size % 5 + 5 * k) (5 * left)
   pages_run zero k = refl
@@ -99,24 +99,24 @@ get_up a [] i r u e = absurd cc
 get_up a (x ∷ l) zero r u e = let z : x ≡ r = grind arith in subst (λ y. (level_of y) ≤ a) z u.0
 get_up a (x ∷ l) (suc i) r u e = get_up a l i r u.1 e
 
-past_one : (a : ℕ) (h : List (List ℕ)) (i : ℕ) (l : List (Option (List ℕ))) → UpTo a h → (t : Bool) (o : Option (List ℕ)) → slice_get h (last_in (length h) (i % ring_size)) ≡ o → climbing a l ≡ [] → climbing a ((if t then o else None) ∷ l) ≡ []
+past_one : (a : ℕ) (h : List (List ℕ)) (i : ℕ) (l : List (Option (List ℕ))) → UpTo a h → (t : Bool) (o : Option (List ℕ)) → slice_get h (last_number_in (length h) (i % ring_size)) ≡ o → climbing a l ≡ [] → climbing a ((if t then o else None) ∷ l) ≡ []
 past_one a h i l u false o e more = more
 past_one a h i l u true None e more = more
-past_one a h i l u true (Some r) e more = let z : nat_lt a (level_of r) ≡ false = grind (arith, get_up a h (last_in (length h) (i % ring_size)) r u e) in rw z more
+past_one a h i l u true (Some r) e more = let z : nat_lt a (level_of r) ≡ false = grind (arith, get_up a h (last_number_in (length h) (i % ring_size)) r u e) in rw z more
 
 -- what is past the newest rises no more
 past : (a : ℕ) (h : List (List ℕ)) (m i : ℕ) → UpTo a h → climbing a (run h i m) ≡ []
 past a h zero i u = refl
-past a h (suc m) i u = past_one a h i (run h (i + 1) m) u (nat_lt (i % ring_size) (length h)) (slice_get h (last_in (length h) (i % ring_size))) refl (past a h m (i + 1) u)
+past a h (suc m) i u = past_one a h i (run h (i + 1) m) u (nat_lt (i % ring_size) (length h)) (slice_get h (last_number_in (length h) (i % ring_size))) refl (past a h m (i + 1) u)
 
-last_is : (n i : ℕ) → i < n → n ≤ i + ring_size → last_in n (i % ring_size) ≡ i
+last_is : (n i : ℕ) → i < n → n ≤ i + ring_size → last_number_in n (i % ring_size) ≡ i
 last_is n i a b = omega arith
 
-slot_is : (pre suf : List (List ℕ)) (x : List ℕ) (h : List (List ℕ)) → h ≡ pre ++ x ∷ suf → length h ≤ length pre + ring_size → slot_of h (length pre % ring_size) ≡ Some x
+slot_is : (pre suf : List (List ℕ)) (x : List ℕ) (h : List (List ℕ)) → h ≡ pre ++ x ∷ suf → length h ≤ length pre + ring_size → ring_slot h (length pre % ring_size) ≡ Some x
 slot_is pre suf x h e n =
     let l : length h ≡ length pre + suc (length suf) = ap length e ∙ length-append pre (x ∷ suf) in
     let t : nat_lt (length pre % ring_size) (length h) ≡ true = grind (arith, l) in
-    ap (λ b. if b then slice_get h (last_in (length h) (length pre % ring_size)) else None) t
+    ap (λ b. if b then slice_get h (last_number_in (length h) (length pre % ring_size)) else None) t
     ∙ ap (slice_get h) (last_is (length h) (length pre) (omega (arith, l)) n)
     ∙ ap (λ y. slice_get y (length pre)) e ∙ get_at pre suf x
 

@@ -11,7 +11,7 @@ use Rattle.archive_record.specs.Reading.{stamp_in}
 use Rattle.archive_record.specs.Record.{ReadsAsRow}
 use Rattle.archive_record.proofs.Rows.{stamp_some}
 use Rattle.vantage_frames.specs.StampFrame.{date_asked, time_asked}
-use Rattle.console_ring.specs.History.{is_newer, newest_of}
+use Rattle.console_ring.specs.History.{record_is_newer, newest_stamp}
 use Rattle.console_ring.proofs.Words.{stamp_words}
 use Rattle.console_model.specs.Valid.{EachFollows}
 use Rattle.station_base.proofs.Civil.{stamp_civil}
@@ -58,16 +58,16 @@ got_last : (h : List (List ℕ)) (r : List ℕ) → slice_get (h ++ r ∷ []) (l
 got_last [] r = refl
 got_last (x ∷ h) r = got_last h r
 
-pub newest_more : (h : List (List ℕ)) (r : List ℕ) → newest_of (h ++ r ∷ []) ≡ stamp_in r
+pub newest_more : (h : List (List ℕ)) (r : List ℕ) → newest_stamp (h ++ r ∷ []) ≡ stamp_in r
 newest_more h r =
     let at : length (h ++ r ∷ []) - 1 ≡ length h = omega (arith, length-append h (r ∷ [])) in
     ap (λ i. option_and_then stamp_in (slice_get (h ++ r ∷ []) i)) at ∙ ap (λ o. option_and_then stamp_in o) (got_last h r)
 
-ascends : (h rs : List (List ℕ)) → EachFollows h rs → Ascend (level (newest_of h)) rs
+ascends : (h rs : List (List ℕ)) → EachFollows h rs → Ascend (level (newest_stamp h)) rs
 ascends h [] each = tt
 ascends h (r ∷ rs) each =
-    let up : level (newest_of h) < level_of r = omega (arith, follows_level (newest_of h) (stamp_in r) each.0, level_is r) in
-    let same : level (newest_of (h ++ r ∷ [])) ≡ level_of r = ap level (newest_more h r) ∙ sym (level_is r) in
+    let up : level (newest_stamp h) < level_of r = omega (arith, follows_level (newest_stamp h) (stamp_in r) each.0, level_is r) in
+    let same : level (newest_stamp (h ++ r ∷ [])) ≡ level_of r = ap level (newest_more h r) ∙ sym (level_is r) in
     (up, subst (λ n. Ascend n rs) same (ascends (h ++ r ∷ []) rs each.1))
 
 pub all_ascend : (rs : List (List ℕ)) → EachFollows [] rs → Ascend 0 rs
@@ -93,10 +93,10 @@ newer_by None ok s civil =
     grind (arith, nat_tests, some)
 newer_by (Some a) ok s civil = words_newer a s ok civil ∙ same_above (minute_of a) (minute_of s)
 
-pub newer_level : (after : Option CivilMinute) → IsStamp after → (r : List ℕ) → ReadsAsRow r → is_newer (date_asked after) (time_asked after) r ≡ nat_lt (level after) (level_of r)
+pub newer_level : (after : Option CivilMinute) → IsStamp after → (r : List ℕ) → ReadsAsRow r → record_is_newer (date_asked after) (time_asked after) r ≡ nat_lt (level after) (level_of r)
 newer_level after ok r row = go (stamp_in r) refl (stamp_some r row)
   where
-    go : (o : Option CivilMinute) → stamp_in r ≡ o → IsSome o → is_newer (date_asked after) (time_asked after) r ≡ nat_lt (level after) (level_of r)
+    go : (o : Option CivilMinute) → stamp_in r ≡ o → IsSome o → record_is_newer (date_asked after) (time_asked after) r ≡ nat_lt (level after) (level_of r)
     go None e some = cc
     go (Some s) e some =
         let w = stamp_words r s e in

@@ -1,27 +1,27 @@
 -- Where a console stands while pages are asked for.
 use Rattle.std.proofs.Common.{◌≡◌, ℕ, ◌+◌, ◌≤◌, ◌%◌, true, ◌⊎◌, inl, inr, List, [], ◌∷◌, ◌++◌, length, Some, None, refl, sym, ◌∙◌, ap, subst, arith, append-nil, length-append, ◌-◌}
 use Rattle.console_ring.specs.declared.plan.Plan.{Plan}
-use Rattle.console_model.specs.Console.{State, Console, Outcome}
+use Rattle.console_model.specs.Console.{ConsoleState, Console, Outcome}
 use Rattle.console_ring.specs.Picture.{page_of}
 use Rattle.crc_ccitt.specs.Check.{is_good}
 use Rattle.vantage_frames.specs.Slots.{page_size}
-use Rattle.console_model.specs.Console.State.{Asleep, Command, Overlong, Frame, Dump, Looping}
+use Rattle.console_model.specs.Console.ConsoleState.{Asleep, Command, Overlong, Frame, Dump, Looping}
 use Rattle.console_model.specs.declared.reply.ReplyKind.TheVariants.{Wake, Page}
 use Rattle.console_model.specs.Hear.{hear}
 use Rattle.station_sim.specs.declared.part.Part.{Part}
 use Rattle.schedule_file.specs.Fates.{Fates}
 use Rattle.station_sim.specs.Delivery.{delivered, late}
 use Rattle.station_sim.specs.declared.part.Part.TheVariants.{Byte, Wait}
-use Rattle.station_sim.specs.Line.{Line, happens, joins, replied, hears, counted, waited, says, from_console}
-use Rattle.station_sim.specs.Calm.{pending, FewWaits, Rests, AreMild, IsCalm, IsBrief, count_bytes}
+use Rattle.station_sim.specs.Line.{Line, happens, joins, reply_joins, hears, message_counted, waited, says_byte, from_console}
+use Rattle.station_sim.specs.Calm.{pending, FewWaits, ConsoleRests, AreMild, IsCalm, IsBrief, count_bytes}
 use Rattle.serial_link.specs.declared.talk.TalkItem.{TalkItem}
 use Rattle.station_sim.specs.Talk.{console_talk}
 use Rattle.serial_link.specs.declared.talk.TalkItem.TheVariants.{Said}
 use Rattle.wake_retry.specs.Parts.{heard}
 use Rattle.dmpaft_pump.specs.Pump.{most_askings}
 use Rattle.station_sim.proofs.Calming.{closed_late, few_late}
-use Rattle.line_laws.specs.Host.{Listens, Near, NearAt, Ready, HasSequence}
-use Rattle.line_laws.proofs.Listening.{bytes_of, Closed, closed_empty, happens-nothing, listens}
+use Rattle.line_laws.specs.Host.{OnlyListens, Near, NearAt, HostIsReady, HasSequence}
+use Rattle.line_laws.proofs.Listening.{bytes_of, EndsInByte, closed_empty, happens-nothing, listens}
 use Rattle.line_laws.proofs.Asked.{wider, Answer, Hearing, hears_one, near_due_all, rests_due_all}
 use Rattle.line_laws.proofs.Asked.Answer.{a_page, a_wake, nothing}
 use Rattle.line_laws.proofs.Delivery.{delivered_length, bytes_of_late, unharmed_page, page_sequence, near_same}
@@ -29,7 +29,7 @@ use Rattle.line_laws.proofs.Delivery.{delivered_length, bytes_of_late, unharmed_
 -- what is in flight after a byte was said: few bytes, or page m, unless unseen
 abbrev pub InFlight : List (List ℕ) → Plan → ℕ → ℕ → Line → Type 0
 InFlight h p low high v = (length (bytes_of v.flight) ≤ 2) ⊎
-    ((m : ℕ) × (low ≤ m + 1) × (m + 1 ≤ high + 1) × Near h p (m + 1) (m + 1) v.console × Rests v.console.state × (length (bytes_of v.flight) ≤ page_size)
+    ((m : ℕ) × (low ≤ m + 1) × (m + 1 ≤ high + 1) × Near h p (m + 1) (m + 1) v.console × ConsoleRests v.console.state × (length (bytes_of v.flight) ≤ page_size)
     × (v.unseen ≡ None → length (bytes_of v.flight) ≡ page_size → is_good (bytes_of v.flight) ≡ true → bytes_of v.flight ≡ page_of h p m))
 
 pub record After (h : List (List ℕ)) (p : Plan) (low high : ℕ) (w v : Line) : Type 0 where
@@ -37,21 +37,21 @@ pub record After (h : List (List ℕ)) (p : Plan) (low high : ℕ) (w v : Line) 
   pub begun : v.begun ≡ w.begun
   pub dumps : v.dumps ≡ w.dumps
   pub few : FewWaits 2 2 v.flight
-  pub closed : Closed v.flight
+  pub closed : EndsInByte v.flight
   pub answer : InFlight h p low high v
 
-happens-page : (f : Fates) (o : Outcome) (w : Line) → o.kind ≡ Page → happens f o w ≡ replied f o w
+happens-page : (f : Fates) (o : Outcome) (w : Line) → o.kind ≡ Page → happens f o w ≡ reply_joins f o w
 happens-page f o w e = ap (λ k. joins k f o w) e
 
-happens-wake : (f : Fates) (o : Outcome) (w : Line) → o.kind ≡ Wake → happens f o w ≡ replied f o w
+happens-wake : (f : Fates) (o : Outcome) (w : Line) → o.kind ≡ Wake → happens f o w ≡ reply_joins f o w
 happens-wake f o w e = ap (λ k. joins k f o w) e
 
 -- a reply to an empty flight
-flight_of : (f : Fates) (o : Outcome) (w : Line) → w.flight ≡ [] → (replied f o w).flight ≡ late (f.late (w.replies + 1)).waits (f.late (w.replies + 1)).place (delivered (f.reply (w.replies + 1)) o.bytes)
+flight_of : (f : Fates) (o : Outcome) (w : Line) → w.flight ≡ [] → (reply_joins f o w).flight ≡ late (f.late (w.replies + 1)).waits (f.late (w.replies + 1)).place (delivered (f.reply (w.replies + 1)) o.bytes)
 flight_of f o w e = ap (λ l. l ++ late (f.late (w.replies + 1)).waits (f.late (w.replies + 1)).place (delivered (f.reply (w.replies + 1)) o.bytes)) e
 
 module _ (h : List (List ℕ)) (p : Plan) (low high : ℕ) (f : Fates) (mild : AreMild f) where
-  replied_after : (o : Outcome) (w : Line) → w.flight ≡ [] → Hearing h p low high o → InFlight h p low high (replied f o w) → After h p low high w (replied f o w)
+  replied_after : (o : Outcome) (w : Line) → w.flight ≡ [] → Hearing h p low high o → InFlight h p low high (reply_joins f o w) → After h p low high w (reply_joins f o w)
   replied_after o w e q a = record {
     near = q.near;
     begun = refl;
@@ -61,7 +61,7 @@ module _ (h : List (List ℕ)) (p : Plan) (low high : ℕ) (f : Fates) (mild : A
     answer = a;
   }
 
-  bytes_replied : (o : Outcome) (w : Line) → w.flight ≡ [] → bytes_of (replied f o w).flight ≡ delivered (f.reply (w.replies + 1)) o.bytes
+  bytes_replied : (o : Outcome) (w : Line) → w.flight ≡ [] → bytes_of (reply_joins f o w).flight ≡ delivered (f.reply (w.replies + 1)) o.bytes
   bytes_replied o w e = ap bytes_of (flight_of f o w e) ∙ bytes_of_late (f.late (w.replies + 1)).waits (f.late (w.replies + 1)).place (delivered (f.reply (w.replies + 1)) o.bytes)
 
   answered : (o : Outcome) (w : Line) → w.flight ≡ [] → Hearing h p low high o → Answer h p low high o → After h p low high w (happens f o w)
@@ -88,7 +88,7 @@ module _ (h : List (List ℕ)) (p : Plan) (low high : ℕ) (f : Fates) (mild : A
       )))
 
   -- at most one byte is heard
-  after_hears : (got : List ℕ) (w : Line) → length got ≤ 1 → w.flight ≡ [] → Near h p low high w.console → Rests w.console.state → After h p low high w (hears f got w)
+  after_hears : (got : List ℕ) (w : Line) → length got ≤ 1 → w.flight ≡ [] → Near h p low high w.console → ConsoleRests w.console.state → After h p low high w (hears f got w)
   after_hears [] w n e near r = record { near = wider h p low high w.console near; begun = refl; dumps = refl; few = rw e tt; closed = rw e tt; answer = inl (rw e (omega arith)) }
   after_hears (x ∷ []) w n e near r = let q = hears_one h p low high w.console x near r in answered (hear w.console x) w e q q.answer
   after_hears (x ∷ y ∷ got) w n e near r = absurd (omega arith)
@@ -107,12 +107,12 @@ module _ (h : List (List ℕ)) (p : Plan) (low high : ℕ) (f : Fates) (mild : A
     answer = answer_mids rs v a.answer;
   }
 
-  pub said : (b : ℕ) (w : Line) → w.flight ≡ [] → w.begun ≡ [] → Near h p low high w.console → Rests w.console.state → After h p low high (counted f (w.begun ++ b ∷ []) w) (says f b true w)
-  said b w e g n r = after_mids (f.mids (w.messages + 1)) (counted f (w.begun ++ b ∷ []) w) _
-      (after_hears (delivered (f.host (w.messages + 1)) (w.begun ++ b ∷ [])) (counted f (w.begun ++ b ∷ []) w)
+  pub said : (b : ℕ) (w : Line) → w.flight ≡ [] → w.begun ≡ [] → Near h p low high w.console → ConsoleRests w.console.state → After h p low high (message_counted f (w.begun ++ b ∷ []) w) (says_byte f b true w)
+  said b w e g n r = after_mids (f.mids (w.messages + 1)) (message_counted f (w.begun ++ b ∷ []) w) _
+      (after_hears (delivered (f.host (w.messages + 1)) (w.begun ++ b ∷ [])) (message_counted f (w.begun ++ b ∷ []) w)
       (omega (arith, delivered_length (f.host (w.messages + 1)) (w.begun ++ b ∷ []), ap (λ x. length (x ++ b ∷ [])) g)) e n r)
 
-pub pending_at_most : (s : State) → pending s ≤ 1
+pub pending_at_most : (s : ConsoleState) → pending s ≤ 1
 pending_at_most Asleep = omega arith
 pending_at_most (Command line) = omega arith
 pending_at_most Overlong = omega arith
@@ -125,7 +125,7 @@ count_is [] = refl
 count_is (Byte b ∷ l) = omega (arith, count_is l)
 count_is (Wait ∷ l) = count_is l
 
-pub near_brief : (h : List (List ℕ)) (p : Plan) (low high : ℕ) (s : State) (i : ℕ) (g : List (List ℕ)) → NearAt h p low high s i g → IsBrief s i
+pub near_brief : (h : List (List ℕ)) (p : Plan) (low high : ℕ) (s : ConsoleState) (i : ℕ) (g : List (List ℕ)) → NearAt h p low high s i g → IsBrief s i
 near_brief h p low high Asleep i g n = n
 near_brief h p low high (Command []) i g n = n
 near_brief h p low high (Command (b ∷ l)) i g n = n
@@ -144,21 +144,21 @@ pub record AskedFor (h : List (List ℕ)) (p : Plan) (k j : ℕ) (w : Line) (t :
   pub near : Near h p k (k + j + 1) v.console
   pub begun : v.begun ≡ []
   pub dumps : v.dumps ≡ w.dumps
-  pub closed : Closed v.flight
+  pub closed : EndsInByte v.flight
   pub size : length (bytes_of v.flight) ≤ page_size
   -- a good page of the sequence of k is page k
-  pub page : v.unseen ≡ None → length (heard t) ≡ page_size → is_good (heard t) ≡ true → HasSequence (k % 256) (heard t) → (heard t ≡ page_of h p k) × Ready h p (k + 1) 0 v
+  pub page : v.unseen ≡ None → length (heard t) ≡ page_size → is_good (heard t) ≡ true → HasSequence (k % 256) (heard t) → (heard t ≡ page_of h p k) × HostIsReady h p (k + 1) 0 v
 
 near_same_place : (h : List (List ℕ)) (p : Plan) (m k : ℕ) → m + 1 ≡ k → (c : Console) → Near h p (m + 1) (m + 1) c → Near h p k (k + 0) c
 near_same_place h p m k e c n = let z : k + 0 ≡ m + 1 = omega arith in let y : k ≡ m + 1 = sym e in rw (z, y) n
 
-module _ (h : List (List ℕ)) (p : Plan) (k j : ℕ) (f : Fates) (mild : AreMild f) (t : List TalkItem) (quiet : Listens t) where
+module _ (h : List (List ℕ)) (p : Plan) (k j : ℕ) (f : Fates) (mild : AreMild f) (t : List TalkItem) (quiet : OnlyListens t) where
   bytes_at_most : (u : Line) → InFlight h p k (k + j) u → length (bytes_of u.flight) ≤ page_size
   bytes_at_most u (inl n) = omega arith
   bytes_at_most u (inr (m, lo, hi, z, r, n, g)) = n
 
-  took : (u v : Line) → j ≤ most_askings - 1 → InFlight h p k (k + j) u → Closed u.flight → u.begun ≡ [] → console_talk f t u ≡ Some v → v.unseen ≡ None → bytes_of u.flight ≡ heard t ++ bytes_of v.flight →
-      length (heard t) ≡ page_size → is_good (heard t) ≡ true → HasSequence (k % 256) (heard t) → (heard t ≡ page_of h p k) × Ready h p (k + 1) 0 v
+  took : (u v : Line) → j ≤ most_askings - 1 → InFlight h p k (k + j) u → EndsInByte u.flight → u.begun ≡ [] → console_talk f t u ≡ Some v → v.unseen ≡ None → bytes_of u.flight ≡ heard t ++ bytes_of v.flight →
+      length (heard t) ≡ page_size → is_good (heard t) ≡ true → HasSequence (k % 256) (heard t) → (heard t ≡ page_of h p k) × HostIsReady h p (k + 1) 0 v
   took u v few (inl n) c b e un by l good s = absurd (omega (arith, ap length by, length-append (heard t) (bytes_of v.flight)))
   took u v few (inr (m, lo, hi, z, r, n, g)) c b e un by l good s =
       let none : bytes_of v.flight ≡ [] = no_length (bytes_of v.flight) (omega (arith, ap length by, length-append (heard t) (bytes_of v.flight))) in
@@ -175,22 +175,22 @@ module _ (h : List (List ℕ)) (p : Plan) (k j : ℕ) (f : Fates) (mild : AreMil
         },
       )
 
-  pub asking : (w v : Line) (b : ℕ) → Ready h p k j w → j ≤ most_askings - 1 → console_talk f (Said b true ∷ t) w ≡ Some v → AskedFor h p k j w t v
+  pub asking : (w v : Line) (b : ℕ) → HostIsReady h p k j w → j ≤ most_askings - 1 → console_talk f (Said b true ∷ t) w ≡ Some v → AskedFor h p k j w t v
   asking w v b ready few e =
       let a = said h p k (k + j) f mild b w ready.flight ready.begun ready.near ready.rests in
-      let l = listens h p k (k + j + 1) f t (says f b true w) v quiet a.near e in
+      let l = listens h p k (k + j + 1) f t (says_byte f b true w) v quiet a.near e in
       record {
         calm = record {
           begun = l.begun ∙ a.begun;
           brief = near_brief h p k (k + j + 1) v.console.state v.console.idle v.console.history l.near;
           closed = l.closed a.closed;
-          bytes = omega (arith, pending_at_most v.console.state, count_is v.flight, bytes_at_most (says f b true w) a.answer, ap length l.bytes, length-append (heard t) (bytes_of v.flight));
+          bytes = omega (arith, pending_at_most v.console.state, count_is v.flight, bytes_at_most (says_byte f b true w) a.answer, ap length l.bytes, length-append (heard t) (bytes_of v.flight));
           waits = l.few a.few;
         };
         near = l.near;
         begun = l.begun ∙ a.begun;
         dumps = l.dumps ∙ a.dumps;
         closed = l.closed a.closed;
-        size = omega (arith, bytes_at_most (says f b true w) a.answer, ap length l.bytes, length-append (heard t) (bytes_of v.flight));
-        page = λ un. took (says f b true w) v few a.answer a.closed a.begun e un l.bytes;
+        size = omega (arith, bytes_at_most (says_byte f b true w) a.answer, ap length l.bytes, length-append (heard t) (bytes_of v.flight));
+        page = λ un. took (says_byte f b true w) v few a.answer a.closed a.begun e un l.bytes;
       }

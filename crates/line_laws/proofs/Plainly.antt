@@ -2,13 +2,13 @@
 use Rattle.std.proofs.Common.{◌≡◌, ℕ, ◌+◌, ◌-◌, ◌*◌, ◌≤◌, if◌then◌else◌, Bool, true, false, ◌&&◌, ◌||◌, not, List, [], ◌∷◌, ◌++◌, length, Option, Some, None, refl, sym, ◌∙◌, ap, subst, arith, append-nil, length-append}
 use Rattle.std.specs.Prelude.{nat_lt, bytes_eq}
 use Rattle.std.proofs.lemmas.Slice.Eq.{bytes_eq-Decides}
-use Rattle.console_model.specs.Console.{Store, State, Console, Outcome}
+use Rattle.console_model.specs.Console.{Store, ConsoleState, Console, Outcome}
 use Rattle.console_ring.specs.declared.plan.Plan.{Plan}
 use Rattle.console_model.specs.declared.reply.ReplyKind.{ReplyKind}
 use Rattle.console_model.specs.declared.signal.Signal.{Signal}
 use Rattle.console_model.specs.declared.order.Order.{Order}
-use Rattle.console_model.specs.Reading.{signal, read_line}
-use Rattle.console_model.specs.Console.State.{Asleep, Command, Overlong, Frame, Dump, Looping}
+use Rattle.console_model.specs.Reading.{signal, read_order}
+use Rattle.console_model.specs.Console.ConsoleState.{Asleep, Command, Overlong, Frame, Dump, Looping}
 use Rattle.console_model.specs.declared.reply.ReplyKind.TheVariants.{Nothing, Code, Test, Wake, Ack, AckFrame, Page, Packet}
 use Rattle.console_model.specs.declared.signal.Signal.TheVariants.{Lf, Next, Again, Stop, Other}
 use Rattle.console_model.specs.declared.order.Order.TheVariants.{Empty, Unknown, Known}
@@ -16,19 +16,19 @@ use Rattle.vantage_frames.specs.declared.command.Command.{Command as Ordered}
 use Rattle.vantage_frames.specs.declared.command.Command.TheVariants as command
 use Rattle.vantage_frames.specs.Slots.{page_size}
 use Rattle.station_sim.specs.Sound.{AreRecords}
-use Rattle.console_model.specs.Hear.{hear, heard_in, sends, ended, lengthened}
+use Rattle.console_model.specs.Hear.{hear, heard_in, sends_page, dump_ended, lengthened}
 use Rattle.console_model.specs.Line.{obeyed, silent, to, at_line}
 use Rattle.station_sim.specs.declared.part.Part.{Part}
 use Rattle.schedule_file.specs.Fates.{Fates}
 use Rattle.station_sim.specs.Delivery.{delivered, late}
 use Rattle.station_sim.specs.declared.part.Part.TheVariants.{Byte, Wait}
 use Rattle.station_sim.specs.declared.unseen.Unseen.{Unseen}
-use Rattle.station_sim.specs.Line.{Line, happens, joins, replied, unanswered, hears, completes, pages, is_page, is_harmed, earlier, begins_with_ack, from_console}
+use Rattle.station_sim.specs.Line.{Line, happens, joins, reply_joins, unanswered, hears, completes, pages, is_page, is_harmed, earlier, begins_with_ack, from_console}
 use Rattle.station_sim.specs.Calm.{FewWaits, AreMild}
 use Rattle.station_sim.proofs.Calming.{closed_late, few_late}
 use Rattle.station_sim.proofs.Sounding.{console_joins}
 use Rattle.line_laws.specs.Host.{Near, NearAt}
-use Rattle.line_laws.proofs.Listening.{bytes_of, Closed}
+use Rattle.line_laws.proofs.Listening.{bytes_of, EndsInByte}
 use Rattle.line_laws.proofs.Asked.{at_state, wider}
 use Rattle.line_laws.proofs.Delivery.{delivered_length, bytes_of_late, page_length}
 
@@ -53,11 +53,11 @@ pub record Plain (h : List (List ℕ)) (p : Plan) (low high : ℕ) (o : Outcome)
 plain_silent : (h : List (List ℕ)) (p : Plan) (low high : ℕ) (c : Console) → Near h p low (high + 1) c → Near h p low high c → Plain h p low high (silent c)
 plain_silent h p low high c m n = record { near = m; same = λ e. n; begins = refl; size = omega arith; meek = tt }
 
-plain_page : (h : List (List ℕ)) (p q : Plan) (low high m : ℕ) (c : Console) → q ≡ p → c.history ≡ h → low ≤ m + 1 → m + 1 ≤ high + 1 → AreRecords h → Plain h p low high (sends q m c)
+plain_page : (h : List (List ℕ)) (p q : Plan) (low high m : ℕ) (c : Console) → q ≡ p → c.history ≡ h → low ≤ m + 1 → m + 1 ≤ high + 1 → AreRecords h → Plain h p low high (sends_page q m c)
 plain_page h p q low high m c e g a b ok = record { near = (e, g, a, b, ok); same = λ z. absurd cc; begins = refl; size = omega (arith, page_length c.history q m (subst AreRecords (sym g) ok)); meek = tt }
 
 plain_next : (h : List (List ℕ)) (p q : Plan) (low high sent : ℕ) (c : Console) → q ≡ p → c.history ≡ h → low ≤ sent → sent ≤ high → AreRecords h → (more : Bool) →
-    Plain h p low high (if more then sends q sent c else silent (to (ended c) (Command [])))
+    Plain h p low high (if more then sends_page q sent c else silent (to (dump_ended c) (Command [])))
 plain_next h p q low high sent c e g a b ok true = plain_page h p q low high sent c e g (omega arith) (omega arith) ok
 plain_next h p q low high sent c e g a b ok false = plain_silent h p low high _ tt tt
 
@@ -87,10 +87,10 @@ plain_line h p low high Empty c e = record { near = tt; same = λ z. tt; begins 
 plain_line h p low high Unknown c e = record { near = tt; same = λ z. tt; begins = refl; size = omega arith; meek = refl }
 plain_line h p low high (Known command) c e = plain_known h p low high command c e
 
-plain_by : (h : List (List ℕ)) (p : Plan) (low high : ℕ) (s : State) (m : Signal) (x : ℕ) (g : List (List ℕ)) (d : Store) (hs : List (List ℕ)) (i : ℕ) → NearAt h p low high s i g →
+plain_by : (h : List (List ℕ)) (p : Plan) (low high : ℕ) (s : ConsoleState) (m : Signal) (x : ℕ) (g : List (List ℕ)) (d : Store) (hs : List (List ℕ)) (i : ℕ) → NearAt h p low high s i g →
     (heard_in s m x (at_state g d hs s i)).completes ≡ false → Plain h p low high (heard_in s m x (at_state g d hs s i))
 plain_by h p low high Asleep m x g d hs i n e = plain_silent h p low high _ tt tt
-plain_by h p low high (Command line) Lf x g d hs i n e = plain_line h p low high (read_line line) (at_state g d hs (Command line) i) e
+plain_by h p low high (Command line) Lf x g d hs i n e = plain_line h p low high (read_order line) (at_state g d hs (Command line) i) e
 plain_by h p low high (Command line) Next x g d hs i n e = plain_joined h p low high x line (at_state g d hs (Command line) i)
 plain_by h p low high (Command line) Again x g d hs i n e = plain_joined h p low high x line (at_state g d hs (Command line) i)
 plain_by h p low high (Command line) Stop x g d hs i n e = plain_joined h p low high x line (at_state g d hs (Command line) i)
@@ -101,28 +101,28 @@ plain_by h p low high Overlong Again x g d hs i n e = plain_silent h p low high 
 plain_by h p low high Overlong Stop x g d hs i n e = plain_silent h p low high _ (omega arith) (omega arith)
 plain_by h p low high Overlong Other x g d hs i n e = plain_silent h p low high _ (omega arith) (omega arith)
 plain_by h p low high (Frame kind got) m x g d hs i n e = absurd n
-plain_by h p low high (Dump q sent) Lf x g d hs i n e = plain_line h p low high (read_line []) (ended (at_state g d hs (Dump q sent) i)) e
+plain_by h p low high (Dump q sent) Lf x g d hs i n e = plain_line h p low high (read_order []) (dump_ended (at_state g d hs (Dump q sent) i)) e
 plain_by h p low high (Dump q sent) Next x g d hs i n e = plain_next h p q low high sent (at_state g d hs (Dump q sent) i) n.0 n.1 n.2 n.3 n.4 (nat_lt sent q.pages)
 plain_by h p low high (Dump q sent) Again x g d hs i n e = plain_page h p q low high (sent - 1) (at_state g d hs (Dump q sent) i) n.0 n.1 (omega (arith, n.2, n.3)) (omega (arith, n.2, n.3)) n.4
 plain_by h p low high (Dump q sent) Stop x g d hs i n e = plain_silent h p low high _ tt tt
-plain_by h p low high (Dump q sent) Other x g d hs i n e = plain_joined h p low high x [] (ended (at_state g d hs (Dump q sent) i))
+plain_by h p low high (Dump q sent) Other x g d hs i n e = plain_joined h p low high x [] (dump_ended (at_state g d hs (Dump q sent) i))
 plain_by h p low high (Looping k) m x g d hs i n e = absurd n
 
 pub hears_plainly : (h : List (List ℕ)) (p : Plan) (low high : ℕ) (c : Console) (x : ℕ) → Near h p low high c → (hear c x).completes ≡ false → Plain h p low high (hear c x)
 hears_plainly h p low high c x n e = plain_by h p low high c.state (signal x) x c.history c.store c.held c.idle n e
 
 -- parts after parts
-pub few_join : (k : ℕ) (x : Part) (l c : List Part) → Closed (x ∷ l) → FewWaits 2 k (x ∷ l) → FewWaits 2 2 c → FewWaits 2 k ((x ∷ l) ++ c)
+pub few_join : (k : ℕ) (x : Part) (l c : List Part) → EndsInByte (x ∷ l) → FewWaits 2 k (x ∷ l) → FewWaits 2 2 c → FewWaits 2 k ((x ∷ l) ++ c)
 few_join k (Byte b) [] c a f g = g
 few_join k (Byte b) (y ∷ l) c a f g = few_join 2 y l c a f g
 few_join k Wait [] c a f g = absurd a
 few_join k Wait (y ∷ l) c a f g = (f.0, few_join (k - 1) y l c a f.1 g)
 
-pub few_joined : (l c : List Part) → Closed l → FewWaits 2 2 l → FewWaits 2 2 c → FewWaits 2 2 (l ++ c)
+pub few_joined : (l c : List Part) → EndsInByte l → FewWaits 2 2 l → FewWaits 2 2 c → FewWaits 2 2 (l ++ c)
 few_joined [] c a f g = g
 few_joined (x ∷ l) c a f g = few_join 2 x l c a f g
 
-pub closed_join : (l c : List Part) → Closed l → Closed c → Closed (l ++ c)
+pub closed_join : (l c : List Part) → EndsInByte l → EndsInByte c → EndsInByte (l ++ c)
 closed_join [] c a b = b
 closed_join (Byte x ∷ l) c a b = closed_join l c a b
 closed_join (Wait ∷ []) c a b = absurd a
@@ -170,14 +170,14 @@ no_ack_delivered None x sent got b e = go (bytes_eq sent got) (begins_with_ack g
 pub record Tame (h : List (List ℕ)) (p : Plan) (low high n : ℕ) (w : Line) : Type 0 where
   pub near : Near h p low high w.console
   pub few : FewWaits 2 2 w.flight
-  pub closed : Closed w.flight
+  pub closed : EndsInByte w.flight
   pub size : length (bytes_of w.flight) ≤ n
 
 module _ (h : List (List ℕ)) (p : Plan) (low high n : ℕ) (f : Fates) (mild : AreMild f) where
-  flown : (o : Outcome) (w : Line) → bytes_of (replied f o w).flight ≡ bytes_of w.flight ++ delivered (f.reply (w.replies + 1)) o.bytes
+  flown : (o : Outcome) (w : Line) → bytes_of (reply_joins f o w).flight ≡ bytes_of w.flight ++ delivered (f.reply (w.replies + 1)) o.bytes
   flown o w = bytes_join w.flight _ ∙ ap (λ x. bytes_of w.flight ++ x) (bytes_of_late (f.late (w.replies + 1)).waits (f.late (w.replies + 1)).place (delivered (f.reply (w.replies + 1)) o.bytes))
 
-  tame_replied : (o : Outcome) (w : Line) (top : ℕ) → Tame h p low high n w → Near h p low top o.next → length o.bytes ≤ page_size → Tame h p low top (n + page_size) (replied f o w)
+  tame_replied : (o : Outcome) (w : Line) (top : ℕ) → Tame h p low high n w → Near h p low top o.next → length o.bytes ≤ page_size → Tame h p low top (n + page_size) (reply_joins f o w)
   tame_replied o w top t q z = record {
     near = q;
     few = few_joined w.flight (late (f.late (w.replies + 1)).waits (f.late (w.replies + 1)).place (delivered (f.reply (w.replies + 1)) o.bytes)) t.closed t.few

@@ -2,13 +2,13 @@
 use Rattle.std.proofs.Common.{Option, ◌≡◌, ℕ, ◌+◌, ◌-◌, ◌<◌, ◌==◌, if◌then◌else◌, Bool, true, false, ◌||◌, inl, inr, List, [], ◌∷◌, ◌++◌, length, Some, None, refl, sym, ◌∙◌, ap, subst, arith, append_assoc, append-nil}
 use Rattle.std.specs.Prelude.{nat_lt, take, IfSome, IsSomeAnd}
 use Rattle.std.proofs.lemmas.Option.{same_Some}
-use Rattle.console_model.specs.Console.{Store, State, Console, Outcome, Begun}
+use Rattle.console_model.specs.Console.{Store, ConsoleState, Console, Outcome, Begun}
 use Rattle.console_ring.specs.declared.plan.Plan.{Plan}
 use Rattle.console_model.specs.declared.reply.ReplyKind.{ReplyKind}
 use Rattle.console_model.specs.declared.signal.Signal.{Signal}
 use Rattle.console_model.specs.declared.order.Order.{Order}
 use Rattle.console_model.specs.declared.frame.FrameKind.{FrameKind}
-use Rattle.console_model.specs.Reading.{signal, read_line}
+use Rattle.console_model.specs.Reading.{signal, read_order}
 use Rattle.crc_ccitt.specs.Check.{is_good}
 use Rattle.console_model.specs.Spelling.{plan_after}
 use Rattle.console_model.specs.Clock.{is_time}
@@ -21,24 +21,24 @@ use Rattle.console_model.specs.Laws.{records_of}
 use Rattle.console_model.specs.Tick.{idle_after}
 use Rattle.station_base.specs.CivilMinute.{CivilMinute, minute_of}
 use Rattle.archive_record.specs.Reading.{stamp_in}
-use Rattle.console_ring.specs.History.{newest_of, CanExtend}
+use Rattle.console_ring.specs.History.{newest_stamp, CanExtend}
 use Rattle.std.proofs.lemmas.Bool.Decides.{nat_tests}
 use Rattle.console_model.specs.declared.frame.FrameKind.TheVariants.{ForDump, ForBytes, ForTime}
-use Rattle.console_model.specs.Console.State.{Asleep, Command, Overlong, Frame, Dump, Looping}
+use Rattle.console_model.specs.Console.ConsoleState.{Asleep, Command, Overlong, Frame, Dump, Looping}
 use Rattle.console_model.specs.declared.reply.ReplyKind.TheVariants.{Nothing, Code, Test, Wake, Ack, AckFrame, Page, Packet}
 use Rattle.console_model.specs.declared.signal.Signal.TheVariants.{Lf, Next, Again, Stop, Other}
-use Rattle.console_model.specs.Hear.{hear, heard_in, ended}
+use Rattle.console_model.specs.Hear.{hear, heard_in, dump_ended}
 use Rattle.console_model.specs.Tick.{tick, ticked_in}
 use Rattle.console_model.specs.Line.{obeyed, at_line, silent, to}
 use Rattle.console_model.specs.Frame.{at_frame}
-use Rattle.console_model.specs.Due.{due_by, in_the_way, unexceeded, due, due_in, put, hold}
+use Rattle.console_model.specs.Due.{due_by, in_the_way, unexceeded, due, due_in_state, put, hold}
 use Rattle.schedule_file.specs.Fates.{Fates}
 use Rattle.station_sim.specs.Delivery.{delivered}
-use Rattle.station_sim.specs.Line.{sends, Line, flies, happens, joins, replied, hears, completes, counted, waited, due_all}
+use Rattle.station_sim.specs.Line.{sends_message, Line, flies, happens, joins, reply_joins, hears, completes, message_counted, waited, due_all}
 use Rattle.serial_link.specs.declared.talk.TalkItem.{TalkItem}
-use Rattle.station_sim.specs.Talk.{console_talk, step}
+use Rattle.station_sim.specs.Talk.{console_talk, line_step}
 use Rattle.serial_link.specs.declared.talk.TalkItem.TheVariants.{Said, Heard, Quiet}
-use Rattle.line_laws.specs.Host.{Listens}
+use Rattle.line_laws.specs.Host.{OnlyListens}
 use Rattle.console_model.specs.Valid.{IsTidy, EachFollows}
 use Rattle.line_laws.specs.Gathers.{IsFrontOf}
 use Rattle.line_laws.specs.Records.{BegunIn, Sums, Now}
@@ -69,9 +69,9 @@ is_clear Unknown = false
 is_clear (Known c) = is_clearing c
 
 -- whether a byte completes a command that clears the ring
-abbrev pub clears : State → Signal → Bool
+abbrev pub clears : ConsoleState → Signal → Bool
 clears Asleep m = false
-clears (Command line) Lf = is_clear (read_line line)
+clears (Command line) Lf = is_clear (read_order line)
 clears (Command line) Next = false
 clears (Command line) Again = false
 clears (Command line) Stop = false
@@ -99,7 +99,7 @@ tidy_start : (p : Plan) (t : Bool) (hs : List (List ℕ)) → hs ≡ [] → IsTi
 tidy_start p true hs e = e
 tidy_start p false hs e = tt
 
-obeyed_same : (command : Ordered) (s : State) (g : List (List ℕ)) (d : Store) (hs : List (List ℕ)) (i : ℕ) → hs ≡ [] → is_clearing command ≡ false → Same (g ++ hs) (obeyed command (at_state g d hs s i))
+obeyed_same : (command : Ordered) (s : ConsoleState) (g : List (List ℕ)) (d : Store) (hs : List (List ℕ)) (i : ℕ) → hs ≡ [] → is_clearing command ≡ false → Same (g ++ hs) (obeyed command (at_state g d hs s i))
 obeyed_same command.Test s g d hs i e z = record { recs = refl; tidy = e; begins = tt }
 obeyed_same command.Kind s g d hs i e z = record { recs = refl; tidy = e; begins = tt }
 obeyed_same (command.LoopFor n) s g d hs i e z = record { recs = refl; tidy = e; begins = tt }
@@ -112,24 +112,24 @@ obeyed_same command.TimeSet s g d hs i e z = record { recs = refl; tidy = e; beg
 obeyed_same (command.SetPeriod n) s g d hs i e z = absurd cc
 obeyed_same command.ClearLog s g d hs i e z = absurd cc
 
-line_same : (o : Order) (s : State) (g : List (List ℕ)) (d : Store) (hs : List (List ℕ)) (i : ℕ) → hs ≡ [] → is_clear o ≡ false → Same (g ++ hs) (at_line o (at_state g d hs s i))
+line_same : (o : Order) (s : ConsoleState) (g : List (List ℕ)) (d : Store) (hs : List (List ℕ)) (i : ℕ) → hs ≡ [] → is_clear o ≡ false → Same (g ++ hs) (at_line o (at_state g d hs s i))
 line_same Empty s g d hs i e z = record { recs = refl; tidy = e; begins = tt }
 line_same Unknown s g d hs i e z = record { recs = refl; tidy = e; begins = tt }
 line_same (Known command) s g d hs i e z = obeyed_same command s g d hs i e z
 
-frame_same : (kind : FrameKind) (frame : List ℕ) (s : State) (g : List (List ℕ)) (d : Store) (hs : List (List ℕ)) (i : ℕ) → hs ≡ [] → Same (g ++ hs) (at_frame kind frame (at_state g d hs s i))
+frame_same : (kind : FrameKind) (frame : List ℕ) (s : ConsoleState) (g : List (List ℕ)) (d : Store) (hs : List (List ℕ)) (i : ℕ) → hs ≡ [] → Same (g ++ hs) (at_frame kind frame (at_state g d hs s i))
 frame_same ForDump frame s g d hs i e = same_if (g ++ hs) (is_good frame) _ _
     (record { recs = refl; tidy = tidy_start (plan_after g frame) ((plan_after g frame).pages == 0) hs e; begins = ((hs, refl), tt) })
     (record { recs = refl; tidy = e; begins = tt })
 frame_same (ForBytes p n) frame s g d hs i e = same_if (g ++ hs) (is_good frame) _ _ (record { recs = refl; tidy = e; begins = tt }) (record { recs = refl; tidy = e; begins = tt })
 frame_same ForTime frame s g d hs i e = same_if (g ++ hs) (is_good frame) _ _ (same_if (g ++ hs) (is_time (take 6 frame)) _ _ (record { recs = refl; tidy = e; begins = tt }) (record { recs = refl; tidy = e; begins = tt })) (record { recs = refl; tidy = e; begins = tt })
 
-empty_is : read_line [] ≡ Empty
+empty_is : read_order [] ≡ Empty
 empty_is = read_empty [] refl
 
-hear_same : (s : State) (m : Signal) (x : ℕ) (g : List (List ℕ)) (d : Store) (hs : List (List ℕ)) (i : ℕ) → IsTidy s hs → clears s m ≡ false → Same (g ++ hs) (heard_in s m x (at_state g d hs s i))
+hear_same : (s : ConsoleState) (m : Signal) (x : ℕ) (g : List (List ℕ)) (d : Store) (hs : List (List ℕ)) (i : ℕ) → IsTidy s hs → clears s m ≡ false → Same (g ++ hs) (heard_in s m x (at_state g d hs s i))
 hear_same Asleep m x g d hs i t z = record { recs = refl; tidy = t; begins = tt }
-hear_same (Command line) Lf x g d hs i t z = line_same (read_line line) (Command line) g d hs i t z
+hear_same (Command line) Lf x g d hs i t z = line_same (read_order line) (Command line) g d hs i t z
 hear_same (Command line) Next x g d hs i t z = record { recs = refl; tidy = tidy_line (nat_lt (length line) 32) (line ++ x ∷ []) hs t; begins = tt }
 hear_same (Command line) Again x g d hs i t z = record { recs = refl; tidy = tidy_line (nat_lt (length line) 32) (line ++ x ∷ []) hs t; begins = tt }
 hear_same (Command line) Stop x g d hs i t z = record { recs = refl; tidy = tidy_line (nat_lt (length line) 32) (line ++ x ∷ []) hs t; begins = tt }
@@ -151,7 +151,7 @@ tidy_loop : (t : Bool) (n i : ℕ) (g : List (List ℕ)) (d : Store) (hs : List 
 tidy_loop true n i g d hs e = (refl, e)
 tidy_loop false n i g d hs e = (refl, e)
 
-tick_same : (s : State) (three much fifth : Bool) (g : List (List ℕ)) (d : Store) (hs : List (List ℕ)) (i : ℕ) → IsTidy s hs → Same (g ++ hs) (ticked_in s three much fifth (at_state g d hs s i))
+tick_same : (s : ConsoleState) (three much fifth : Bool) (g : List (List ℕ)) (d : Store) (hs : List (List ℕ)) (i : ℕ) → IsTidy s hs → Same (g ++ hs) (ticked_in s three much fifth (at_state g d hs s i))
 tick_same Asleep three much fifth g d hs i t = record { recs = refl; tidy = t; begins = tt }
 tick_same (Command []) three true fifth g d hs i t = record { recs = refl; tidy = t; begins = tt }
 tick_same (Command []) three false fifth g d hs i t = record { recs = refl; tidy = t; begins = tt }
@@ -185,9 +185,9 @@ line_completes Empty c e = refl
 line_completes Unknown c e = refl
 line_completes (Known command) c e = obeyed_completes command c e
 
-unclear_by : (s : State) (m : Signal) (x : ℕ) (c : Console) → (heard_in s m x c).completes ≡ false → clears s m ≡ false
+unclear_by : (s : ConsoleState) (m : Signal) (x : ℕ) (c : Console) → (heard_in s m x c).completes ≡ false → clears s m ≡ false
 unclear_by Asleep m x c e = refl
-unclear_by (Command line) Lf x c e = line_completes (read_line line) c e
+unclear_by (Command line) Lf x c e = line_completes (read_order line) c e
 unclear_by (Command line) Next x c e = refl
 unclear_by (Command line) Again x c e = refl
 unclear_by (Command line) Stop x c e = refl
@@ -221,7 +221,7 @@ pub begun_more : (r rest all : List (List ℕ)) (bs : List Begun) → BegunIn r 
 begun_more r rest all [] b e = tt
 begun_more r rest all (h ∷ bs) b e = (prefix_more h.history r rest all b.0 e, begun_more r rest all bs b.1 e)
 
-sums_replied : (f : Fates) (o : Outcome) (w : Line) (r rest all : List (List ℕ)) → Same r o → r ++ rest ≡ all → BegunIn all w.dumps → Sums rest all (replied f o w)
+sums_replied : (f : Fates) (o : Outcome) (w : Line) (r rest all : List (List ℕ)) → Same r o → r ++ rest ≡ all → BegunIn all w.dumps → Sums rest all (reply_joins f o w)
 sums_replied f o w r rest all s e b = record { sum = ap (λ x. x ++ rest) s.recs ∙ e; tidy = s.tidy; begun = begun_join all w.dumps o.begins b (begun_more r rest all o.begins s.begins e) }
 
 sums_joins : (k : ReplyKind) (f : Fates) (o : Outcome) (w : Line) (r rest all : List (List ℕ)) → Same r o → r ++ rest ≡ all → BegunIn all w.dumps → Sums rest all (joins k f o w)
@@ -277,7 +277,7 @@ nothing_by (Some n) (Some s) follows =
 
 -- nothing is in the way of a record that comes behind these
 unhindered : (r : List ℕ) (c : Console) (rest all : List (List ℕ)) → EachFollows [] all → records_of c ++ (r ∷ rest) ≡ all → in_the_way r c ≡ None
-unhindered r c rest all rises e = nothing_by (newest_of (records_of c)) (stamp_in r) (follows_at [] (records_of c) r rest (subst (EachFollows []) (sym e) rises))
+unhindered r c rest all rises e = nothing_by (newest_stamp (records_of c)) (stamp_in r) (follows_at [] (records_of c) r rest (subst (EachFollows []) (sym e) rises))
 
 Fallen : List (List ℕ) → List (List ℕ) → Console → Type 0
 Fallen rest all c = (records_of c ++ rest ≡ all) × IsTidy c.state c.held
@@ -286,18 +286,18 @@ fallen_if : (rest all : List (List ℕ)) (t : Bool) (a b : Console) → Fallen r
 fallen_if rest all true a b x y = x
 fallen_if rest all false a b x y = y
 
-fallen_put : (r : List ℕ) (s : State) (g : List (List ℕ)) (d : Store) (hs : List (List ℕ)) (i : ℕ) (rest all : List (List ℕ)) → hs ≡ [] → IsTidy s hs → (g ++ hs) ++ (r ∷ rest) ≡ all → Fallen rest all (put r (at_state g d hs s i))
+fallen_put : (r : List ℕ) (s : ConsoleState) (g : List (List ℕ)) (d : Store) (hs : List (List ℕ)) (i : ℕ) (rest all : List (List ℕ)) → hs ≡ [] → IsTidy s hs → (g ++ hs) ++ (r ∷ rest) ≡ all → Fallen rest all (put r (at_state g d hs s i))
 unfolding Fallen
 fallen_put r s g d hs i rest all none t e =
     (ap (λ x. ((g ++ r ∷ []) ++ x) ++ rest) none ∙ ap (λ x. x ++ rest) (append-nil (g ++ r ∷ [])) ∙ append_assoc g (r ∷ []) rest ∙ ap (λ x. x ++ (r ∷ rest)) (sym (append-nil g)) ∙ ap (λ x. (g ++ x) ++ (r ∷ rest)) (sym none) ∙ e, t)
 
-fallen_in : (s : State) (r : List ℕ) (g : List (List ℕ)) (d : Store) (hs : List (List ℕ)) (i : ℕ) (rest all : List (List ℕ)) → IsTidy s hs → (g ++ hs) ++ (r ∷ rest) ≡ all → Fallen rest all (due_in s r (at_state g d hs s i))
+fallen_in : (s : ConsoleState) (r : List ℕ) (g : List (List ℕ)) (d : Store) (hs : List (List ℕ)) (i : ℕ) (rest all : List (List ℕ)) → IsTidy s hs → (g ++ hs) ++ (r ∷ rest) ≡ all → Fallen rest all (due_in_state s r (at_state g d hs s i))
 unfolding Fallen
 fallen_in Asleep r g d hs i rest all t e = fallen_put r Asleep g d hs i rest all t t e
 fallen_in (Command line) r g d hs i rest all t e = fallen_put r (Command line) g d hs i rest all t t e
 fallen_in Overlong r g d hs i rest all t e = fallen_put r Overlong g d hs i rest all t t e
 fallen_in (Frame kind got) r g d hs i rest all t e = fallen_put r (Frame kind got) g d hs i rest all t t e
-fallen_in (Dump p sent) r g d hs i rest all t e = fallen_if rest all (nat_lt (length hs) 64) (hold r (at_state g d hs (Dump p sent) i)) (put r (ended (at_state g d hs (Dump p sent) i)))
+fallen_in (Dump p sent) r g d hs i rest all t e = fallen_if rest all (nat_lt (length hs) 64) (hold r (at_state g d hs (Dump p sent) i)) (put r (dump_ended (at_state g d hs (Dump p sent) i)))
     (ap (λ x. x ++ rest) (sym (append_assoc g hs (r ∷ []))) ∙ append_assoc (g ++ hs) (r ∷ []) rest ∙ e, tt)
     (ap (λ x. x ++ rest) (append-nil ((g ++ hs) ++ r ∷ [])) ∙ append_assoc (g ++ hs) (r ∷ []) rest ∙ e, refl)
 fallen_in (Looping n) r g d hs i rest all t e = fallen_put r (Looping n) g d hs i rest all t t e
@@ -313,29 +313,29 @@ fallen_all (r ∷ rs) c rest all h t e = let q = fallen_due r c (rs ++ rest) all
 
 module _ (f : Fates) (left : ℕ → List (List ℕ)) (falls : FallDue f left) (all : List (List ℕ)) (rises : EachFollows [] all) where
   -- a message of which nothing clears, where it comes as it was sent
-  pub now_sends : (m : List ℕ) (w : Line) → Now left all w → (delivered (f.host (w.messages + 1)) m ≡ m → Unclear m w.console) → (sends f m w).unseen ≡ None → Now left all (sends f m w)
+  pub now_sends : (m : List ℕ) (w : Line) → Now left all w → (delivered (f.host (w.messages + 1)) m ≡ m → Unclear m w.console) → (sends_message f m w).unseen ≡ None → Now left all (sends_message f m w)
   now_sends m w s c u =
       let got = delivered (f.host (w.messages + 1)) m in
       let clear : Unclear got w.console = elim (harm_cases m got) [
         | inl a ↦ completes_none got w.console (seen_host f m w u a).0
         | inr a ↦ subst (λ x. Unclear x w.console) (sym a) (c a)
       ] in
-      let h = sums_hears f got (counted f m w) (left w.messages) all (record { sum = s.sum; tidy = s.tidy; begun = s.begun }) clear in
-      let v = hears f got (counted f m w) in
-      let n : v.messages ≡ w.messages + 1 = hears_messages f got (counted f m w) in
+      let h = sums_hears f got (message_counted f m w) (left w.messages) all (record { sum = s.sum; tidy = s.tidy; begun = s.begun }) clear in
+      let v = hears f got (message_counted f m w) in
+      let n : v.messages ≡ w.messages + 1 = hears_messages f got (message_counted f m w) in
       let q = fallen_all (f.mids (w.messages + 1)) v.console (left (w.messages + 1)) all rises h.tidy (ap (λ x. records_of v.console ++ x) (sym (falls w.messages)) ∙ h.sum) in
       subst (λ k. Sums (left k) all (waited (f.mids (w.messages + 1)) v)) (sym n) (record { sum = q.0; tidy = q.1; begun = h.begun })
 
   -- while nothing is said
-  pub now_listens : (t : List TalkItem) (w v : Line) → Listens t → Now left all w → console_talk f t w ≡ Some v → Now left all v
+  pub now_listens : (t : List TalkItem) (w v : Line) → OnlyListens t → Now left all w → console_talk f t w ≡ Some v → Now left all v
   now_listens [] w v s n e = subst (Now left all) (same_Some w v e) n
   now_listens (Said b ends ∷ t) w v s n e = absurd s
   now_listens (Heard b ∷ t) w v s n e =
-      let g = and_then_some (step f (Heard b) w) (console_talk f t) v e in
+      let g = and_then_some (line_step f (Heard b) w) (console_talk f t) v e in
       let q = hearing_is w.flight b w g.0 refl g.1 in
       now_listens t g.0 v s (subst (Now left all) (sym q.2) (record { sum = n.sum; tidy = n.tidy; begun = n.begun })) g.2
   now_listens (Quiet ∷ t) w v s n e =
-      let g = and_then_some (step f Quiet w) (console_talk f t) v e in
+      let g = and_then_some (line_step f Quiet w) (console_talk f t) v e in
       let q = waiting_is w.flight f w g.0 refl g.1 in
       let c = w.console in
       let z = sums_tick f (flies w q.0) (left w.messages) all (record { sum = n.sum; tidy = n.tidy; begun = n.begun }) in

@@ -11,11 +11,11 @@ use Rattle.archive_record.specs.Record.{IsRow, ReadsAsRow}
 use Rattle.archive_record.specs.declared.record_read.RecordRead.{RecordRead}
 use Rattle.archive_record.specs.declared.record_read.RecordRead.TheVariants.{Row as ReadRow, Empty, OtherRevision, BadStamp}
 use Rattle.console_ring.specs.declared.plan.Plan.{Plan}
-use Rattle.console_ring.specs.Picture.{slot_of, slot_on, slots_before, shown, last_in, page_of}
+use Rattle.console_ring.specs.Picture.{ring_slot, slot_on, slots_before, shown, last_number_in, page_of}
 use Rattle.dmpaft_pump.specs.Slot.{is_row, is_record}
 use Rattle.station_base.specs.LastStamp.{exceeds}
 use Rattle.console_ring.specs.History.{ring_pages}
-use Rattle.dmpaft_pump.specs.Batch.{slots_from, slots, is_newer, one_if, last_if, rising, all_slots}
+use Rattle.dmpaft_pump.specs.Batch.{slots_from, slots_in_page, slot_is_newer, one_if, last_if, rising, all_slots}
 use Rattle.station_sim.specs.Sound.{AreRecords}
 use Rattle.line_laws.specs.Host.{ArePages}
 use Rattle.line_laws.proofs.Delivery.{slot_long}
@@ -87,13 +87,13 @@ slots_seen h p k j (suc left) ok few =
 pub pages_seen : (h : List (List ℕ)) (p : Plan) (k : ℕ) (taken : List (List ℕ)) → AreRecords h → ArePages h p k taken → all_slots 0 taken ≡ all_shown (pages_from h p k (length taken))
 pages_seen h p k [] ok are = refl
 pages_seen h p k (bytes ∷ more) ok are =
-    ap (λ b. slots 0 b ++ all_slots 0 more) are.0
+    ap (λ b. slots_in_page 0 b ++ all_slots 0 more) are.0
     ∙ ap (λ ss. ss ++ all_slots 0 more) (slots_seen h p k 0 5 ok (omega arith))
     ∙ ap (λ ss. all_shown (seen_from h p k 0 5) ++ ss) (pages_seen h p (k + 1) more ok are.1)
     ∙ sym (shown_join (seen_from h p k 0 5) (pages_from h p (k + 1) (length more)))
 
 -- those of a page from a place on
-from_place : (place : ℕ) (page : List ℕ) → place ≤ 4 → slots place page ≡ drop place (slots 0 page)
+from_place : (place : ℕ) (page : List ℕ) → place ≤ 4 → slots_in_page place page ≡ drop place (slots_in_page 0 page)
 from_place zero page few = refl
 from_place (suc zero) page few = refl
 from_place (suc (suc zero)) page few = refl
@@ -101,7 +101,7 @@ from_place (suc (suc (suc zero))) page few = refl
 from_place (suc (suc (suc (suc zero)))) page few = refl
 from_place (suc (suc (suc (suc (suc n))))) page few = absurd (omega arith)
 
-five : (page : List ℕ) → length (slots 0 page) ≡ 5
+five : (page : List ℕ) → length (slots_in_page 0 page) ≡ 5
 five page = refl
 
 drop_front : (n : ℕ) (xs ys : List (List ℕ)) → n ≤ length xs → drop n (xs ++ ys) ≡ drop n xs ++ ys
@@ -114,7 +114,7 @@ placed zero taken few = refl
 placed (suc n) [] few = refl
 placed (suc n) (page ∷ more) few =
     ap (λ ss. ss ++ all_slots 0 more) (from_place (suc n) page few)
-    ∙ sym (drop_front (suc n) (slots 0 page) (all_slots 0 more) (omega (arith, few, five page)))
+    ∙ sym (drop_front (suc n) (slots_in_page 0 page) (all_slots 0 more) (omega (arith, few, five page)))
 
 -- what a slot shows is nothing, or a record
 abbrev pub IsGood : Option (List ℕ) → Type 0
@@ -130,11 +130,11 @@ good_at [] i ok = tt
 good_at (r ∷ h) zero ok = ok.1
 good_at (r ∷ h) (suc i) ok = good_at h i ok.2
 
-good_slot : (h : List (List ℕ)) (s : ℕ) → AreRecords h → IsGood (slot_of h s)
+good_slot : (h : List (List ℕ)) (s : ℕ) → AreRecords h → IsGood (ring_slot h s)
 good_slot h s ok = go (nat_lt s (length h))
   where
-    go : (t : Bool) → IsGood (if t then slice_get h (last_in (length h) s) else None)
-    go true = good_at h (last_in (length h) s) ok
+    go : (t : Bool) → IsGood (if t then slice_get h (last_number_in (length h) s) else None)
+    go true = good_at h (last_number_in (length h) s) ok
     go false = tt
 
 good_from : (h : List (List ℕ)) (p : Plan) (k j left : ℕ) → AreRecords h → AreGood (seen_from h p k j left)
@@ -164,10 +164,10 @@ unwritten_is : is_record (replicate 52 255) ≡ false
 unfolding reading
 unwritten_is = refl
 
-newer_none : (a : Option CivilMinute) → is_newer a (replicate 52 255) ≡ false
+newer_none : (a : Option CivilMinute) → slot_is_newer a (replicate 52 255) ≡ false
 newer_none a = ap (λ t. t && exceeds a (stamp_in (replicate 52 255))) unwritten_is
 
-newer_some : (a : Option CivilMinute) (r : List ℕ) → ReadsAsRow r → is_newer a r ≡ nat_lt (level a) (level_of r)
+newer_some : (a : Option CivilMinute) (r : List ℕ) → ReadsAsRow r → slot_is_newer a r ≡ nat_lt (level a) (level_of r)
 newer_some a r row = ap (λ t. t && exceeds a (stamp_in r)) (row_is (reading r 1) row) ∙ exceeds_level a (stamp_in r) ∙ ap (λ n. nat_lt (level a) n) (sym (level_is r))
 
 -- the rows that a host gathers of slots are those that climb

@@ -2,19 +2,19 @@
 use Rattle.std.proofs.Common.{◌≡◌, ℕ, zero, suc, ◌+◌, ◌*◌, ◌<◌, ◌≤◌, Bool, true, false, ◌⊎◌, inl, inr, List, [], ◌∷◌, ◌++◌, length, Option, Some, None, refl, sym, ◌∙◌, ap, subst, arith, append-nil, length-append}
 use Rattle.std.specs.Prelude.{nat_lt}
 use Rattle.std.proofs.lemmas.Option.{same_Some}
-use Rattle.console_model.specs.Console.{Store, State, Console}
+use Rattle.console_model.specs.Console.{Store, ConsoleState, Console}
 use Rattle.console_ring.specs.declared.plan.Plan.{Plan}
 use Rattle.dmpaft_pump.specs.Command.{dmpaft}
 use Rattle.console_model.specs.declared.frame.FrameKind.TheVariants.{ForDump}
-use Rattle.console_model.specs.Console.State.{Asleep, Command, Overlong, Frame, Dump, Looping}
+use Rattle.console_model.specs.Console.ConsoleState.{Asleep, Command, Overlong, Frame, Dump, Looping}
 use Rattle.console_model.specs.declared.reply.ReplyKind.TheVariants.{Ack}
 use Rattle.console_model.specs.Line.{does}
 use Rattle.schedule_file.specs.Fates.{Fates}
 use Rattle.station_sim.specs.Delivery.{delivered, late}
-use Rattle.station_sim.specs.Line.{Line, replied, hears, completes, pages, counted, sends, says, due_all, begins_with_ack}
+use Rattle.station_sim.specs.Line.{Line, reply_joins, hears, completes, pages, message_counted, sends_message, says_byte, due_all, begins_with_ack}
 use Rattle.serial_link.specs.declared.talk.TalkItem.{TalkItem}
 use Rattle.station_sim.specs.Talk.{console_talk}
-use Rattle.station_sim.specs.Calm.{FewWaits, Rests}
+use Rattle.station_sim.specs.Calm.{FewWaits, ConsoleRests}
 use Rattle.station_sim.specs.Sound.{AreRecords, IsSound, AreSound}
 use Rattle.station_sim.proofs.Sounding.{records_front, sound_talk}
 use Rattle.console_model.specs.Due.{due_by, in_the_way}
@@ -26,11 +26,11 @@ use Rattle.vantage_frames.specs.Slots.{page_size}
 use Rattle.wake_retry.specs.Parts.{Still, heard, WakeFloods, Wakes, Awaits, answer_waits}
 use Rattle.serial_link.specs.declared.talk.TalkItem.TheVariants.{Said}
 use Rattle.station_sim.proofs.Calming.{closed_late, few_late}
-use Rattle.line_laws.specs.Host.{Listens, Near, NearAt}
+use Rattle.line_laws.specs.Host.{OnlyListens, Near, NearAt}
 use Rattle.line_laws.specs.Unharmed.{Rested}
 use Rattle.serial_link.specs.Talk.{message}
 use Rattle.station_sim.specs.Joining.{talks_part}
-use Rattle.line_laws.proofs.Listening.{bytes_of, Closed, closed_empty, listens}
+use Rattle.line_laws.proofs.Listening.{bytes_of, EndsInByte, closed_empty, listens}
 use Rattle.line_laws.proofs.Asked.{at_state}
 use Rattle.line_laws.proofs.Places.{said, no_length}
 use Rattle.line_laws.proofs.Delivery.{delivered_length, bytes_of_late}
@@ -41,7 +41,7 @@ use Rattle.line_laws.proofs.Framing.{StillFramed, Unframed, frame_listens, quiet
 use Rattle.line_laws.proofs.Pages.{after_calm, goes_unseen, awaits_listens, settles}
 
 -- the plan and the place of a console's own dump
-abbrev pub own_plan : State → Plan
+abbrev pub own_plan : ConsoleState → Plan
 own_plan Asleep = no_plan
 own_plan (Command line) = no_plan
 own_plan Overlong = no_plan
@@ -49,7 +49,7 @@ own_plan (Frame kind got) = no_plan
 own_plan (Dump p sent) = p
 own_plan (Looping n) = no_plan
 
-abbrev pub own_sent : State → ℕ
+abbrev pub own_sent : ConsoleState → ℕ
 own_sent Asleep = 0
 own_sent (Command line) = 0
 own_sent Overlong = 0
@@ -57,7 +57,7 @@ own_sent (Frame kind got) = 0
 own_sent (Dump p sent) = sent
 own_sent (Looping n) = 0
 
-near_own : (s : State) (i : ℕ) (g : List (List ℕ)) → Rests s → AreRecords g → NearAt g (own_plan s) (own_sent s) (own_sent s) s i g
+near_own : (s : ConsoleState) (i : ℕ) (g : List (List ℕ)) → ConsoleRests s → AreRecords g → NearAt g (own_plan s) (own_sent s) (own_sent s) s i g
 near_own Asleep i g r ok = tt
 near_own (Command []) i g r ok = tt
 near_own (Command (b ∷ line)) i g r ok = absurd cc
@@ -74,7 +74,7 @@ follows_front h (r ∷ rs) ss each = (each.0, follows_front (h ++ r ∷ []) rs s
 pub sound_history : (w : Line) → IsSound w → AreRecords w.console.history
 sound_history w sound = records_front w.console.history w.console.held sound.records
 
-pub near_itself : (c : Console) → Rests c.state → AreRecords c.history → Near c.history (own_plan c.state) (own_sent c.state) (own_sent c.state) c
+pub near_itself : (c : Console) → ConsoleRests c.state → AreRecords c.history → Near c.history (own_plan c.state) (own_sent c.state) (own_sent c.state) c
 near_itself c r ok = near_own c.state c.idle c.history r ok
 
 -- one LF and its settling
@@ -84,7 +84,7 @@ woken f ok s w v r still e =
     let p = own_plan w.console.state in
     let k = own_sent w.console.state in
     let a = said h p k k f ok.mild 10 w r.flight r.begun (near_itself w.console r.rests (sound_history w r.sound)) r.rests in
-    let z = settles h p k (k + 1) 3 f s (says f 10 true w) v (omega arith) still a.near a.few e in
+    let z = settles h p k (k + 1) 3 f s (says_byte f 10 true w) v (omega arith) still a.near a.few e in
     (record { flight = z.flight; begun = z.begun ∙ a.begun; rests = z.rests; sound = sound_talk f ok (Said 10 true ∷ s) w v e r.sound }, z.dumps ∙ a.dumps)
 
 -- the wake leaves a line at rest
@@ -109,7 +109,7 @@ wake_no_flood f ok (suc left) t w v r (s, rest, split, inl (flood, none)) e =
     let p = own_plan w.console.state in
     let k = own_sent w.console.state in
     let a = said h p k k f ok.mild 10 w r.flight r.begun (near_itself w.console r.rests (sound_history w r.sound)) r.rests in
-    no_flood f 3 s (says f 10 true w) v (after_calm h p f ok.mild k k (counted f (w.begun ++ 10 ∷ []) w) (says f 10 true w) refl a) flood (ap (λ x. console_talk f x w) is ∙ e)
+    no_flood f 3 s (says_byte f 10 true w) v (after_calm h p f ok.mild k k (message_counted f (w.begun ++ 10 ∷ []) w) (says_byte f 10 true w) refl a) flood (ap (λ x. console_talk f x w) is ∙ e)
 wake_no_flood f ok (suc left) t w v r (s, rest, split, inr (still, x, again)) e =
     let m = talks_part f (Said 10 true ∷ s) rest w v (ap (λ x. console_talk f x w) (sym split) ∙ e) in
     let a = woken f ok s w m.0 r still m.1 in
@@ -164,12 +164,12 @@ record Called (w v : Line) : Type 0 where
   held : List (List ℕ)
   console : v.console ≡ at_state history store held (Frame ForDump []) 0
   few : FewWaits 2 2 v.flight
-  closed : Closed v.flight
+  closed : EndsInByte v.flight
   size : length (bytes_of v.flight) ≤ 1
   begun : v.begun ≡ []
   dumps : v.dumps ≡ w.dumps
 
-pub call_goes : (f : Fates) (t : List TalkItem) (w : Line) → console_talk f (message dmpaft ++ t) w ≡ console_talk f t (sends f (w.begun ++ dmpaft) w)
+pub call_goes : (f : Fates) (t : List TalkItem) (w : Line) → console_talk f (message dmpaft ++ t) w ≡ console_talk f t (sends_message f (w.begun ++ dmpaft) w)
 unfolding dmpaft
 call_goes f t w = message_goes f 68 (77 ∷ 80 ∷ 65 ∷ 70 ∷ 84 ∷ 10 ∷ []) t w
 
@@ -180,21 +180,21 @@ call_length = refl
 long_call : (m : List ℕ) → m ≡ dmpaft → nat_lt 1 (length m) ≡ true
 long_call m e = let l : length m ≡ 7 = ap length e ∙ call_length in rw l refl
 
-calls_plainly : (f : Fates) → AreSound f → (m : List ℕ) (w : Line) → m ≡ dmpaft → Rested w → (sends f m w).unseen ≡ None →
+calls_plainly : (f : Fates) → AreSound f → (m : List ℕ) (w : Line) → m ≡ dmpaft → Rested w → (sends_message f m w).unseen ≡ None →
     completes (delivered (f.host (w.messages + 1)) m) w.console ≡ false → pages (delivered (f.host (w.messages + 1)) m) w.console ≡ false →
-    Strayed w (sends f m w) × (begins_with_ack (bytes_of (sends f m w).flight) ≡ false)
+    Strayed w (sends_message f m w) × (begins_with_ack (bytes_of (sends_message f m w).flight) ≡ false)
 calls_plainly f ok m w e r u c g =
     let got = delivered (f.host (w.messages + 1)) m in
     let h = w.console.history in
     let p = own_plan w.console.state in
     let k = own_sent w.console.state in
-    let y = hears_meekly h p k k f ok.mild got 0 (counted f m w) (record { near = near_itself w.console r.rests (sound_history w r.sound); few = rw r.flight tt; closed = rw r.flight tt; size = rw r.flight (omega arith) }) c g u in (
+    let y = hears_meekly h p k k f ok.mild got 0 (message_counted f m w) (record { near = near_itself w.console r.rests (sound_history w r.sound); few = rw r.flight tt; closed = rw r.flight tt; size = rw r.flight (omega arith) }) c g u in (
       record {
         history = h;
         plan = p;
         low = k;
         high = k;
-        tame = tame_more h p k k (0 + page_size * length got) 5000 (sends f m w) (omega (arith, delivered_length (f.host (w.messages + 1)) m, ap length e, call_length)) (tame_waited h p k k (0 + page_size * length got) (f.mids (w.messages + 1)) (hears f got (counted f m w)) y.tame);
+        tame = tame_more h p k k (0 + page_size * length got) 5000 (sends_message f m w) (omega (arith, delivered_length (f.host (w.messages + 1)) m, ap length e, call_length)) (tame_waited h p k k (0 + page_size * length got) (f.mids (w.messages + 1)) (hears f got (message_counted f m w)) y.tame);
         begun = y.begun;
         dumps = y.dumps;
       },
@@ -202,14 +202,14 @@ calls_plainly f ok m w e r u c g =
     )
 
 calls_frame : (f : Fates) → AreSound f → (m : List ℕ) (w : Line) → Rested w → delivered (f.host (w.messages + 1)) m ≡ dmpaft → (g : List (List ℕ)) (d : Store) (hs : List (List ℕ)) →
-    hears f dmpaft (counted f m w) ≡ replied f (does Ack (6 ∷ []) (at_state g d hs (Frame ForDump []) 0)) (counted f m w) → Called w (sends f m w)
+    hears f dmpaft (message_counted f m w) ≡ reply_joins f (does Ack (6 ∷ []) (at_state g d hs (Frame ForDump []) 0)) (message_counted f m w) → Called w (sends_message f m w)
 calls_frame f ok m w r e g d hs q =
     let o = does Ack (6 ∷ []) (at_state g d hs (Frame ForDump []) 0) in
-    let z : hears f (delivered (f.host (w.messages + 1)) m) (counted f m w) ≡ replied f o (counted f m w) = ap (λ x. hears f x (counted f m w)) e ∙ q in
+    let z : hears f (delivered (f.host (w.messages + 1)) m) (message_counted f m w) ≡ reply_joins f o (message_counted f m w) = ap (λ x. hears f x (message_counted f m w)) e ∙ q in
     let k = due_framed (f.mids (w.messages + 1)) [] g d hs 0 in
     let n = w.replies + 1 in
     let l = late (f.late n).waits (f.late n).place (delivered (f.reply n) (6 ∷ [])) in
-    let fl : (sends f m w).flight ≡ l = ap (λ x. x.flight) z ∙ ap (λ x. x ++ l) r.flight in
+    let fl : (sends_message f m w).flight ≡ l = ap (λ x. x.flight) z ∙ ap (λ x. x ++ l) r.flight in
     record {
       history = k.0;
       store = d;
@@ -222,17 +222,17 @@ calls_frame f ok m w r e g d hs q =
       dumps = ap (λ x. x.dumps) z ∙ append-nil w.dumps;
     }
 
-called : (f : Fates) → AreSound f → (m : List ℕ) (w : Line) → m ≡ dmpaft → Rested w → (sends f m w).unseen ≡ None →
-    Called w (sends f m w) ⊎ (Strayed w (sends f m w) × (begins_with_ack (bytes_of (sends f m w).flight) ≡ false))
+called : (f : Fates) → AreSound f → (m : List ℕ) (w : Line) → m ≡ dmpaft → Rested w → (sends_message f m w).unseen ≡ None →
+    Called w (sends_message f m w) ⊎ (Strayed w (sends_message f m w) × (begins_with_ack (bytes_of (sends_message f m w).flight) ≡ false))
 called f ok m w e r u = elim (harm_cases m (delivered (f.host (w.messages + 1)) m)) [
   | inl a ↦ (let z = seen_host f m w u a in inr (calls_plainly f ok m w e r u z.0 (z.1 (long_call m e))))
-  | inr a ↦ elim (calls_dump f (counted f m w) r.rests) [
+  | inr a ↦ elim (calls_dump f (message_counted f m w) r.rests) [
     | inl z ↦ inr (calls_plainly f ok m w e r u (ap (λ x. completes x w.console) (a ∙ e) ∙ z.0) (ap (λ x. pages x w.console) (a ∙ e) ∙ z.1))
     | inr z ↦ inl (calls_frame f ok m w r (a ∙ e) z.0 z.1 z.2 z.3)
   ]
 ]
 
-pub strayed_on : (f : Fates) (t : List TalkItem) (w u v : Line) → Listens t → Strayed w u → console_talk f t u ≡ Some v → Strayed w v
+pub strayed_on : (f : Fates) (t : List TalkItem) (w u v : Line) → OnlyListens t → Strayed w u → console_talk f t u ≡ Some v → Strayed w v
 strayed_on f t w u v s k e =
     let l = listens k.history k.plan k.low k.high f t u v s k.tame.near e in
     record {
@@ -245,7 +245,7 @@ strayed_on f t w u v s k e =
       dumps = l.dumps ∙ k.dumps;
     }
 
-no_ack_heard : (f : Fates) (t : List TalkItem) (w u v : Line) → Listens t → Strayed w u → console_talk f t u ≡ Some v → begins_with_ack (bytes_of u.flight) ≡ false → ¬ (heard t ≡ 6 ∷ [])
+no_ack_heard : (f : Fates) (t : List TalkItem) (w u v : Line) → OnlyListens t → Strayed w u → console_talk f t u ≡ Some v → begins_with_ack (bytes_of u.flight) ≡ false → ¬ (heard t ≡ 6 ∷ [])
 no_ack_heard f t w u v s k e b is =
     let l = listens k.history k.plan k.low k.high f t u v s k.tame.near e in
     let z : bytes_of u.flight ≡ 6 ∷ bytes_of v.flight = l.bytes ∙ ap (λ x. x ++ bytes_of v.flight) is in
@@ -278,10 +278,10 @@ pub asks_law : (f : Fates) → AreSound f → (t : List TalkItem) (w v : Line) �
 asks_law f ok t w v r awaits e u =
     let m = w.begun ++ dmpaft in
     let is : m ≡ dmpaft = ap (λ x. x ++ dmpaft) r.begun in
-    let e' : console_talk f t (sends f m w) ≡ Some v = sym (call_goes f t w) ∙ e in
+    let e' : console_talk f t (sends_message f m w) ≡ Some v = sym (call_goes f t w) ∙ e in
     let s = awaits_listens 1 t awaits in
-    elim (called f ok m w is r (goes_unseen f t (sends f m w) v e' u)) [
-      | inl k ↦ called_on t w (sends f m w) v k (sound_talk f ok (message dmpaft ++ t) w v e r.sound) awaits (frame_listens [] no_plan 0 0 [] k.history k.store k.held f ok.mild t 1 0 (sends f m w) v s
+    elim (called f ok m w is r (goes_unseen f t (sends_message f m w) v e' u)) [
+      | inl k ↦ called_on t w (sends_message f m w) v k (sound_talk f ok (message dmpaft ++ t) w v e r.sound) awaits (frame_listens [] no_plan 0 0 [] k.history k.store k.held f ok.mild t 1 0 (sends_message f m w) v s
           (record { console = k.console; soon = omega arith; few = k.few; closed = k.closed; size = k.size }) e')
-      | inr k ↦ inr (strayed_on f t w (sends f m w) v s k.0 e', no_ack_heard f t w (sends f m w) v s k.0 e' k.1)
+      | inr k ↦ inr (strayed_on f t w (sends_message f m w) v s k.0 e', no_ack_heard f t w (sends_message f m w) v s k.0 e' k.1)
     ]

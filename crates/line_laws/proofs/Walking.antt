@@ -3,32 +3,32 @@ use Rattle.std.proofs.Common.{◌≡◌, ℕ, zero, suc, ◌+◌, ◌≤◌, if�
 use Rattle.std.specs.Prelude.{nat_lt}
 use Rattle.std.proofs.lemmas.Option.{same_Some}
 use Rattle.vantage_frames.specs.Slots.{page_size}
-use Rattle.console_model.specs.Console.{Store, State}
+use Rattle.console_model.specs.Console.{Store, ConsoleState}
 use Rattle.console_model.specs.declared.signal.Signal.{Signal}
 use Rattle.console_model.specs.Reading.{signal}
 use Rattle.console_model.proofs.Orders.{read_empty, read_dump_after, read_without_first}
 use Rattle.dmpaft_pump.specs.declared.outcome.Trouble.{Trouble}
 use Rattle.dmpaft_pump.specs.Header.{IsHeader, IsNoHeader}
-use Rattle.dmpaft_driver.specs.Attempt.{last_said, Attempt, Requests, Heads, Pages, Takes, Misses, AskFloods, End, esc}
+use Rattle.dmpaft_driver.specs.Attempt.{last_said, Attempt, Requests, Heads, Pages, TakesPage, Misses, AskFloods, End, esc}
 use Rattle.dmpaft_pump.specs.Command.{dmpaft}
 use Rattle.console_model.specs.declared.frame.FrameKind.TheVariants.{ForDump}
-use Rattle.console_model.specs.Console.State.{Asleep, Command, Overlong, Frame, Dump, Looping}
+use Rattle.console_model.specs.Console.ConsoleState.{Asleep, Command, Overlong, Frame, Dump, Looping}
 use Rattle.console_model.specs.declared.signal.Signal.TheVariants.{Lf, Next, Again, Stop, Other}
 use Rattle.console_model.specs.Frame.{at_frame}
 use Rattle.console_model.specs.Line.{silent, to}
 use Rattle.console_model.specs.Tick.{tick}
 use Rattle.schedule_file.specs.Fates.{Fates}
 use Rattle.station_sim.specs.Delivery.{delivered}
-use Rattle.station_sim.specs.Line.{Line, flies, counted, sends, says}
+use Rattle.station_sim.specs.Line.{Line, flies, message_counted, sends_message, says_byte}
 use Rattle.serial_link.specs.declared.talk.TalkItem.{TalkItem}
-use Rattle.station_sim.specs.Talk.{console_talk, step, and_then}
+use Rattle.station_sim.specs.Talk.{console_talk, line_step, and_then}
 use Rattle.station_sim.specs.Sound.{IsSound, AreSound}
 use Rattle.station_sim.proofs.Sounding.{sound_talk}
-use Rattle.station_sim.specs.Calm.{Rests, IsCalm}
+use Rattle.station_sim.specs.Calm.{ConsoleRests, IsCalm}
 use Rattle.wake_retry.specs.Parts.{IsFull, heard, Wakes, answer_waits, settled_waits}
 use Rattle.serial_link.specs.declared.talk.TalkItem.TheVariants.{Said, Heard, Quiet}
 use Rattle.line_laws.specs.Unharmed.{Rested}
-use Rattle.line_laws.specs.Host.{Listens}
+use Rattle.line_laws.specs.Host.{OnlyListens}
 use Rattle.line_laws.specs.Records.{Now}
 use Rattle.serial_link.specs.Talk.{message}
 use Rattle.dmpaft_pump.specs.Page.{is_page_before, next_said}
@@ -55,7 +55,7 @@ not_lf Again = true
 not_lf Stop = true
 not_lf Other = true
 
-not_lf_clears : (s : State) (m : Signal) → not_lf m ≡ true → clears s m ≡ false
+not_lf_clears : (s : ConsoleState) (m : Signal) → not_lf m ≡ true → clears s m ≡ false
 not_lf_clears Asleep m e = refl
 not_lf_clears (Command line) Lf e = absurd cc
 not_lf_clears (Command line) Next e = refl
@@ -74,7 +74,7 @@ IsPlain (Said b ends ∷ t) = (ends ≡ true) × (not_lf (signal b) ≡ true) ×
 IsPlain (Heard b ∷ t) = IsPlain t
 IsPlain (Quiet ∷ t) = IsPlain t
 
-plain_listens : (t : List TalkItem) → Listens t → IsPlain t
+plain_listens : (t : List TalkItem) → OnlyListens t → IsPlain t
 plain_listens [] s = tt
 plain_listens (Said b ends ∷ t) s = absurd s
 plain_listens (Heard b ∷ t) s = plain_listens t s
@@ -86,7 +86,7 @@ plain_join (Said x ends ∷ s) t a b = (a.0, a.1, plain_join s t a.2 b)
 plain_join (Heard x ∷ s) t a b = plain_join s t a b
 plain_join (Quiet ∷ s) t a b = plain_join s t a b
 
-plain_said : (b : ℕ) (t rest talk : List TalkItem) → talk ≡ Said b true ∷ t ++ rest → not_lf (signal b) ≡ true → Listens t → IsPlain rest → IsPlain talk
+plain_said : (b : ℕ) (t rest talk : List TalkItem) → talk ≡ Said b true ∷ t ++ rest → not_lf (signal b) ≡ true → OnlyListens t → IsPlain rest → IsPlain talk
 plain_said b t rest talk e n s r = subst IsPlain (sym e) (refl, n, plain_join t rest (plain_listens t s) r)
 
 next_plain : (t : Bool) → not_lf (signal (if t then 6 else 21)) ≡ true
@@ -96,7 +96,7 @@ next_plain false = refl
 said_next : (k : ℕ) (bytes : List ℕ) → not_lf (signal (next_said k bytes)) ≡ true
 said_next k bytes = next_plain (is_page_before k bytes)
 
-takes_plain : (left k b : ℕ) (talk : List TalkItem) (bytes : List ℕ) → not_lf (signal b) ≡ true → Takes left k b talk bytes → IsPlain talk
+takes_plain : (left k b : ℕ) (talk : List TalkItem) (bytes : List ℕ) → not_lf (signal b) ≡ true → TakesPage left k b talk bytes → IsPlain talk
 takes_plain zero k b talk bytes n x = absurd x
 takes_plain (suc left) k b talk bytes n (t, rest, split, awaits, inl (page, none, is)) = plain_said b t rest talk split n (awaits_listens page_size t awaits) (rw none tt)
 takes_plain (suc left) k b talk bytes n (t, rest, split, awaits, inr (page, ahead, (s, more, split2, still, again))) =
@@ -134,7 +134,7 @@ pages_plain (suc left) k talk taken end (inr (inl (t, trouble, split, misses, no
 pages_plain (suc left) k talk taken end (inr (inr (floods, none, is))) = floods_plain most_askings k 6 talk refl floods
 
 -- one LF, to a console that rests
-lf_unclear : (s : State) (g : List (List ℕ)) (d : Store) (hs : List (List ℕ)) (i : ℕ) → Rests s → Unclear (10 ∷ []) (at_state g d hs s i)
+lf_unclear : (s : ConsoleState) (g : List (List ℕ)) (d : Store) (hs : List (List ℕ)) (i : ℕ) → ConsoleRests s → Unclear (10 ∷ []) (at_state g d hs s i)
 lf_unclear Asleep g d hs i r = (refl, tt)
 lf_unclear (Command []) g d hs i r = (ap is_clear (read_empty [] refl), tt)
 lf_unclear (Command (b ∷ line)) g d hs i r = absurd cc
@@ -144,7 +144,7 @@ lf_unclear (Dump p sent) g d hs i r = (refl, tt)
 lf_unclear (Looping n) g d hs i r = absurd r
 
 -- DMPAFT
-call_unclear : (s : State) (g : List (List ℕ)) (d : Store) (hs : List (List ℕ)) (i : ℕ) → Rests s → Unclear dmpaft (at_state g d hs s i)
+call_unclear : (s : ConsoleState) (g : List (List ℕ)) (d : Store) (hs : List (List ℕ)) (i : ℕ) → ConsoleRests s → Unclear dmpaft (at_state g d hs s i)
 unfolding dmpaft
 call_unclear Asleep g d hs i r = (refl, (refl, (refl, (refl, (refl, (refl, (ap is_clear read_without_first, tt)))))))
 call_unclear (Command []) g d hs i r = (refl, (refl, (refl, (refl, (refl, (refl, (ap is_clear read_dump_after, tt)))))))
@@ -165,40 +165,40 @@ frame_unclear (b ∷ c ∷ bs) acc g d hs i n =
 
 module _ (f : Fates) (ok : AreSound f) (left : ℕ → List (List ℕ)) (falls : FallDue f left) (all : List (List ℕ)) (rises : EachFollows [] all) where
   -- a message of one byte that is no LF
-  now_said : (b : ℕ) (w : Line) → Now left all w → w.begun ≡ [] → not_lf (signal b) ≡ true → (says f b true w).unseen ≡ None → Now left all (says f b true w) × ((says f b true w).begun ≡ [])
+  now_said : (b : ℕ) (w : Line) → Now left all w → w.begun ≡ [] → not_lf (signal b) ≡ true → (says_byte f b true w).unseen ≡ None → Now left all (says_byte f b true w) × ((says_byte f b true w).begun ≡ [])
   now_said b w n z l u =
       let m = w.begun ++ b ∷ [] in
       let e : m ≡ b ∷ [] = ap (λ x. x ++ b ∷ []) z in (
         now_sends f left falls all rises m w n (λ same. subst (λ x. Unclear x w.console) (sym e) (not_lf_clears w.console.state (signal b) l, tt)) u,
-        hears_begun f (delivered (f.host (w.messages + 1)) m) (counted f m w),
+        hears_begun f (delivered (f.host (w.messages + 1)) m) (message_counted f m w),
       )
 
   now_plain : (t : List TalkItem) (w v : Line) → IsPlain t → Now left all w → w.begun ≡ [] → console_talk f t w ≡ Some v → v.unseen ≡ None → Now left all v
   now_plain [] w v p n z e u = subst (Now left all) (same_Some w v e) n
   now_plain (Said b true ∷ t) w v p n z e u =
-      let q = now_said b w n z p.1 (goes_unseen f t (says f b true w) v e u) in
-      now_plain t (says f b true w) v p.2 q.0 q.1 e u
+      let q = now_said b w n z p.1 (goes_unseen f t (says_byte f b true w) v e u) in
+      now_plain t (says_byte f b true w) v p.2 q.0 q.1 e u
   now_plain (Said b false ∷ t) w v p n z e u = absurd (let x : false ≡ true = p.0 in cc)
   now_plain (Heard b ∷ t) w v p n z e u =
-      let g = and_then_some (step f (Heard b) w) (console_talk f t) v e in
+      let g = and_then_some (line_step f (Heard b) w) (console_talk f t) v e in
       let q = hearing_is w.flight b w g.0 refl g.1 in
       let one : console_talk f (Heard b ∷ []) w ≡ Some g.0 = ap (λ o. and_then o (console_talk f [])) g.1 in
       now_plain t g.0 v p (now_listens f left falls all rises (Heard b ∷ []) w g.0 tt n one) (ap (λ x. x.begun) q.2 ∙ z) g.2 u
   now_plain (Quiet ∷ t) w v p n z e u =
-      let g = and_then_some (step f Quiet w) (console_talk f t) v e in
+      let g = and_then_some (line_step f Quiet w) (console_talk f t) v e in
       let q = waiting_is w.flight f w g.0 refl g.1 in
       let c = w.console in
       let one : console_talk f (Quiet ∷ []) w ≡ Some g.0 = ap (λ o. and_then o (console_talk f [])) g.1 in
       now_plain t g.0 v p (now_listens f left falls all rises (Quiet ∷ []) w g.0 tt n one) (ap (λ x. x.begun) q.2 ∙ begun_joins (tick c).kind f (tick c) (flies w q.0) ∙ z) g.2 u
 
   -- an LF and its settling
-  now_woken : (s : List TalkItem) (w v : Line) → Rested w → Listens s → Now left all w → console_talk f (Said 10 true ∷ s) w ≡ Some v → v.unseen ≡ None → Now left all v
+  now_woken : (s : List TalkItem) (w v : Line) → Rested w → OnlyListens s → Now left all w → console_talk f (Said 10 true ∷ s) w ≡ Some v → v.unseen ≡ None → Now left all v
   now_woken s w v r l n e u =
       let m = w.begun ++ 10 ∷ [] in
       let is : m ≡ 10 ∷ [] = ap (λ x. x ++ 10 ∷ []) r.begun in
       let c = w.console in
-      let q = now_sends f left falls all rises m w n (λ same. subst (λ x. Unclear x w.console) (sym is) (lf_unclear c.state c.history c.store c.held c.idle r.rests)) (goes_unseen f s (says f 10 true w) v e u) in
-      now_listens f left falls all rises s (says f 10 true w) v l q e
+      let q = now_sends f left falls all rises m w n (λ same. subst (λ x. Unclear x w.console) (sym is) (lf_unclear c.state c.history c.store c.held c.idle r.rests)) (goes_unseen f s (says_byte f 10 true w) v e u) in
+      now_listens f left falls all rises s (says_byte f 10 true w) v l q e
 
   now_wakes : (tries : ℕ) (t : List TalkItem) (awake : Bool) (w v : Line) → Rested w → Wakes tries t awake → Now left all w → console_talk f t w ≡ Some v → v.unseen ≡ None → Now left all v
   now_wakes zero t awake w v r (none, is) n e u = subst (Now left all) (same_Some w v (ap (λ x. console_talk f x w) (sym none) ∙ e)) n
@@ -211,17 +211,17 @@ module _ (f : Fates) (ok : AreSound f) (left : ℕ → List (List ℕ)) (falls :
       now_wakes tries rest awake m.0 v (woken f ok s w m.0 r still m.1).0 again a m.2 u
 
   -- what is said of a whole message and the listening after it
-  now_message : (m : List ℕ) (t : List TalkItem) (w v : Line) → Now left all w → Unclear m w.console → Listens t → console_talk f t (sends f m w) ≡ Some v → v.unseen ≡ None → Now left all v × (v.begun ≡ [])
+  now_message : (m : List ℕ) (t : List TalkItem) (w v : Line) → Now left all w → Unclear m w.console → OnlyListens t → console_talk f t (sends_message f m w) ≡ Some v → v.unseen ≡ None → Now left all v × (v.begun ≡ [])
   now_message m t w v n c l e u =
-      let q = now_sends f left falls all rises m w n (λ same. c) (goes_unseen f t (sends f m w) v e u) in (
-        now_listens f left falls all rises t (sends f m w) v l q e,
-        (listens_begun f t (sends f m w) v l e).0 ∙ hears_begun f (delivered (f.host (w.messages + 1)) m) (counted f m w),
+      let q = now_sends f left falls all rises m w n (λ same. c) (goes_unseen f t (sends_message f m w) v e u) in (
+        now_listens f left falls all rises t (sends_message f m w) v l q e,
+        (listens_begun f t (sends_message f m w) v l e).0 ∙ hears_begun f (delivered (f.host (w.messages + 1)) m) (message_counted f m w),
       )
 
   now_heads : (frame : List ℕ) (talk : List TalkItem) (place : ℕ) (taken : List (List ℕ)) (end : End) (w u v : Line) → length frame ≡ 6 → Awaiting [] w u → Heads frame talk place taken end → Now left all u → console_talk f talk u ≡ Some v → v.unseen ≡ None → Now left all v
   now_heads frame talk place taken end w u v six k (t, rest, split, awaits, next) n e un =
       let m = talks_part f (message frame ++ t) rest u v (ap (λ x. console_talk f x u) (append_assoc (message frame) t rest ∙ sym split) ∙ e) in
-      let e' : console_talk f t (sends f (u.begun ++ frame) u) ≡ Some m.0 = sym (frame_goes f frame t u six) ∙ m.1 in
+      let e' : console_talk f t (sends_message f (u.begun ++ frame) u) ≡ Some m.0 = sym (frame_goes f frame t u six) ∙ m.1 in
       let is : u.begun ++ frame ≡ frame = ap (λ x. x ++ frame) k.begun in
       let c : Unclear (u.begun ++ frame) u.console = subst (λ x. Unclear x u.console) (sym is) (subst (Unclear frame) (sym k.console) (frame_unclear frame [] k.history k.store k.held k.idle (omega (arith, six)))) in
       let q = now_message (u.begun ++ frame) t u m.0 n c (awaits_listens 7 t awaits) e' (goes_unseen f rest m.0 v m.2 un) in
@@ -235,7 +235,7 @@ module _ (f : Fates) (ok : AreSound f) (left : ℕ → List (List ℕ)) (falls :
   now_asks frame talk place taken end w v six r (t, rest, split, awaits, next) n e un =
       let m = talks_part f (message dmpaft ++ t) rest w v (ap (λ x. console_talk f x w) (append_assoc (message dmpaft) t rest ∙ sym split) ∙ e) in
       let seen = goes_unseen f rest m.0 v m.2 un in
-      let e' : console_talk f t (sends f (w.begun ++ dmpaft) w) ≡ Some m.0 = sym (call_goes f t w) ∙ m.1 in
+      let e' : console_talk f t (sends_message f (w.begun ++ dmpaft) w) ≡ Some m.0 = sym (call_goes f t w) ∙ m.1 in
       let is : w.begun ++ dmpaft ≡ dmpaft = ap (λ x. x ++ dmpaft) r.begun in
       let c : Unclear (w.begun ++ dmpaft) w.console = subst (λ x. Unclear x w.console) (sym is) (call_unclear w.console.state w.console.history w.console.store w.console.held w.console.idle r.rests) in
       let q = now_message (w.begun ++ dmpaft) t w m.0 n c (awaits_listens 1 t awaits) e' seen in

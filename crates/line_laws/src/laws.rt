@@ -14,39 +14,41 @@ ghost use Rattle.dmpaft_pump.specs.Batch.{batches};
 ghost use Rattle.schedule_file.specs.Fates.{Fates};
 ghost use Rattle.station_sim.specs.Line.{Line};
 ghost use Rattle.station_sim.specs.Talk.{ConsoleTalk};
-ghost use Rattle.station_sim.specs.Calm.{IsCalm, AreMild, Rests};
+ghost use Rattle.station_sim.specs.Calm.{IsCalm, AreMild, ConsoleRests};
 ghost use Rattle.station_sim.specs.Sound.{IsSound, AreSound};
 ghost use Rattle.station_sim.specs.Falling.{FallDue};
 ghost use Rattle.schedule_file.specs.declared.fates.Fates as lists;
-ghost use Rattle.schedule_file.specs.Lists.{fates_of, left_in};
+ghost use Rattle.schedule_file.specs.Lists.{fates_of, records_left_in};
 ghost use Rattle.console_model.specs.Valid.{EachFollows};
 ghost use Rattle.wake_retry.specs.Parts.{settled_waits, answer_waits, wake_tries};
 ghost use Rattle.dmpaft_pump.specs.Pump.{most_askings};
-ghost use Rattle.line_laws.specs.Gathers.{IsStamp, Gives};
+ghost use Rattle.line_laws.specs.Gathers.{IsStamp, AttemptGives};
 ghost use Rattle.line_laws.specs.Records.{Now};
 ghost use Rattle.line_laws.specs.Unharmed.{Rested, Awake, Waiting, InDump, BeginsDump, feeds_for};
-ghost use Rattle.line_laws.specs.Host.{Listens, Ready, Position, GathersPages};
+ghost use Rattle.line_laws.specs.Host.{OnlyListens, HostIsReady, Position, GathersPages};
 
 /// After a settling from a calm line nothing is in flight, and nothing is unfinished.
 #[tactic(auto, using(crate::proofs::Flight::flight_law))]
 pub fn six_waits()
     ensures { (f : Fates) → AreMild f → (t : List TalkItem) (w v : Line) → IsCalm w → Still settled_waits t
-        → ConsoleTalk f t w v → (v.flight ≡ []) × Rests v.console.state }
+        → ConsoleTalk f t w v → (v.flight ≡ []) × ConsoleRests v.console.state }
 {}
 
 /// Where the line stands after one asking for page k, whatever byte it is said with, of a console that was at most one page behind
 /// it and three ahead.
 pub fn position()
-    ensures { (h : List (List ℕ)) (p : Plan) (k j : ℕ) (f : Fates) → AreMild f → (t : List TalkItem) → Listens t
-        → (w v : Line) (b : ℕ) → Ready h p k j w → j ≤ most_askings - 1
+    ensures { (h : List (List ℕ)) (p : Plan) (k j : ℕ) (f : Fates) → AreMild f → (t : List TalkItem) → OnlyListens t
+        → (w v : Line) (b : ℕ) → HostIsReady h p k j w → j ≤ most_askings - 1
         → ConsoleTalk f (TalkItem.Said b true ∷ t) w v → Position h p k j f t v }
 {}
 
 /// One attempt from a calm line in which no delivery is unseen: the line is calm again, at most one dump began, and the pages taken
 /// are the first of its plan, all of them where the attempt is whole.
 pub fn pages_of_an_attempt()
-    ensures { (f : Fates) → AreSound f → (frame : List ℕ) → length frame ≡ 6 → (talk : List TalkItem) (place : ℕ) (taken : List (List ℕ)) (end : End)
-        (w v : Line) → IsSound w → IsCalm w → Attempt frame talk place taken end → ConsoleTalk f talk w v → v.unseen ≡ None
+    ensures { (f : Fates) → AreSound f → (frame : List ℕ) → length frame ≡ 6
+        → (talk : List TalkItem) (place : ℕ) (taken : List (List ℕ)) (end : End)
+        (w v : Line) → IsSound w → IsCalm w → Attempt frame talk place taken end → ConsoleTalk f talk w v
+        → v.unseen ≡ None
         → IsCalm v × GathersPages frame w place taken end v }
 {}
 
@@ -54,23 +56,31 @@ pub fn pages_of_an_attempt()
 /// records of the batches are the first of those that were held as it began and are newer than the stamp, all of them where the
 /// attempt is whole.
 pub fn one_attempt()
-    ensures { (f : Fates) → AreSound f → (after : Option CivilMinute) → IsStamp after → (talk : List TalkItem) (place : ℕ) (taken : List (List ℕ)) (end : End)
-        (w v : Line) → IsSound w → IsCalm w → Attempt (stamp_frame_of after) talk place taken end → ConsoleTalk f talk w v → v.unseen ≡ None
-        → IsCalm v × Gives after w (batches after place taken) end v }
+    ensures { (f : Fates) → AreSound f → (after : Option CivilMinute) → IsStamp after
+        → (talk : List TalkItem) (place : ℕ) (taken : List (List ℕ)) (end : End)
+        (w v : Line) → IsSound w → IsCalm w → Attempt (stamp_frame_of after) talk place taken end
+        → ConsoleTalk f talk w v → v.unseen ≡ None
+        → IsCalm v × AttemptGives after w (batches after place taken) end v }
 {}
 
 /// No attempt empties the archive: what was put and what is held grows by the records that fall due with the messages of the attempt,
 /// and by no others, and a dump that began has the first of these as its history.
 pub fn records_of_an_attempt()
-    ensures { (f : Fates) → AreSound f → (left : ℕ → List (List ℕ)) → FallDue f left → (all : List (List ℕ)) → EachFollows [] all
-        → (frame : List ℕ) (talk : List TalkItem) (place : ℕ) (taken : List (List ℕ)) (end : End) (w v : Line) → length frame ≡ 6 → IsSound w → IsCalm w
-        → Attempt frame talk place taken end → Now left all w → ConsoleTalk f talk w v → v.unseen ≡ None → Now left all v }
+    ensures { (f : Fates) → AreSound f → (left : ℕ → List (List ℕ)) → FallDue f left → (all : List (List ℕ))
+        → EachFollows [] all
+        → (frame : List ℕ) (talk : List TalkItem) (place : ℕ) (taken : List (List ℕ)) (end : End) (w v : Line)
+        → length frame ≡ 6 → IsSound w → IsCalm w
+        → Attempt frame talk place taken end → Now left all w → ConsoleTalk f talk w v → v.unseen ≡ None
+        → Now left all v }
 {}
 
 /// An attempt after a stamp from a calm line in which no delivery is harmed is whole, unless the keeper refused a batch.
 pub fn an_attempt_without_harm()
-    ensures { (f : Fates) → AreSound f → (after : Option CivilMinute) (talk : List TalkItem) (place : ℕ) (taken : List (List ℕ)) (end : End) (w v : Line)
-        → IsSound w → IsCalm w → Attempt (stamp_frame_of after) talk place taken end → ConsoleTalk f talk w v → v.harmed ≡ w.harmed
+    ensures { (f : Fates) → AreSound f
+        → (after : Option CivilMinute) (talk : List TalkItem) (place : ℕ) (taken : List (List ℕ)) (end : End)
+        (w v : Line)
+        → IsSound w → IsCalm w → Attempt (stamp_frame_of after) talk place taken end → ConsoleTalk f talk w v
+        → v.harmed ≡ w.harmed
         → (end ≡ End.Whole) ⊎ (end ≡ End.Refused) }
 {}
 
@@ -87,7 +97,8 @@ pub fn a_wake_without_harm()
 /// A stamp frame to a console that awaits it, no delivery harmed, is answered by 0x06 and the header of its plan, and where that has pages
 /// the console is in its dump.
 pub fn a_header_without_harm()
-    ensures { (f : Fates) → AreSound f → (after : Option CivilMinute) (t : List TalkItem) (w u v : Line) (a : Waiting w u)
+    ensures { (f : Fates) → AreSound f
+        → (after : Option CivilMinute) (t : List TalkItem) (w u v : Line) (a : Waiting w u)
         → IsSound u → Awaits answer_waits 7 t
         → ConsoleTalk f (message (stamp_frame_of after) ++ t) u v → v.harmed ≡ u.harmed
         → BeginsDump f a.history (plan_after a.history (stamp_frame_of after)) t v }
@@ -95,7 +106,8 @@ pub fn a_header_without_harm()
 
 /// Each page comes at its first asking where no delivery is harmed, and the console stays in the dump.
 pub fn a_page_without_harm()
-    ensures { (f : Fates) → AreMild f → (g : List (List ℕ)) (p : Plan) (k : ℕ) (t : List TalkItem) (w v : Line) → k < p.pages → InDump f g p k w
+    ensures { (f : Fates) → AreMild f → (g : List (List ℕ)) (p : Plan) (k : ℕ) (t : List TalkItem) (w v : Line)
+        → k < p.pages → InDump f g p k w
         → Awaits answer_waits page_size t → ConsoleTalk f (TalkItem.Said 6 true ∷ t) w v → v.harmed ≡ w.harmed
         → (heard t ≡ page_of g p k) × InDump f g p (k + 1) v }
 {}
@@ -103,5 +115,5 @@ pub fn a_page_without_harm()
 /// The records of a round fall due in the order in which they are listed.
 #[tactic(auto, using(crate::proofs::Falling::fates_fall))]
 pub fn records_fall_due_in_order()
-    ensures { (f : lists.Fates) → FallDue (fates_of f) (left_in f.mids.items) }
+    ensures { (f : lists.Fates) → FallDue (fates_of f) (records_left_in f.mids.items) }
 {}

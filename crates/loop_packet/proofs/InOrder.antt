@@ -8,12 +8,12 @@ use Rattle.std.proofs.lemmas.Int.{of_z-to_z, to_z-of_z}
 use Rattle.std.proofs.lemmas.List.{drop-drop}
 use Rattle.causes.specs.Lists.{AreBytes}
 use Rattle.causes.proofs.Bytes.{bytes_behind}
-use Rattle.loop_packet.specs.Part.{Part, Value, values_in, spelled, byte_in, signed_byte_in, word_in, signed_word_in, signed_byte_of, word_of, signed_word_of}
-use Rattle.loop_packet.specs.Part.Part.{Fixed, Byte, SignedByte, Word, SignedWord, Bytes}
+use Rattle.loop_packet.specs.Part.{PacketPart, Value, values_of_parts, spelled_parts, byte_in, signed_byte_in, word_in, signed_word_in, signed_byte_of, word_of, signed_word_of}
+use Rattle.loop_packet.specs.Part.PacketPart.{Fixed, Byte, SignedByte, Word, SignedWord, Bytes}
 use Rattle.loop_packet.specs.Part.Value.{Number, Signed, Many}
 
 -- how many bytes a part has
-abbrev pub width : Part → ℕ
+abbrev pub width : PacketPart → ℕ
 width (Fixed text) = length text
 width Byte = 1
 width SignedByte = 1
@@ -22,17 +22,17 @@ width SignedWord = 2
 width (Bytes count) = count
 
 -- how many bytes the parts have
-abbrev pub size : List (ℕ × Part) → ℕ
+abbrev pub size : List (ℕ × PacketPart) → ℕ
 size [] = 0
 size (part ∷ parts) = width part.1 + size parts
 
 -- each part stands right behind the one before
-abbrev pub is_in_order : ℕ → List (ℕ × Part) → Bool
+abbrev pub is_in_order : ℕ → List (ℕ × PacketPart) → Bool
 is_in_order place [] = true
 is_in_order place (part ∷ parts) = nat_eq part.0 place && is_in_order (place + width part.1) parts
 
 -- the fixed bytes of the parts stand at their places
-abbrev pub HasFixed : List (ℕ × Part) → List ℕ → Type 0
+abbrev pub HasFixed : List (ℕ × PacketPart) → List ℕ → Type 0
 HasFixed [] bytes = Unit {0}
 HasFixed ((place, Fixed text) ∷ parts) bytes = (take (length text) (drop place bytes) ≡ text) × HasFixed parts bytes
 HasFixed (part ∷ parts) bytes = HasFixed parts bytes
@@ -103,54 +103,54 @@ behind_place : (place w : ℕ) (bytes : List ℕ) → place + w ≤ length bytes
 behind_place place w bytes long = omega (arith, length-drop place bytes)
 
 -- what is read of bytes is spelled as these bytes
-pub spelled_again : (parts : List (ℕ × Part)) (place : ℕ) (bytes : List ℕ) → is_in_order place parts ≡ true → HasFixed parts bytes → place + size parts ≤ length bytes → AreBytes bytes →
-    spelled parts (values_in parts bytes) ≡ take (size parts) (drop place bytes)
+pub spelled_again : (parts : List (ℕ × PacketPart)) (place : ℕ) (bytes : List ℕ) → is_in_order place parts ≡ true → HasFixed parts bytes → place + size parts ≤ length bytes → AreBytes bytes →
+    spelled_parts parts (values_of_parts parts bytes) ≡ take (size parts) (drop place bytes)
 spelled_again [] place bytes order fixed long fits = refl
 spelled_again ((at, Fixed text) ∷ parts) place bytes order fixed long fits =
     let both = and_parts (nat_eq at place) (is_in_order (place + length text) parts) order in
     let here : at ≡ place = eqb-true at place both.0 in
     let rest : (place + length text) + size parts ≤ length bytes = omega arith in
     let stands : text ≡ take (length text) (drop place bytes) = sym fixed.0 ∙ ap (λ (n : ℕ). take (length text) (drop n bytes)) here in
-    step text (spelled parts (values_in parts bytes)) place (length text) (size parts) bytes stands
+    step text (spelled_parts parts (values_of_parts parts bytes)) place (length text) (size parts) bytes stands
     (spelled_again parts (place + length text) bytes both.1 fixed.1 rest fits)
 spelled_again ((at, Byte) ∷ parts) place bytes order fixed long fits =
     let both = and_parts (nat_eq at place) (is_in_order (place + 1) parts) order in
     let here : at ≡ place = eqb-true at place both.0 in
     let rest : (place + 1) + size parts ≤ length bytes = omega arith in
     let cell : byte_in (drop at bytes) ∷ [] ≡ take 1 (drop place bytes) = rw here (byte_again (drop place bytes) (behind_place place 1 bytes (omega arith))) in
-    step (byte_in (drop at bytes) ∷ []) (spelled parts (values_in parts bytes)) place 1 (size parts) bytes cell
+    step (byte_in (drop at bytes) ∷ []) (spelled_parts parts (values_of_parts parts bytes)) place 1 (size parts) bytes cell
     (spelled_again parts (place + 1) bytes both.1 fixed rest fits)
 spelled_again ((at, SignedByte) ∷ parts) place bytes order fixed long fits =
     let both = and_parts (nat_eq at place) (is_in_order (place + 1) parts) order in
     let here : at ≡ place = eqb-true at place both.0 in
     let rest : (place + 1) + size parts ≤ length bytes = omega arith in
     let cell : signed_byte_of (signed_byte_in (drop at bytes)) ≡ take 1 (drop place bytes) = rw here (signed_byte_again (drop place bytes) (behind_place place 1 bytes (omega arith)) (bytes_behind place bytes fits)) in
-    step (signed_byte_of (signed_byte_in (drop at bytes))) (spelled parts (values_in parts bytes)) place 1 (size parts) bytes cell
+    step (signed_byte_of (signed_byte_in (drop at bytes))) (spelled_parts parts (values_of_parts parts bytes)) place 1 (size parts) bytes cell
     (spelled_again parts (place + 1) bytes both.1 fixed rest fits)
 spelled_again ((at, Word) ∷ parts) place bytes order fixed long fits =
     let both = and_parts (nat_eq at place) (is_in_order (place + 2) parts) order in
     let here : at ≡ place = eqb-true at place both.0 in
     let rest : (place + 2) + size parts ≤ length bytes = omega arith in
     let cell : word_of (word_in (drop at bytes)) ≡ take 2 (drop place bytes) = rw here (word_again (drop place bytes) (behind_place place 2 bytes (omega arith)) (bytes_behind place bytes fits)) in
-    step (word_of (word_in (drop at bytes))) (spelled parts (values_in parts bytes)) place 2 (size parts) bytes cell
+    step (word_of (word_in (drop at bytes))) (spelled_parts parts (values_of_parts parts bytes)) place 2 (size parts) bytes cell
     (spelled_again parts (place + 2) bytes both.1 fixed rest fits)
 spelled_again ((at, SignedWord) ∷ parts) place bytes order fixed long fits =
     let both = and_parts (nat_eq at place) (is_in_order (place + 2) parts) order in
     let here : at ≡ place = eqb-true at place both.0 in
     let rest : (place + 2) + size parts ≤ length bytes = omega arith in
     let cell : signed_word_of (signed_word_in (drop at bytes)) ≡ take 2 (drop place bytes) = rw here (signed_word_again (drop place bytes) (behind_place place 2 bytes (omega arith)) (bytes_behind place bytes fits)) in
-    step (signed_word_of (signed_word_in (drop at bytes))) (spelled parts (values_in parts bytes)) place 2 (size parts) bytes cell
+    step (signed_word_of (signed_word_in (drop at bytes))) (spelled_parts parts (values_of_parts parts bytes)) place 2 (size parts) bytes cell
     (spelled_again parts (place + 2) bytes both.1 fixed rest fits)
 spelled_again ((at, Bytes count) ∷ parts) place bytes order fixed long fits =
     let both = and_parts (nat_eq at place) (is_in_order (place + count) parts) order in
     let here : at ≡ place = eqb-true at place both.0 in
     let rest : (place + count) + size parts ≤ length bytes = omega arith in
     let cell : take count (drop at bytes) ≡ take count (drop place bytes) = ap (λ (n : ℕ). take count (drop n bytes)) here in
-    step (take count (drop at bytes)) (spelled parts (values_in parts bytes)) place count (size parts) bytes cell
+    step (take count (drop at bytes)) (spelled_parts parts (values_of_parts parts bytes)) place count (size parts) bytes cell
     (spelled_again parts (place + count) bytes both.1 fixed rest fits)
 
 -- the values are of the parts' kinds, and within their ranges
-abbrev pub AreOf : List (ℕ × Part) → List Value → Type 0
+abbrev pub AreOf : List (ℕ × PacketPart) → List Value → Type 0
 AreOf [] [] = Unit {0}
 AreOf ((at, Fixed text) ∷ parts) vs = AreOf parts vs
 AreOf ((at, Byte) ∷ parts) (Number n ∷ vs) = (n < 256) × AreOf parts vs
@@ -210,58 +210,58 @@ regrouped : (front cell others rest : List ℕ) → front ++ ((cell ++ others) +
 regrouped front cell others rest = simp append_assoc
 
 -- one value, and those behind it
-value_and_more : (read : List ℕ → Value) (v : Value) (parts : List (ℕ × Part)) (vs : List Value) (front cell others rest : List ℕ) (at place : ℕ) → length front ≡ place → place ≡ at →
-    read (cell ++ (others ++ rest)) ≡ v → values_in parts ((front ++ cell) ++ (others ++ rest)) ≡ vs →
-    read (drop at (front ++ ((cell ++ others) ++ rest))) ∷ values_in parts (front ++ ((cell ++ others) ++ rest)) ≡ v ∷ vs
+value_and_more : (read : List ℕ → Value) (v : Value) (parts : List (ℕ × PacketPart)) (vs : List Value) (front cell others rest : List ℕ) (at place : ℕ) → length front ≡ place → place ≡ at →
+    read (cell ++ (others ++ rest)) ≡ v → values_of_parts parts ((front ++ cell) ++ (others ++ rest)) ≡ vs →
+    read (drop at (front ++ ((cell ++ others) ++ rest))) ∷ values_of_parts parts (front ++ ((cell ++ others) ++ rest)) ≡ v ∷ vs
 value_and_more read v parts vs front cell others rest at place long here first more =
     let bytes : List ℕ = front ++ ((cell ++ others) ++ rest) in
     let same : bytes ≡ front ++ (cell ++ (others ++ rest)) = simp append_assoc in
     let value : read (drop at bytes) ≡ v = ap (λ (xs : List ℕ). read (drop at xs)) same ∙ ap read (at_front front cell (others ++ rest) at place long here) ∙ first in
-    let values : values_in parts bytes ≡ vs = ap (values_in parts) (regrouped front cell others rest) ∙ more in
-    ap (λ (x : Value). x ∷ values_in parts bytes) value ∙ ap (λ (xs : List Value). v ∷ xs) values
+    let values : values_of_parts parts bytes ≡ vs = ap (values_of_parts parts) (regrouped front cell others rest) ∙ more in
+    ap (λ (x : Value). x ∷ values_of_parts parts bytes) value ∙ ap (λ (xs : List Value). v ∷ xs) values
 
 -- what is spelled of values is read as these values
-pub values_again : (parts : List (ℕ × Part)) (vs : List Value) (front rest : List ℕ) (place : ℕ) → length front ≡ place → is_in_order place parts ≡ true → AreOf parts vs →
-    values_in parts (front ++ (spelled parts vs ++ rest)) ≡ vs
+pub values_again : (parts : List (ℕ × PacketPart)) (vs : List Value) (front rest : List ℕ) (place : ℕ) → length front ≡ place → is_in_order place parts ≡ true → AreOf parts vs →
+    values_of_parts parts (front ++ (spelled_parts parts vs ++ rest)) ≡ vs
 values_again [] [] front rest place long order are = refl
 values_again ((at, Fixed text) ∷ parts) vs front rest place long order are =
     let both = and_parts (nat_eq at place) (is_in_order (place + length text) parts) order in
-    ap (values_in parts) (regrouped front text (spelled parts vs) rest)
+    ap (values_of_parts parts) (regrouped front text (spelled_parts parts vs) rest)
     ∙ values_again parts vs (front ++ text) rest (place + length text) (longer front text place (length text) long refl) both.1 are
 values_again ((at, Byte) ∷ parts) (Number n ∷ vs) front rest place long order are =
     let both = and_parts (nat_eq at place) (is_in_order (place + 1) parts) order in
-    value_and_more (λ xs. Number (byte_in xs)) (Number n) parts vs front (n ∷ []) (spelled parts vs) rest at place long (sym (eqb-true at place both.0))
-    (ap Number (byte_read n (spelled parts vs ++ rest)))
+    value_and_more (λ xs. Number (byte_in xs)) (Number n) parts vs front (n ∷ []) (spelled_parts parts vs) rest at place long (sym (eqb-true at place both.0))
+    (ap Number (byte_read n (spelled_parts parts vs ++ rest)))
     (values_again parts vs (front ++ n ∷ []) rest (place + 1) (longer front (n ∷ []) place 1 long refl) both.1 are.1)
 values_again ((at, SignedByte) ∷ parts) (Signed z ∷ vs) front rest place long order are =
     let both = and_parts (nat_eq at place) (is_in_order (place + 1) parts) order in
-    value_and_more (λ xs. Signed (signed_byte_in xs)) (Signed z) parts vs front (signed_byte_of z) (spelled parts vs) rest at place long (sym (eqb-true at place both.0))
-    (ap Signed (signed_byte_read z (spelled parts vs ++ rest) are.0))
+    value_and_more (λ xs. Signed (signed_byte_in xs)) (Signed z) parts vs front (signed_byte_of z) (spelled_parts parts vs) rest at place long (sym (eqb-true at place both.0))
+    (ap Signed (signed_byte_read z (spelled_parts parts vs ++ rest) are.0))
     (values_again parts vs (front ++ signed_byte_of z) rest (place + 1) (longer front (signed_byte_of z) place 1 long (one_byte z)) both.1 are.1)
 values_again ((at, Word) ∷ parts) (Number n ∷ vs) front rest place long order are =
     let both = and_parts (nat_eq at place) (is_in_order (place + 2) parts) order in
-    value_and_more (λ xs. Number (word_in xs)) (Number n) parts vs front (word_of n) (spelled parts vs) rest at place long (sym (eqb-true at place both.0))
-    (ap Number (word_read n (spelled parts vs ++ rest) are.0))
+    value_and_more (λ xs. Number (word_in xs)) (Number n) parts vs front (word_of n) (spelled_parts parts vs) rest at place long (sym (eqb-true at place both.0))
+    (ap Number (word_read n (spelled_parts parts vs ++ rest) are.0))
     (values_again parts vs (front ++ word_of n) rest (place + 2) (longer front (word_of n) place 2 long (two_bytes n)) both.1 are.1)
 values_again ((at, SignedWord) ∷ parts) (Signed z ∷ vs) front rest place long order are =
     let both = and_parts (nat_eq at place) (is_in_order (place + 2) parts) order in
-    value_and_more (λ xs. Signed (signed_word_in xs)) (Signed z) parts vs front (signed_word_of z) (spelled parts vs) rest at place long (sym (eqb-true at place both.0))
-    (ap Signed (signed_word_read z (spelled parts vs ++ rest) are.0))
+    value_and_more (λ xs. Signed (signed_word_in xs)) (Signed z) parts vs front (signed_word_of z) (spelled_parts parts vs) rest at place long (sym (eqb-true at place both.0))
+    (ap Signed (signed_word_read z (spelled_parts parts vs ++ rest) are.0))
     (values_again parts vs (front ++ signed_word_of z) rest (place + 2) (longer front (signed_word_of z) place 2 long (two_signed_bytes z)) both.1 are.1)
 values_again ((at, Bytes count) ∷ parts) (Many bytes ∷ vs) front rest place long order are =
     let both = and_parts (nat_eq at place) (is_in_order (place + count) parts) order in
-    value_and_more (λ xs. Many (take count xs)) (Many bytes) parts vs front bytes (spelled parts vs) rest at place long (sym (eqb-true at place both.0))
-    (ap Many (front_of count bytes (spelled parts vs ++ rest) are.0))
+    value_and_more (λ xs. Many (take count xs)) (Many bytes) parts vs front bytes (spelled_parts parts vs) rest at place long (sym (eqb-true at place both.0))
+    (ap Many (front_of count bytes (spelled_parts parts vs ++ rest) are.0))
     (values_again parts vs (front ++ bytes) rest (place + count) (longer front bytes place count long are.0) both.1 are.1)
 values_again parts vs front rest place long order are = absurd are
 
 -- the fixed bytes stand where they are spelled
-pub fixed_again : (parts : List (ℕ × Part)) (vs : List Value) (front rest : List ℕ) (place : ℕ) → length front ≡ place → is_in_order place parts ≡ true → AreOf parts vs →
-    HasFixed parts (front ++ (spelled parts vs ++ rest))
+pub fixed_again : (parts : List (ℕ × PacketPart)) (vs : List Value) (front rest : List ℕ) (place : ℕ) → length front ≡ place → is_in_order place parts ≡ true → AreOf parts vs →
+    HasFixed parts (front ++ (spelled_parts parts vs ++ rest))
 fixed_again [] [] front rest place long order are = tt
 fixed_again ((at, Fixed text) ∷ parts) vs front rest place long order are =
     let both = and_parts (nat_eq at place) (is_in_order (place + length text) parts) order in
-    let others : List ℕ = spelled parts vs in
+    let others : List ℕ = spelled_parts parts vs in
     let P : List ℕ → Type 0 = λ xs. HasFixed parts xs in
     let same : front ++ ((text ++ others) ++ rest) ≡ front ++ (text ++ (others ++ rest)) = simp append_assoc in (
       ap (λ (xs : List ℕ). take (length text) (drop at xs)) same
@@ -272,21 +272,21 @@ fixed_again ((at, Fixed text) ∷ parts) vs front rest place long order are =
 fixed_again ((at, Byte) ∷ parts) (Number n ∷ vs) front rest place long order are =
     let both = and_parts (nat_eq at place) (is_in_order (place + 1) parts) order in
     let P : List ℕ → Type 0 = λ xs. HasFixed parts xs in
-    subst P (sym (regrouped front (n ∷ []) (spelled parts vs) rest)) (fixed_again parts vs (front ++ (n ∷ [])) rest (place + 1) (longer front (n ∷ []) place 1 long refl) both.1 are.1)
+    subst P (sym (regrouped front (n ∷ []) (spelled_parts parts vs) rest)) (fixed_again parts vs (front ++ (n ∷ [])) rest (place + 1) (longer front (n ∷ []) place 1 long refl) both.1 are.1)
 fixed_again ((at, SignedByte) ∷ parts) (Signed z ∷ vs) front rest place long order are =
     let both = and_parts (nat_eq at place) (is_in_order (place + 1) parts) order in
     let P : List ℕ → Type 0 = λ xs. HasFixed parts xs in
-    subst P (sym (regrouped front (signed_byte_of z) (spelled parts vs) rest)) (fixed_again parts vs (front ++ (signed_byte_of z)) rest (place + 1) (longer front (signed_byte_of z) place 1 long (one_byte z)) both.1 are.1)
+    subst P (sym (regrouped front (signed_byte_of z) (spelled_parts parts vs) rest)) (fixed_again parts vs (front ++ (signed_byte_of z)) rest (place + 1) (longer front (signed_byte_of z) place 1 long (one_byte z)) both.1 are.1)
 fixed_again ((at, Word) ∷ parts) (Number n ∷ vs) front rest place long order are =
     let both = and_parts (nat_eq at place) (is_in_order (place + 2) parts) order in
     let P : List ℕ → Type 0 = λ xs. HasFixed parts xs in
-    subst P (sym (regrouped front (word_of n) (spelled parts vs) rest)) (fixed_again parts vs (front ++ (word_of n)) rest (place + 2) (longer front (word_of n) place 2 long (two_bytes n)) both.1 are.1)
+    subst P (sym (regrouped front (word_of n) (spelled_parts parts vs) rest)) (fixed_again parts vs (front ++ (word_of n)) rest (place + 2) (longer front (word_of n) place 2 long (two_bytes n)) both.1 are.1)
 fixed_again ((at, SignedWord) ∷ parts) (Signed z ∷ vs) front rest place long order are =
     let both = and_parts (nat_eq at place) (is_in_order (place + 2) parts) order in
     let P : List ℕ → Type 0 = λ xs. HasFixed parts xs in
-    subst P (sym (regrouped front (signed_word_of z) (spelled parts vs) rest)) (fixed_again parts vs (front ++ (signed_word_of z)) rest (place + 2) (longer front (signed_word_of z) place 2 long (two_signed_bytes z)) both.1 are.1)
+    subst P (sym (regrouped front (signed_word_of z) (spelled_parts parts vs) rest)) (fixed_again parts vs (front ++ (signed_word_of z)) rest (place + 2) (longer front (signed_word_of z) place 2 long (two_signed_bytes z)) both.1 are.1)
 fixed_again ((at, Bytes count) ∷ parts) (Many bytes ∷ vs) front rest place long order are =
     let both = and_parts (nat_eq at place) (is_in_order (place + count) parts) order in
     let P : List ℕ → Type 0 = λ xs. HasFixed parts xs in
-    subst P (sym (regrouped front bytes (spelled parts vs) rest)) (fixed_again parts vs (front ++ bytes) rest (place + count) (longer front bytes place count long are.0) both.1 are.1)
+    subst P (sym (regrouped front bytes (spelled_parts parts vs) rest)) (fixed_again parts vs (front ++ bytes) rest (place + count) (longer front bytes place count long are.0) both.1 are.1)
 fixed_again parts vs front rest place long order are = absurd are

@@ -13,5 +13,5 @@ IsZero (Signed z) = z ≡ pos 0
 IsZero (Many bytes) = AllByRecursion (λ byte. byte ≡ 0) bytes
 
 -- every value is 0
-abbrev pub IsBlank : LoopPacket → Type 0
-IsBlank packet = AllByRecursion IsZero (values packet)
+abbrev pub PacketIsBlank : LoopPacket → Type 0
+PacketIsBlank packet = AllByRecursion IsZero (values packet)

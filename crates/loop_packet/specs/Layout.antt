@@ -2,14 +2,14 @@
 use Rattle.std.specs.Prelude.{ℕ, ℤ, List, [], ◌∷◌, codes, map}
 use Rattle.std.specs.List.{flat_map}
 use Rattle.loop_packet.specs.declared.packet.LoopPacket.{LoopPacket}
-use Rattle.loop_packet.specs.Part.{Part, Value}
-use Rattle.loop_packet.specs.Part.Part.{Fixed, Byte, SignedByte, Word, SignedWord, Bytes}
+use Rattle.loop_packet.specs.Part.{PacketPart, Value}
+use Rattle.loop_packet.specs.Part.PacketPart.{Fixed, Byte, SignedByte, Word, SignedWord, Bytes}
 use Rattle.loop_packet.specs.Part.Value.{Number, Signed, Many}
 
 -- A field: its offset, its kind, and the value that a packet has of it, where it is none that every packet has.
 pub record PacketField : Type 0 where
   pub offset : ℕ
-  pub part : Part
+  pub part : PacketPart
   pub value : LoopPacket → List Value
 
 -- bytes that every packet has
@@ -79,7 +79,7 @@ packet_fields =
     ∷ []
 
 -- each part at its offset
-abbrev pub layout : List (ℕ × Part)
+abbrev pub layout : List (ℕ × PacketPart)
 layout = map (λ field. (field.offset, field.part)) packet_fields
 
 -- the values of a packet, in the order of their fields

@@ -4,13 +4,13 @@ use Rattle.std.specs.Int.{w8, w16, to_le_bytes, from_le_bytes, cast_signed, cast
 use Rattle.std.specs.List.{flat_map}
 
 -- fixed bytes, a number of one byte or of two, the low one first, unsigned or signed, or so many bytes
-pub data Part : Type 0 where
-  Fixed : (text : List ℕ) → Part
-  Byte : Part
-  SignedByte : Part
-  Word : Part
-  SignedWord : Part
-  Bytes : (count : ℕ) → Part
+pub data PacketPart : Type 0 where
+  Fixed : (text : List ℕ) → PacketPart
+  Byte : PacketPart
+  SignedByte : PacketPart
+  Word : PacketPart
+  SignedWord : PacketPart
+  Bytes : (count : ℕ) → PacketPart
 
 -- what a part says: a number, a number with a sign, or bytes
 pub data Value : Type 0 where
@@ -45,25 +45,25 @@ unfoldable pub signed_word_of : ℤ → List ℕ
 signed_word_of z = to_le_bytes w16 (cast_unsigned w16 z)
 
 -- the value that stands at the front of the bytes, if the part has one
-abbrev pub value_of : Part → List ℕ → List Value
-value_of (Fixed text) bytes = []
-value_of Byte bytes = Number (byte_in bytes) ∷ []
-value_of SignedByte bytes = Signed (signed_byte_in bytes) ∷ []
-value_of Word bytes = Number (word_in bytes) ∷ []
-value_of SignedWord bytes = Signed (signed_word_in bytes) ∷ []
-value_of (Bytes count) bytes = Many (take count bytes) ∷ []
+abbrev pub values_of_part : PacketPart → List ℕ → List Value
+values_of_part (Fixed text) bytes = []
+values_of_part Byte bytes = Number (byte_in bytes) ∷ []
+values_of_part SignedByte bytes = Signed (signed_byte_in bytes) ∷ []
+values_of_part Word bytes = Number (word_in bytes) ∷ []
+values_of_part SignedWord bytes = Signed (signed_word_in bytes) ∷ []
+values_of_part (Bytes count) bytes = Many (take count bytes) ∷ []
 
 -- the values of the parts, each from its offset on
-abbrev pub values_in : List (ℕ × Part) → List ℕ → List Value
-values_in parts bytes = flat_map (λ part. value_of part.1 (drop part.0 bytes)) parts
+abbrev pub values_of_parts : List (ℕ × PacketPart) → List ℕ → List Value
+values_of_parts parts bytes = flat_map (λ part. values_of_part part.1 (drop part.0 bytes)) parts
 
 -- the bytes of the parts, one behind the other, with these values
-abbrev pub spelled : List (ℕ × Part) → List Value → List ℕ
-spelled [] vs = []
-spelled ((at, Fixed text) ∷ parts) vs = text ++ spelled parts vs
-spelled ((at, Byte) ∷ parts) (Number n ∷ vs) = n ∷ spelled parts vs
-spelled ((at, SignedByte) ∷ parts) (Signed z ∷ vs) = signed_byte_of z ++ spelled parts vs
-spelled ((at, Word) ∷ parts) (Number n ∷ vs) = word_of n ++ spelled parts vs
-spelled ((at, SignedWord) ∷ parts) (Signed z ∷ vs) = signed_word_of z ++ spelled parts vs
-spelled ((at, Bytes count) ∷ parts) (Many bytes ∷ vs) = bytes ++ spelled parts vs
-spelled (part ∷ parts) vs = []
+abbrev pub spelled_parts : List (ℕ × PacketPart) → List Value → List ℕ
+spelled_parts [] vs = []
+spelled_parts ((at, Fixed text) ∷ parts) vs = text ++ spelled_parts parts vs
+spelled_parts ((at, Byte) ∷ parts) (Number n ∷ vs) = n ∷ spelled_parts parts vs
+spelled_parts ((at, SignedByte) ∷ parts) (Signed z ∷ vs) = signed_byte_of z ++ spelled_parts parts vs
+spelled_parts ((at, Word) ∷ parts) (Number n ∷ vs) = word_of n ++ spelled_parts parts vs
+spelled_parts ((at, SignedWord) ∷ parts) (Signed z ∷ vs) = signed_word_of z ++ spelled_parts parts vs
+spelled_parts ((at, Bytes count) ∷ parts) (Many bytes ∷ vs) = bytes ++ spelled_parts parts vs
+spelled_parts (part ∷ parts) vs = []

@@ -5,12 +5,12 @@ use Rattle.crc_ccitt.specs.Check.{check, sealed}
 use Rattle.loop_packet.specs.declared.packet.LoopPacket.{LoopPacket}
 use Rattle.loop_packet.specs.declared.fault.LoopFault.{LoopFault}
 use Rattle.loop_packet.specs.declared.fault.LoopFault.TheVariants.{BadMark, BadType, BadEnd, BadCheck}
-use Rattle.loop_packet.specs.Part.{values_in, spelled}
+use Rattle.loop_packet.specs.Part.{values_of_parts, spelled_parts}
 use Rattle.loop_packet.specs.Layout.{layout, values}
 
 -- the first three bytes are LOO
-abbrev pub IsMarked : List ℕ → Type 0
-IsMarked bytes = take 3 bytes ≡ codes "LOO"
+abbrev pub HasLoopMark : List ℕ → Type 0
+HasLoopMark bytes = take 3 bytes ≡ codes "LOO"
 
 -- the type is that of a LOOP packet
 abbrev pub IsLoop : List ℕ → Type 0
@@ -22,15 +22,15 @@ IsEnded bytes = take 2 (drop 95 bytes) ≡ 10 ∷ 13 ∷ []
 
 -- these are the values in the bytes, each at its offset
 unfoldable pub HasValues : LoopPacket → List ℕ → Type 0
-HasValues packet bytes = values packet ≡ values_in layout bytes
+HasValues packet bytes = values packet ≡ values_of_parts layout bytes
 
 -- the packet, or the first fault in this order
-abbrev pub Tells : List ℕ → Result LoopPacket LoopFault → Type 0
-Tells bytes (Ok packet) = IsMarked bytes × IsLoop bytes × IsEnded bytes × (check bytes ≡ 0) × HasValues packet bytes
-Tells bytes (Err BadMark) = ¬ IsMarked bytes
-Tells bytes (Err (BadType kind)) = IsMarked bytes × (slice_index bytes 4 ≡ kind) × (kind ≢ 0)
-Tells bytes (Err BadEnd) = IsMarked bytes × IsLoop bytes × (¬ IsEnded bytes)
-Tells bytes (Err BadCheck) = IsMarked bytes × IsLoop bytes × IsEnded bytes × (check bytes ≢ 0)
+abbrev pub TellsPacket : List ℕ → Result LoopPacket LoopFault → Type 0
+TellsPacket bytes (Ok packet) = HasLoopMark bytes × IsLoop bytes × IsEnded bytes × (check bytes ≡ 0) × HasValues packet bytes
+TellsPacket bytes (Err BadMark) = ¬ HasLoopMark bytes
+TellsPacket bytes (Err (BadType kind)) = HasLoopMark bytes × (slice_index bytes 4 ≡ kind) × (kind ≢ 0)
+TellsPacket bytes (Err BadEnd) = HasLoopMark bytes × IsLoop bytes × (¬ IsEnded bytes)
+TellsPacket bytes (Err BadCheck) = HasLoopMark bytes × IsLoop bytes × IsEnded bytes × (check bytes ≢ 0)
 
 -- a body with its check behind it
 unfoldable pub frame_of : List ℕ → List ℕ
@@ -38,4 +38,4 @@ frame_of body = sealed body
 
 -- the bytes of a packet: its parts, and the check behind them
 unfoldable pub packet_bytes : LoopPacket → List ℕ
-packet_bytes packet = frame_of (spelled layout (values packet))
+packet_bytes packet = frame_of (spelled_parts layout (values packet))

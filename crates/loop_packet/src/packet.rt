@@ -1,4 +1,4 @@
-ghost use Rattle.loop_packet.specs.Blank.{IsBlank};
+ghost use Rattle.loop_packet.specs.Blank.{PacketIsBlank};
 
 /// What a console's sensors say at one moment: the LOOP packet (Davis serial manual, "LOOP data format").
 ///
@@ -78,7 +78,7 @@ pub struct LoopPacket {
 impl LoopPacket {
     /// The packet with every field 0, which is the default.
     pub fn blank() -> LoopPacket
-        ensures { IsBlank result }
+        ensures { PacketIsBlank result }
     {
         LoopPacket::default()
     }

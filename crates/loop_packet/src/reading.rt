@@ -1,7 +1,7 @@
 ghost use Rattle.std.specs.Prelude.{◌≡◌, ◌+◌, ◌≤◌, ◌↔◌, IsTrue, IfOk, Ok, take, drop};
 ghost use Rattle.loop_packet.specs.declared.packet.LoopPacket.{LoopPacket};
 ghost use Rattle.loop_packet.specs.Part.{byte_in, signed_byte_in, signed_word_in, word_in};
-ghost use Rattle.loop_packet.specs.Reading.{HasValues, IsEnded, IsMarked, Tells, packet_bytes};
+ghost use Rattle.loop_packet.specs.Reading.{HasValues, IsEnded, HasLoopMark, TellsPacket, packet_bytes};
 
 use crate::fault::LoopFault;
 use crate::packet::LoopPacket;
@@ -21,8 +21,8 @@ pub const END: &[u8] = b"\n\r";
 ///
 /// Numbers of two bytes have their low byte first, and the check its high byte. Nothing is asked of a field.
 pub fn read(bytes: &[u8; PACKET_SIZE]) -> Result<LoopPacket, LoopFault>
-    ensures tells { Tells bytes.now result }
-    ensures only { (packet : LoopPacket) → Tells bytes.now (Ok packet) → result ≡ Ok packet }
+    ensures tells { TellsPacket bytes.now result }
+    ensures only { (packet : LoopPacket) → TellsPacket bytes.now (Ok packet) → result ≡ Ok packet }
     ensures again { IfOk result (λ packet. bytes.now ≡ packet_bytes packet) }
 {
     if !is_marked(bytes) {
@@ -42,7 +42,7 @@ pub fn read(bytes: &[u8; PACKET_SIZE]) -> Result<LoopPacket, LoopFault>
 
 // Whether the bytes begin as a packet does.
 fn is_marked(bytes: &[u8; PACKET_SIZE]) -> bool
-    ensures { IsTrue result ↔ IsMarked bytes.now }
+    ensures { IsTrue result ↔ HasLoopMark bytes.now }
 {
     &bytes[..MARK.len()] == MARK
 }

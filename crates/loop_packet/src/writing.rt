@@ -1,6 +1,6 @@
 ghost use Rattle.std.specs.Prelude.{◌≡◌, ◌<◌, ◌^◌, [], ◌∷◌, Ok, length, flat_map};
 ghost use Rattle.loop_packet.specs.Part.{signed_byte_of, signed_word_of, word_of};
-ghost use Rattle.loop_packet.specs.Reading.{Tells, frame_of, packet_bytes};
+ghost use Rattle.loop_packet.specs.Reading.{TellsPacket, frame_of, packet_bytes};
 
 use crate::packet::LoopPacket;
 use crate::reading::{END, LOOP_TYPE, MARK, PACKET_SIZE};
@@ -12,7 +12,7 @@ const BODY_SIZE: usize = 97;
 /// Writes a packet, with its check.
 pub fn write(packet: &LoopPacket) -> [u8; PACKET_SIZE]
     ensures bytes { result ≡ packet_bytes packet.now }
-    ensures told { Tells result (Ok packet.now) }
+    ensures told { TellsPacket result (Ok packet.now) }
 {
     joined(&[
         MARK,

@@ -3,7 +3,7 @@ use Rattle.std.proofs.Common.{◌≡◌, ◌≤◌, ℕ, Bool, true, false, List
 use Rattle.std.specs.List.{AllByRecursion}
 use Rattle.causes.specs.Cause.{Rose}
 use Rattle.eeprom_map.specs.Memory.{new_memory}
-use Rattle.loop_packet.specs.Blank.{IsBlank}
+use Rattle.loop_packet.specs.Blank.{PacketIsBlank}
 use Rattle.loop_packet.specs.declared.packet.LoopPacket.{LoopPacket}
 use Rattle.settings_file.specs.StationSettings.{StationSettings, plain_settings}
 use Rattle.schedule_file.specs.declared.schedule.step.Step as code_step
@@ -11,7 +11,7 @@ use Rattle.schedule_file.specs.Steps.{steps_seen}
 use Rattle.station_replay.specs.Replay.{start}
 use Rattle.station_replay.specs.Schedule.{records}
 use Rattle.schedule_steps.specs.Accepted.{AreAccepted, HasRecord}
-use Rattle.schedule_replay.specs.Counting.{count_telling, counted, no_counts}
+use Rattle.schedule_replay.specs.Counting.{count_telling, counts_after, no_counts}
 use Rattle.schedule_replay.specs.declared.counts.Counts.{Counts}
 use Rattle.schedule_steps.specs.Steps.{steps_for}
 use Rattle.schedule_replay.specs.Told.{TellsRun}
@@ -30,7 +30,7 @@ module _ (seed count : ℕ) (settings : StationSettings) (plain : settings ≡ p
       → TellsRun count_telling unseen plain_settings (start (new_memory 5) packet) (steps_for 5 steps) old new
   told_plainly unseen packet old new told = subst (λ (s : StationSettings). TellsRun count_telling unseen s (start (new_memory s.period) packet) (steps_for s.period steps) old new) plain told
 
-  pub counts_run : (packet : LoopPacket) (old new : Counts) → IsBlank packet → old ≡ no_counts → TellsRun count_telling false settings (start (new_memory settings.period) packet) (steps_for settings.period steps) old new → CountsRun seed count new
+  pub counts_run : (packet : LoopPacket) (old new : Counts) → PacketIsBlank packet → old ≡ no_counts → TellsRun count_telling false settings (start (new_memory settings.period) packet) (steps_for settings.period steps) old new → CountsRun seed count new
   counts_run packet old new blank none told =
       let h = told_plainly false packet old new told in
       record {
@@ -41,7 +41,7 @@ module _ (seed count : ℕ) (settings : StationSettings) (plain : settings ≡ p
         items = h.items;
         whole = h.is_replay;
         kept = h.kept;
-        counts_are = h.told ∙ ap (λ (c : Counts). counted c h.items) none;
+        counts_are = h.told ∙ ap (λ (c : Counts). counts_after c h.items) none;
       }
 
   pub never_unseen : (packet : LoopPacket) (old new : Counts) → TellsRun count_telling true settings (start (new_memory settings.period) packet) (steps_for settings.period steps) old new → ⊥

@@ -1,14 +1,14 @@
 -- Replies that acknowledge nothing do not begin as one that does.
 use Rattle.std.proofs.Common.{◌≡◌, ℕ, ◌+◌, ◌%◌, ◌==◌, Bool, true, false, if◌then◌else◌, List, [], ◌∷◌, ◌++◌, length, take, refl}
 use Rattle.std.specs.Prelude.{nat_lt}
-use Rattle.console_model.specs.Console.{Console, Outcome, State}
-use Rattle.console_model.specs.Console.State.{Asleep, Command, Overlong, Frame, Dump, Looping}
+use Rattle.console_model.specs.Console.{Console, Outcome, ConsoleState}
+use Rattle.console_model.specs.Console.ConsoleState.{Asleep, Command, Overlong, Frame, Dump, Looping}
 use Rattle.console_model.specs.Clock.{is_time}
 use Rattle.console_model.specs.Frame.{at_clock, at_frame}
 use Rattle.console_model.specs.FrameSize.{frame_size}
-use Rattle.console_model.specs.Hear.{ended, hear, heard_in}
+use Rattle.console_model.specs.Hear.{dump_ended, hear, heard_in}
 use Rattle.console_model.specs.Line.{at_line, obeyed}
-use Rattle.console_model.specs.Reading.{read_line, signal}
+use Rattle.console_model.specs.Reading.{read_order, signal}
 use Rattle.console_model.specs.Tick.{idled, tick, ticked_in}
 use Rattle.console_model.specs.declared.frame.FrameKind.{FrameKind}
 use Rattle.console_model.specs.declared.frame.FrameKind.TheVariants.{ForDump, ForBytes, ForTime}
@@ -67,9 +67,9 @@ fair_frame ForDump frame c = by_test (is_good frame) _ _ tt refl
 fair_frame (ForBytes p n) frame c = by_test (is_good frame) _ _ tt refl
 fair_frame ForTime frame c = by_test (is_good frame) _ _ (fair_clock frame c) refl
 
-fair_by : (s : State) (m : Signal) (b : ℕ) (c : Console) → IsFair (heard_in s m b c)
+fair_by : (s : ConsoleState) (m : Signal) (b : ℕ) (c : Console) → IsFair (heard_in s m b c)
 fair_by Asleep m b c = tt
-fair_by (Command line) Lf b c = fair_line (read_line line) c
+fair_by (Command line) Lf b c = fair_line (read_order line) c
 fair_by (Command line) Next b c = tt
 fair_by (Command line) Again b c = tt
 fair_by (Command line) Stop b c = tt
@@ -83,14 +83,14 @@ fair_by (Frame kind got) m b c = by_test (nat_lt (length got + 1) (frame_size ki
 fair_by (Dump p sent) Next b c = by_test (nat_lt sent p.pages) _ _ tt tt
 fair_by (Dump p sent) Again b c = tt
 fair_by (Dump p sent) Stop b c = tt
-fair_by (Dump p sent) Lf b c = fair_line (read_line []) (ended c)
+fair_by (Dump p sent) Lf b c = fair_line (read_order []) (dump_ended c)
 fair_by (Dump p sent) Other b c = tt
 fair_by (Looping n) m b c = tt
 
 pub fair_hear : (c : Console) (b : ℕ) → IsFair (hear c b)
 fair_hear c b = fair_by c.state (signal b) b c
 
-fair_turn : (s : State) (three much fifth : Bool) (c : Console) → IsFair (ticked_in s three much fifth c)
+fair_turn : (s : ConsoleState) (three much fifth : Bool) (c : Console) → IsFair (ticked_in s three much fifth c)
 fair_turn Asleep three much fifth c = tt
 fair_turn (Command []) three true fifth c = tt
 fair_turn (Command []) three false fifth c = tt

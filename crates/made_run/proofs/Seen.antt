@@ -21,8 +21,8 @@ use Rattle.station_sim.specs.declared.unseen.Unseen.{Unseen}
 use Rattle.schedule_file.specs.Fates.{Fates}
 use Rattle.station_sim.specs.Delivery.{delivered}
 use Rattle.station_sim.specs.Joining.{and_then_some}
-use Rattle.station_sim.specs.Line.{Line, begins_with_ack, completes, counted, earlier, flies, from_console, from_host, happens, hears, is_harmed, joins, pages, passes, replied, says}
-use Rattle.station_sim.specs.Talk.{console_talk, started, step}
+use Rattle.station_sim.specs.Line.{Line, begins_with_ack, completes, message_counted, earlier, flies, from_console, from_host, happens, hears, is_harmed, joins, pages, passes, reply_joins, says_byte}
+use Rattle.station_sim.specs.Talk.{console_talk, started, line_step}
 use Rattle.station_session.specs.Attempts.{all_said}
 use Rattle.station_replay.specs.Replay.{IsBroken, Item, Stage}
 use Rattle.station_replay.specs.Schedule.{Stop}
@@ -104,7 +104,7 @@ still_none : (u : Option Unseen) (t : Bool) (x : Unseen) → u ≡ None → t �
 still_none u t x none is = ap (λ (v : Option Unseen). earlier v (if t then Some x else None)) none ∙ ap (λ (s : Bool). if s then Some x else None) is
 
 module _ (f : Fates) (plain : IsPlain f) where
-  replied_seen : (o : Outcome) (w : Line) → IsFair o → w.unseen ≡ None → (replied f o w).unseen ≡ None
+  replied_seen : (o : Outcome) (w : Line) → IsFair o → w.unseen ≡ None → (reply_joins f o w).unseen ≡ None
   replied_seen o w fair none =
       still_none w.unseen _ (from_console (w.replies + 1)) none (reply_seen o.kind (f.reply (w.replies + 1)) o.bytes (plain.reply (w.replies + 1)) fair)
 
@@ -124,23 +124,23 @@ module _ (f : Fates) (plain : IsPlain f) where
       let o = hear w.console b in
       hears_seen bs (happens f o w) (joins_seen o.kind o w (fair_hear w.console b) none)
 
-  says_seen : (b : ℕ) (w : Line) → w.unseen ≡ None → (says f b true w).unseen ≡ None
+  says_seen : (b : ℕ) (w : Line) → w.unseen ≡ None → (says_byte f b true w).unseen ≡ None
   says_seen b w none =
       let m = w.begun ++ b ∷ [] in
       let n = w.messages + 1 in
-      hears_seen (delivered (f.host n) m) (counted f m w) (still_none w.unseen _ (from_host n) none (host_seen (f.host n) m w.console (plain.host n)))
+      hears_seen (delivered (f.host n) m) (message_counted f m w) (still_none w.unseen _ (from_host n) none (host_seen (f.host n) m w.console (plain.host n)))
 
   -- no talk has an unseen delivery
   goes_seen : (t : List TalkItem) (w v : Line) → console_talk f t w ≡ Some v → w.unseen ≡ None → v.unseen ≡ None
   goes_seen [] w v e none = ap (λ (x : Line). x.unseen) (sym (same_Some w v e)) ∙ none
-  goes_seen (Said b false ∷ t) w v e none = goes_seen t (says f b false w) v e none
-  goes_seen (Said b true ∷ t) w v e none = goes_seen t (says f b true w) v e (says_seen b w none)
+  goes_seen (Said b false ∷ t) w v e none = goes_seen t (says_byte f b false w) v e none
+  goes_seen (Said b true ∷ t) w v e none = goes_seen t (says_byte f b true w) v e (says_seen b w none)
   goes_seen (Heard b ∷ t) w v e none =
-      let g = and_then_some (step f (Heard b) w) (console_talk f t) v e in
+      let g = and_then_some (line_step f (Heard b) w) (console_talk f t) v e in
       let q = hearing_is w.flight b w g.0 refl g.1 in
       goes_seen t g.0 v g.2 (ap (λ (x : Line). x.unseen) q.2 ∙ none)
   goes_seen (Quiet ∷ t) w v e none =
-      let g = and_then_some (step f Quiet w) (console_talk f t) v e in
+      let g = and_then_some (line_step f Quiet w) (console_talk f t) v e in
       let q = waiting_is w.flight f w g.0 refl g.1 in
       let o = tick w.console in
       goes_seen t g.0 v g.2 (ap (λ (x : Line). x.unseen) q.2 ∙ joins_seen o.kind o (flies w q.0) (fair_tick w.console) none)

@@ -9,11 +9,11 @@ use Rattle.schedule_file.specs.declared.schedule.step.Step as code_step
 use Rattle.schedule_file.specs.declared.schedule.step.Step.TheVariants as code
 use Rattle.schedule_file.specs.Fates.{Fates}
 use Rattle.schedule_file.specs.Lists.{entry_of}
-use Rattle.schedule_file.specs.Steps.{Details, Step as Seen, DueStep, RunStep, IdleStep, OpenStep, RoundStep, no_details, steps_seen}
+use Rattle.schedule_file.specs.Steps.{Details, ScheduleStep, DueStep, RunStep, IdleStep, OpenStep, RoundStep, no_details, steps_seen}
 use Rattle.station_replay.specs.Replay.{IsUnseen, Item, Stage}
-use Rattle.station_replay.specs.Schedule.{Step, Stop}
+use Rattle.station_replay.specs.Schedule.{ReplayStep, Stop}
 use Rattle.schedule_steps.specs.Steps.{steps_for}
-use Rattle.draws.specs.Draws.{next}
+use Rattle.draws.specs.Draws.{next_draw}
 use Rattle.made_run.specs.Made.{after_rounds, host_lost, is_round, kind_drawn, made_steps, reply_cut, reply_late, rounds_behind, steps_from}
 use Rattle.made_run.proofs.Seen.{IsPlain, IsWholeOrCut, IsWholeOrLost, none_broken}
 
@@ -49,7 +49,7 @@ cut_at n (x ∷ xs) all = go (is_at (nat_cmp n) x.0) (cut_at n xs all.1)
 Spares : Details → Type 0
 Spares d = AllLost d.host × AllCut d.replies
 
-AllSpare : List Seen → Type 0
+AllSpare : List ScheduleStep → Type 0
 AllSpare [] = Unit {0}
 AllSpare (DueStep r ∷ xs) = AllSpare xs
 AllSpare (RunStep r count ∷ xs) = AllSpare xs
@@ -57,12 +57,12 @@ AllSpare (IdleStep ticks ∷ xs) = AllSpare xs
 AllSpare (OpenStep stop ∷ xs) = AllSpare xs
 AllSpare (RoundStep d stop ∷ xs) = Spares d × AllSpare xs
 
-AllPlain : List Step → Type 0
+AllPlain : List ReplayStep → Type 0
 AllPlain [] = Unit {0}
-AllPlain (Step.Due rs ∷ xs) = AllPlain xs
-AllPlain (Step.Idle n ∷ xs) = AllPlain xs
-AllPlain (Step.Open stop ∷ xs) = AllPlain xs
-AllPlain (Step.Round f left stop ∷ xs) = IsPlain f × AllPlain xs
+AllPlain (ReplayStep.Due rs ∷ xs) = AllPlain xs
+AllPlain (ReplayStep.Idle n ∷ xs) = AllPlain xs
+AllPlain (ReplayStep.Open stop ∷ xs) = AllPlain xs
+AllPlain (ReplayStep.Round f left stop ∷ xs) = IsPlain f × AllPlain xs
 
 all_plain : (steps : List code_step.Step) → AllSpare (steps_seen 5 steps) → AllPlain (steps_for 5 steps)
 unfolding AllSpare AllPlain Spares
@@ -74,13 +74,13 @@ all_plain (code.Open stop ∷ steps) all = all_plain steps all
 all_plain (code.Round fates stop ∷ steps) all =
     (record { host = λ n. lost_at n fates.host.entries all.0.0; reply = λ n. cut_at n fates.replies.entries all.0.1 }, all_plain steps all.1)
 
-plain_in : (xs ys : List Step) (f : Fates) (left : ℕ → List (List ℕ)) (stop : Option Stop) → AllPlain (xs ++ Step.Round f left stop ∷ ys) → IsPlain f
+plain_in : (xs ys : List ReplayStep) (f : Fates) (left : ℕ → List (List ℕ)) (stop : Option Stop) → AllPlain (xs ++ ReplayStep.Round f left stop ∷ ys) → IsPlain f
 unfolding AllPlain
 plain_in [] ys f left stop all = all.0
-plain_in (Step.Due rs ∷ xs) ys f left stop all = plain_in xs ys f left stop all
-plain_in (Step.Idle n ∷ xs) ys f left stop all = plain_in xs ys f left stop all
-plain_in (Step.Open k ∷ xs) ys f left stop all = plain_in xs ys f left stop all
-plain_in (Step.Round g l k ∷ xs) ys f left stop all = plain_in xs ys f left stop all.1
+plain_in (ReplayStep.Due rs ∷ xs) ys f left stop all = plain_in xs ys f left stop all
+plain_in (ReplayStep.Idle n ∷ xs) ys f left stop all = plain_in xs ys f left stop all
+plain_in (ReplayStep.Open k ∷ xs) ys f left stop all = plain_in xs ys f left stop all
+plain_in (ReplayStep.Round g l k ∷ xs) ys f left stop all = plain_in xs ys f left stop all.1
 
 spares_by : (a b c : Bool) → Spares (if a then host_lost else (if b then reply_cut else (if c then reply_late else no_details)))
 unfolding Spares AllLost AllCut
@@ -89,7 +89,7 @@ spares_by false true c = (tt, (tt, tt))
 spares_by false false true = (tt, tt)
 spares_by false false false = (tt, tt)
 
-behind_spares : (t : Bool) (y : ℕ) (rest : List Seen) → AllSpare rest → AllSpare (rounds_behind t y ++ rest)
+behind_spares : (t : Bool) (y : ℕ) (rest : List ScheduleStep) → AllSpare rest → AllSpare (rounds_behind t y ++ rest)
 unfolding AllSpare
 behind_spares true y rest all = (spares_by (kind_drawn y == 4) (kind_drawn y == 5) (kind_drawn y == 6), all)
 behind_spares false y rest all = all
@@ -99,7 +99,7 @@ unfolding AllSpare Spares AllLost AllCut
 made_spares zero number x = ((tt, tt), tt)
 made_spares (suc left) number x =
     let t = is_round (number + 1) left in
-    let y = next (next x) in
+    let y = next_draw (next_draw x) in
     behind_spares t y (steps_from left (number + 1) (after_rounds t y)) (made_spares left (number + 1) (after_rounds t y))
 
 -- no delivery is unseen in a run of the steps

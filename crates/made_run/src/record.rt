@@ -3,8 +3,8 @@ ghost use Rattle.archive_record.specs.Reading.{reading};
 ghost use Rattle.archive_record.specs.declared.record_read.RecordRead.{RecordRead};
 ghost use Rattle.station_base.specs.Fields.{field_named};
 ghost use Rattle.schedule_file.specs.Forms.{no_values};
-ghost use Rattle.draws.specs.Draws.{drawn, next};
-ghost use Rattle.made_run.specs.Made.{due_values, first_due, with_value};
+ghost use Rattle.draws.specs.Draws.{drawn, next_draw};
+ghost use Rattle.made_run.specs.Made.{due_values, first_due, with_field_value};
 
 use archive_record::{Rec52, RecordRead, read, write};
 use draws::Draws;
@@ -31,10 +31,10 @@ pub fn drawn_record(stamp: Stamp, period: Period, draws: &mut Draws) -> Rec52
     ensures reads { reading result period ≡ RecordRead.Row (record {
       stamp = stamp;
       interval = period;
-      values = due_values (drawn (next draws.old.number)) (drawn (next (next draws.old.number)));
+      values = due_values (drawn (next_draw draws.old.number)) (drawn (next_draw (next_draw draws.old.number)));
       limited = 0;
     }) }
-    ensures draws { draws.new.number ≡ next (next draws.old.number) }
+    ensures draws { draws.new.number ≡ next_draw (next_draw draws.old.number) }
     ensures below { draws.new.number < 2 ^ 31 }
 {
     let row = Row {
@@ -49,8 +49,9 @@ pub fn drawn_record(stamp: Stamp, period: Period, draws: &mut Draws) -> Rec52
 // The values of a record, of which two are drawn.
 fn drawn_values(draws: &mut Draws) -> [Option<i32>; FIELD_COUNT]
     requires { draws.old.number < 2 ^ 31 }
-    ensures values { result ≡ due_values (drawn (next draws.old.number)) (drawn (next (next draws.old.number))) }
-    ensures draws { draws.new.number ≡ next (next draws.old.number) }
+    ensures values { result
+        ≡ due_values (drawn (next_draw draws.old.number)) (drawn (next_draw (next_draw draws.old.number))) }
+    ensures draws { draws.new.number ≡ next_draw (next_draw draws.old.number) }
     ensures below { draws.new.number < 2 ^ 31 }
 {
     let mut values = no_values();
@@ -65,7 +66,7 @@ fn drawn_values(draws: &mut Draws) -> [Option<i32>; FIELD_COUNT]
 
 // Puts a value at the field of a name.
 fn put(values: &mut [Option<i32>; FIELD_COUNT], name: &[u8], value: i32)
-    ensures { values.new ≡ with_value (field_named name.now) value values.old }
+    ensures { values.new ≡ with_field_value (field_named name.now) value values.old }
 {
     if let Some(field) = FieldId::by_bytes(name) {
         values[field.index()] = Some(value);

@@ -1,7 +1,7 @@
 ghost use Rattle.std.specs.Prelude.{◌≡◌, ◌<◌, ◌^◌, ℕ, IfOk, OnOk};
 ghost use Rattle.schedule_file.specs.Steps.{details_seen, step_seen};
-ghost use Rattle.draws.specs.Draws.{next};
-ghost use Rattle.made_run.specs.Made.{after_kind, details_of, kind_drawn, plain_round, round_of, stop_of};
+ghost use Rattle.draws.specs.Draws.{next_draw};
+ghost use Rattle.made_run.specs.Made.{after_kind, details_of, kind_drawn, plain_round, round_of, stop_of_kind};
 
 use causes::OutOfMemory;
 use draws::Draws;
@@ -49,8 +49,10 @@ pub fn plain_round(alloc: Global) -> Step
 pub fn drawn_round(alloc: Global, draws: &mut Draws) -> Result<Step, OutOfMemory>
     requires { draws.old.number < 2 ^ 31 }
     ensures step { (period : ℕ)
-        → IfOk result (λ step. step_seen period step ≡ round_of (kind_drawn draws.old.number) (next draws.old.number)) }
-    ensures draws { OnOk result (draws.new.number ≡ after_kind (kind_drawn draws.old.number) (next draws.old.number)) }
+        → IfOk result (λ step. step_seen period step
+        ≡ round_of (kind_drawn draws.old.number) (next_draw draws.old.number)) }
+    ensures draws { OnOk result (draws.new.number
+        ≡ after_kind (kind_drawn draws.old.number) (next_draw draws.old.number)) }
     ensures below { draws.new.number < 2 ^ 31 }
 {
     let kind = draws.draw() % KINDS;
@@ -64,7 +66,7 @@ pub fn drawn_round(alloc: Global, draws: &mut Draws) -> Result<Step, OutOfMemory
 // The stop of a round of this kind, whose change and pick are drawn.
 fn drawn_stop(kind: u32, draws: &mut Draws) -> Option<Stop>
     requires { draws.old.number < 2 ^ 31 }
-    ensures stop { result ≡ stop_of kind draws.old.number }
+    ensures stop { result ≡ stop_of_kind kind draws.old.number }
     ensures draws { draws.new.number ≡ after_kind kind draws.old.number }
     ensures below { draws.new.number < 2 ^ 31 }
 {

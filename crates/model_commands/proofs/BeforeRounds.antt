@@ -9,7 +9,7 @@ use Rattle.station_sim.specs.Line.{Line, due_all, happens}
 use Rattle.station_sim.specs.Talk.{idles}
 use Rattle.station_sim.proofs.Sounding.{console_joins}
 use Rattle.station_replay.specs.Replay.{Item, Opens, Runs, Stage, stops_opening}
-use Rattle.station_replay.specs.Schedule.{Step, Stop, no_fates}
+use Rattle.station_replay.specs.Schedule.{ReplayStep, Stop, no_fates}
 use Rattle.model_commands.specs.ConsoleRun.{HaveNoRound, before_rounds}
 
 -- ticks outside of a round are ticks of the console
@@ -25,25 +25,25 @@ opens_line true k s u is opens = ap (λ (x : Stage). x.line) opens.1
 opens_line false k s u is opens = ap (λ (x : Stage). x.line) opens.1
 
 -- the console of a run after steps of which none is a round
-pub run_before : (settings : StationSettings) (xs : List Step) (s u : Stage) (is : List Item) → HaveNoRound xs → Runs settings xs s is u → before_rounds xs s.line.console ≡ u.line.console
+pub run_before : (settings : StationSettings) (xs : List ReplayStep) (s u : Stage) (is : List Item) → HaveNoRound xs → Runs settings xs s is u → before_rounds xs s.line.console ≡ u.line.console
 run_before settings [] s u is none runs = ap (λ (x : Stage). x.line.console) (sym runs.1)
-run_before settings (Step.Due rs ∷ xs) s u is none (mid, now, rest, join, does, more) =
+run_before settings (ReplayStep.Due rs ∷ xs) s u is none (mid, now, rest, join, does, more) =
     ap (λ (x : Stage). before_rounds xs x.line.console) (sym does.1) ∙ run_before settings xs mid u rest none more
-run_before settings (Step.Idle n ∷ xs) s u is none (mid, now, rest, join, does, more) =
+run_before settings (ReplayStep.Idle n ∷ xs) s u is none (mid, now, rest, join, does, more) =
     ap (λ (k : Console). before_rounds xs k) (sym (idles_ticks n s.line))
     ∙ ap (λ (x : Stage). before_rounds xs x.line.console) (sym does.1) ∙ run_before settings xs mid u rest none more
-run_before settings (Step.Open None ∷ xs) s u is none (mid, now, rest, join, does, more) =
+run_before settings (ReplayStep.Open None ∷ xs) s u is none (mid, now, rest, join, does, more) =
     ap (λ (x : Stage). before_rounds xs x.line.console) (sym does.1) ∙ run_before settings xs mid u rest none more
-run_before settings (Step.Open (Some k) ∷ xs) s u is none (mid, now, rest, join, does, more) =
+run_before settings (ReplayStep.Open (Some k) ∷ xs) s u is none (mid, now, rest, join, does, more) =
     ap (λ (w : Line). before_rounds xs w.console) (sym (opens_line (stops_opening k.change s.archive.size) k s mid now does))
     ∙ run_before settings xs mid u rest none more
-run_before settings (Step.Round f left stop ∷ xs) s u is none runs = absurd none
+run_before settings (ReplayStep.Round f left stop ∷ xs) s u is none runs = absurd none
 
 -- what stands from the first round on changes nothing
-pub before_first : (xs ys : List Step) (f : Fates) (left : ℕ → List (List ℕ)) (stop : Option Stop) (k : Console) → HaveNoRound xs
-    → before_rounds (xs ++ Step.Round f left stop ∷ ys) k ≡ before_rounds xs k
+pub before_first : (xs ys : List ReplayStep) (f : Fates) (left : ℕ → List (List ℕ)) (stop : Option Stop) (k : Console) → HaveNoRound xs
+    → before_rounds (xs ++ ReplayStep.Round f left stop ∷ ys) k ≡ before_rounds xs k
 before_first [] ys f left stop k none = refl
-before_first (Step.Due rs ∷ xs) ys f left stop k none = before_first xs ys f left stop (due_all rs k) none
-before_first (Step.Idle n ∷ xs) ys f left stop k none = before_first xs ys f left stop (ticked n k) none
-before_first (Step.Open at ∷ xs) ys f left stop k none = before_first xs ys f left stop k none
-before_first (Step.Round g after halt ∷ xs) ys f left stop k none = absurd none
+before_first (ReplayStep.Due rs ∷ xs) ys f left stop k none = before_first xs ys f left stop (due_all rs k) none
+before_first (ReplayStep.Idle n ∷ xs) ys f left stop k none = before_first xs ys f left stop (ticked n k) none
+before_first (ReplayStep.Open at ∷ xs) ys f left stop k none = before_first xs ys f left stop k none
+before_first (ReplayStep.Round g after halt ∷ xs) ys f left stop k none = absurd none

@@ -12,7 +12,7 @@ use Rattle.run_output.specs.Calls.{by_call, calls}
 use Rattle.run_output.specs.Ended.{EndsBy, IsOneOf, Lines, output_of}
 use Rattle.run_output.specs.Output.{Output, link_fault, no_memory}
 use Rattle.run_output.specs.Outside.{Meanings, over_link}
-use Rattle.run_output.specs.Steps.{Behind, Step as RunStep, then}
+use Rattle.run_output.specs.Steps.{Behind, CommandStep, then}
 use Rattle.run_output.specs.declared.outside.Outside.{Outside}
 use Rattle.run_output.specs.declared.status.Status.{Status}
 use Rattle.run_output.specs.declared.status.Status.TheVariants as ends
@@ -24,7 +24,7 @@ use Rattle.serial_link.specs.Traffic.{Traffic}
 use Rattle.serial_link.specs.declared.link.Connected.{Connected}
 use Rattle.serial_link.specs.declared.link.Connected.TheVariants as connected
 use Rattle.serial_link.specs.declared.link.Side.TheVariants.{Serve}
-use Rattle.station_replay.specs.Schedule.{Step}
+use Rattle.station_replay.specs.Schedule.{ReplayStep}
 use Rattle.model_commands.specs.ConsoleRun.{IsUntouchedOrShort, readies, served_output, serves, serves_files}
 use Rattle.model_commands.specs.ReplayRun.{HasGoodFiles}
 use Rattle.model_commands.proofs.GoodSchedule.{good_files_read, then_ends}
@@ -37,7 +37,7 @@ served = ends.Done ∷ ends.LinkFault ∷ ends.ReadFault ∷ ends.WriteFault ∷
 abbrev pub IsServedOrHindered : Status → Type 0
 IsServedOrHindered = IsOneOf served
 
-readies_causes : {F K L D : Type 0} (m : Meanings F K L D) (period : ℕ) (steps : List Step) → Causes m (readies period steps)
+readies_causes : {F K L D : Type 0} (m : Meanings F K L D) (period : ℕ) (steps : List ReplayStep) → Causes m (readies period steps)
 readies_causes m period steps old new result did = quiet_causes m old new result (memory_quiet result did.1) did.2
 
 -- how a serving ends, by the status of its output
@@ -90,7 +90,7 @@ serves_files_complete m names old new ended good did =
     let e = served_as last.0.end last.0.count (output_of ended).status (ap status (sym last.0.given)) in grind arith)))
 
 -- what follows a step that left the link untouched, or ended the run
-behind_untouched : {F K L D A : Type 0} (traffic : Traffic L) (next : A → RunStep (Outside F K L D) Lines) (old mid new : Outside F K L D)
+behind_untouched : {F K L D A : Type 0} (traffic : Traffic L) (next : A → CommandStep (Outside F K L D) Lines) (old mid new : Outside F K L D)
     (answer : Result A Output) (ended : Result Lines Output) → mid.link ≡ old.link
     → ((a : A) → next a mid ended new → IsUntouchedOrShort traffic mid.link new.link) → Behind answer next mid ended new
     → IsUntouchedOrShort traffic old.link new.link

@@ -8,31 +8,31 @@ use Rattle.run_output.specs.Ended.{Lines, output_of}
 use Rattle.run_output.specs.Output.{Output}
 use Rattle.run_output.specs.Outside.{Meanings, over_files}
 use Rattle.run_output.specs.Reading.{settles}
-use Rattle.run_output.specs.Steps.{Behind, Step, then}
+use Rattle.run_output.specs.Steps.{Behind, CommandStep, then}
 use Rattle.run_output.specs.declared.outside.Outside.{Outside}
 use Rattle.run_output.specs.declared.status.Status.{Status}
 use Rattle.run_output.proofs.GoodFiles.{GivesUnlessHindered, IsHindrance, good-reads, good-settles, settles-stay}
-use Rattle.schedule_file.specs.Reading.{steps_of}
+use Rattle.schedule_file.specs.Reading.{said_by_text}
 use Rattle.schedule_file.specs.declared.schedule.Schedule.{Schedule}
 use Rattle.settings_file.specs.StationSettings.{StationSettings}
 use Rattle.station_io.specs.Files.{Shelf}
 use Rattle.model_commands.specs.ReplayRun.{HasGoodFiles, IsGoodSchedule}
 use Rattle.model_commands.specs.ScheduleReading.{SaysSchedule, reads_schedule, says_schedule}
 
-behind_ends : {W A B : Type 0} (P : A → Type 0) (R : Output → Type 0) (Q : Result B Output → Type 0) (next : A → Step W B) (mid new : W)
+behind_ends : {W A B : Type 0} (P : A → Type 0) (R : Output → Type 0) (Q : Result B Output → Type 0) (next : A → CommandStep W B) (mid new : W)
     (answer : Result A Output) (result : Result B Output) → ((output : Output) → R output → Q (Err output)) → MatchResult answer P R
     → ((a : A) → P a → next a mid result new → Q result) → Behind answer next mid result new → Q result
 behind_ends P R Q next mid new (Ok a) result last first more behind = more a first behind
 behind_ends P R Q next mid new (Err output) result last first more behind = subst Q (sym behind.0) (last output first)
 
 -- two steps end so if the first one does, and the second one behind what the first one gives
-pub then_ends : {W A B : Type 0} {one : Step W A} {next : A → Step W B} {old new : W} {result : Result B Output} (P : A → Type 0)
+pub then_ends : {W A B : Type 0} {one : CommandStep W A} {next : A → CommandStep W B} {old new : W} {result : Result B Output} (P : A → Type 0)
     (R : Output → Type 0) (Q : Result B Output → Type 0) → ((output : Output) → R output → Q (Err output)) → (did : then one next old result new)
     → MatchResult did.answer P R → ((a : A) → P a → next a did.mid result new → Q result) → Q result
 then_ends {next = next} {new = new} {result = result} P R Q last did first more =
     behind_ends P R Q next did.mid new did.answer result last first more did.behind
 
-schedule_said : (period : ℕ) (text : List ℕ) (result : Result Schedule Output) → IsOk (steps_of text period)
+schedule_said : (period : ℕ) (text : List ℕ) (result : Result Schedule Output) → IsOk (said_by_text text period)
     → SaysSchedule text period result → GivesUnlessHindered (λ schedule. Unit {0}) result
 schedule_said period text (Ok schedule) ok says = tt
 schedule_said period text (Err output) ok (inl none) = inr (ap (λ (o : Output). o.status) none)
@@ -61,7 +61,7 @@ reads_schedule-stays {F} shelf name other period old new result did =
 
 -- a run ends so if a read fault and want of memory do, and what follows both readings
 pub good_files_read : {F K L D : Type 0} {old new : Outside F K L D} {ended : Result Lines Output} (m : Meanings F K L D)
-    (settings schedule : List ℕ) (next : StationSettings → Schedule → Step (Outside F K L D) Lines) (Ends : Status → Type 0)
+    (settings schedule : List ℕ) (next : StationSettings → Schedule → CommandStep (Outside F K L D) Lines) (Ends : Status → Type 0)
     → ((status : Status) → IsHindrance status → Ends status) → HasGoodFiles m.shelf settings schedule old.files
     → then (over_files (settles m.shelf settings)) (λ s. then (over_files (reads_schedule m.shelf schedule s.period)) (next s)) old ended new
     → ((s : StationSettings) (steps : Schedule) (mid : Outside F K L D) → next s steps mid ended new → Ends (output_of ended).status)

@@ -5,7 +5,7 @@ use Rattle.archive_record.specs.MovedOn.{moved_on}
 use Rattle.console_model.specs.Console.{Console}
 use Rattle.console_model.specs.Due.{due}
 use Rattle.console_server.proofs.RunEnds.{none_left}
-use Rattle.console_server.specs.Ready.{made_ready, ticked}
+use Rattle.console_server.specs.Ready.{console_made_ready, ticked}
 use Rattle.console_server.specs.Runs as served
 use Rattle.schedule_steps.proofs.RunRecords.{run_next, run_of_two, run_on}
 use Rattle.schedule_steps.specs.Accepted.{IsInRange}
@@ -26,11 +26,11 @@ same_run period (suc (suc count)) first is =
     ∙ same_run period (suc count) (run.next_record period first) (run_on period count first is))
 
 -- and so is the console that they make
-pub same_ready : (period : ℕ) (steps : List Step) (k : Console) → AllByRecursion (IsInRange period) steps → made_ready period steps k ≡ before_rounds (steps_for period steps) k
+pub same_ready : (period : ℕ) (steps : List Step) (k : Console) → AllByRecursion (IsInRange period) steps → console_made_ready period steps k ≡ before_rounds (steps_for period steps) k
 same_ready period [] k all = refl
 same_ready period (Due rec ∷ steps) k all = same_ready period steps (due rec k) all.1
 same_ready period (Run first count ∷ steps) k all =
-    ap (λ (rs : List (List ℕ)). made_ready period steps (due_all rs k)) (same_run period count first all.0)
+    ap (λ (rs : List (List ℕ)). console_made_ready period steps (due_all rs k)) (same_run period count first all.0)
     ∙ same_ready period steps (due_all (run.run_records period first count) k) all.1
 same_ready period (Idle ticks ∷ steps) k all = same_ready period steps (ticked ticks k) all.1
 same_ready period (Open stop ∷ steps) k all = same_ready period steps k all.1

@@ -15,7 +15,7 @@ use Rattle.schedule_replay.specs.Replayed.{steps_in}
 use Rattle.schedule_replay.specs.declared.replaying.ReplayEnd.{ReplayEnd}
 use Rattle.schedule_replay.specs.declared.replaying.ReplayEnd.TheVariants as replay_end
 use Rattle.settings_file.specs.StationSettings.{StationSettings}
-use Rattle.station_replay.specs.Schedule.{Step}
+use Rattle.station_replay.specs.Schedule.{ReplayStep}
 use Rattle.model_commands.specs.ReplayRun.{HasGoodFiles, replay_status, replays, replays_files}
 use Rattle.model_commands.specs.ScheduleReading.{SaysSchedule, reads_schedule}
 use Rattle.model_commands.proofs.GoodSchedule.{good_files_read}
@@ -48,7 +48,7 @@ replayed_as replay_end.Unseen status is = inr (inl (sym is))
 replayed_as replay_end.WriteFault status is = inr (inr (inl (sym is, refl)))
 replayed_as replay_end.OutOfMemory status is = inr (inr (inr (sym is)))
 
-replays_causes : {F K L D : Type 0} (m : Meanings F K L D) (settings : StationSettings) (steps : List Step)
+replays_causes : {F K L D : Type 0} (m : Meanings F K L D) (settings : StationSettings) (steps : List ReplayStep)
     → Causes m (over_out (replays m.outlet settings steps))
 replays_causes m settings steps = by_sink m (replays m.outlet settings steps) (λ old new ended did.
     let so = λ (status : Status) (is : EndsBy status ended). replayed_as did.end status (has_status status ended _ did.given is) in

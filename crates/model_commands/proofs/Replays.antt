@@ -4,24 +4,24 @@ use Rattle.std.specs.declared.option.Option.{Option}
 use Rattle.std.specs.declared.result.Result.{Result}
 use Rattle.causes.proofs.Writing.{writes_nothing}
 use Rattle.eeprom_map.specs.Memory.{new_memory}
-use Rattle.loop_packet.specs.Blank.{IsBlank}
+use Rattle.loop_packet.specs.Blank.{PacketIsBlank}
 use Rattle.loop_packet.specs.declared.packet.LoopPacket.{LoopPacket}
 use Rattle.run_output.specs.Ended.{Lines, output_of}
 use Rattle.run_output.specs.Output.{Output, no_memory}
-use Rattle.schedule_replay.specs.Replayed.{IsCutOff, IsReplayed}
+use Rattle.schedule_replay.specs.Replayed.{ReplayIsCutOff, IsReplayed}
 use Rattle.schedule_replay.specs.declared.replaying.ReplayEnd.{ReplayEnd}
 use Rattle.schedule_replay.specs.declared.replaying.ReplayEnd.TheVariants as replay_end
 use Rattle.settings_file.specs.StationSettings.{StationSettings}
 use Rattle.station_io.specs.Sink.{Outlet}
 use Rattle.station_replay.specs.Replay.{Stage, start}
-use Rattle.station_replay.specs.Schedule.{Step}
+use Rattle.station_replay.specs.Schedule.{ReplayStep}
 use Rattle.model_commands.specs.ReplayRun.{WritesRun, replays}
 
 -- by each end of a replay what it promises there was written
-pub writes_run : (end : ReplayEnd) (settings : StationSettings) (from : Stage) (steps : List Step) (old new : Option (List ℕ))
+pub writes_run : (end : ReplayEnd) (settings : StationSettings) (from : Stage) (steps : List ReplayStep) (old new : Option (List ℕ))
     → (end ≡ replay_end.Done → IsReplayed false settings from steps old new)
     → (end ≡ replay_end.Unseen → IsReplayed true settings from steps old new)
-    → ((end ≡ replay_end.WriteFault) ⊎ (end ≡ replay_end.OutOfMemory) → IsCutOff settings from steps old new)
+    → ((end ≡ replay_end.WriteFault) ⊎ (end ≡ replay_end.OutOfMemory) → ReplayIsCutOff settings from steps old new)
     → WritesRun end settings from steps old new
 writes_run replay_end.Done settings from steps old new done unseen cut_off = done refl
 writes_run replay_end.Unseen settings from steps old new done unseen cut_off = unseen refl
@@ -29,8 +29,8 @@ writes_run replay_end.WriteFault settings from steps old new done unseen cut_off
 writes_run replay_end.OutOfMemory settings from steps old new done unseen cut_off = cut_off (inr refl)
 
 -- of a run that did not begin nothing was written
-not_begun : (settings : StationSettings) (from : Stage) (steps : List Step) (known : Option (List ℕ))
-    → IsCutOff settings from steps known known
+not_begun : (settings : StationSettings) (from : Stage) (steps : List ReplayStep) (known : Option (List ℕ))
+    → ReplayIsCutOff settings from steps known known
 not_begun settings from steps known = record {
   items = [];
   is_begun = inl ([], steps, [], from, refl, (refl, refl), inl refl);
@@ -39,8 +39,8 @@ not_begun settings from steps known = record {
 }
 
 -- for want of memory it did not begin
-pub replays_nothing : {S : Type 0} (outlet : Outlet S) (settings : StationSettings) (steps : List Step) (packet : LoopPacket) (out : S)
-    (result : Result Lines Output) → IsBlank packet → output_of result ≡ no_memory → replays outlet settings steps out result out
+pub replays_nothing : {S : Type 0} (outlet : Outlet S) (settings : StationSettings) (steps : List ReplayStep) (packet : LoopPacket) (out : S)
+    (result : Result Lines Output) → PacketIsBlank packet → output_of result ≡ no_memory → replays outlet settings steps out result out
 replays_nothing outlet settings steps packet out result blank given = record {
   packet = packet;
   blank = blank;

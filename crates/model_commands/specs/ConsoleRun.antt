@@ -4,7 +4,7 @@ use Rattle.std.specs.declared.result.Result.{Result}
 use Rattle.causes.specs.Cause.{Rose}
 use Rattle.command_words.specs.Command.{ConsoleNames}
 use Rattle.console_model.specs.Console as model
-use Rattle.console_model.specs.Standing.{StandsFor}
+use Rattle.console_model.specs.Standing.{ConsoleStandsFor}
 use Rattle.console_model.specs.declared.console.Console.{Console}
 use Rattle.console_server.specs.Ready.{ticked}
 use Rattle.console_server.specs.Serving.{ServesTurns}
@@ -12,7 +12,7 @@ use Rattle.console_server.specs.declared.serving.ServeEnd.{ServeEnd}
 use Rattle.console_server.specs.declared.serving.ServeEnd.TheVariants as serve_end
 use Rattle.console_server.specs.declared.serving.Served.{Served}
 use Rattle.eeprom_map.specs.Memory.{new_memory}
-use Rattle.loop_packet.specs.Blank.{IsBlank}
+use Rattle.loop_packet.specs.Blank.{PacketIsBlank}
 use Rattle.loop_packet.specs.declared.packet.LoopPacket.{LoopPacket}
 use Rattle.run_output.specs.Calls.{calls}
 use Rattle.run_output.specs.Ended.{Lines, output_of}
@@ -27,29 +27,29 @@ use Rattle.schedule_replay.specs.Replayed.{steps_in}
 use Rattle.serial_link.specs.Link.{Talks}
 use Rattle.serial_link.specs.Traffic.{Traffic}
 use Rattle.serial_link.specs.declared.link.Side.TheVariants.{Serve}
-use Rattle.station_replay.specs.Schedule.{Step}
+use Rattle.station_replay.specs.Schedule.{ReplayStep}
 use Rattle.station_sim.specs.Line.{due_all}
 use Rattle.model_commands.specs.ScheduleReading.{reads_schedule}
 
 -- the console after the steps before the first round: records fell due and ticks passed, and openings change nothing
-abbrev pub before_rounds : List Step → model.Console → model.Console
+abbrev pub before_rounds : List ReplayStep → model.Console → model.Console
 before_rounds [] k = k
-before_rounds (Step.Due records ∷ steps) k = before_rounds steps (due_all records k)
-before_rounds (Step.Idle ticks ∷ steps) k = before_rounds steps (ticked ticks k)
-before_rounds (Step.Open stop ∷ steps) k = before_rounds steps k
-before_rounds (Step.Round fates left stop ∷ steps) k = k
+before_rounds (ReplayStep.Due records ∷ steps) k = before_rounds steps (due_all records k)
+before_rounds (ReplayStep.Idle ticks ∷ steps) k = before_rounds steps (ticked ticks k)
+before_rounds (ReplayStep.Open stop ∷ steps) k = before_rounds steps k
+before_rounds (ReplayStep.Round fates left stop ∷ steps) k = k
 
 -- no step is a round
-abbrev pub HaveNoRound : List Step → Type 0
+abbrev pub HaveNoRound : List ReplayStep → Type 0
 HaveNoRound [] = Unit {0}
-HaveNoRound (Step.Due records ∷ steps) = HaveNoRound steps
-HaveNoRound (Step.Idle ticks ∷ steps) = HaveNoRound steps
-HaveNoRound (Step.Open stop ∷ steps) = HaveNoRound steps
-HaveNoRound (Step.Round fates left stop ∷ steps) = ⊥
+HaveNoRound (ReplayStep.Due records ∷ steps) = HaveNoRound steps
+HaveNoRound (ReplayStep.Idle ticks ∷ steps) = HaveNoRound steps
+HaveNoRound (ReplayStep.Open stop ∷ steps) = HaveNoRound steps
+HaveNoRound (ReplayStep.Round fates left stop ∷ steps) = ⊥
 
 -- a new console of this period, after the steps before the first round
-abbrev pub console_served : ℕ → LoopPacket → List Step → model.Console
-console_served period packet steps = before_rounds steps (model.fresh (new_memory period) packet)
+abbrev pub console_served : ℕ → LoopPacket → List ReplayStep → model.Console
+console_served period packet steps = before_rounds steps (model.fresh_console (new_memory period) packet)
 
 -- `served`, and the numbers of bytes heard and said
 abbrev pub served_line : Served → List ℕ
@@ -66,11 +66,11 @@ abbrev pub unserved : Served
 unserved = record { heard = 0; said = 0 }
 
 -- a console in memory stands for the one to be served, with a blank packet
-abbrev pub readied : ℕ → List Step → Console → Type 0
-readied period steps console = (packet : LoopPacket) × IsBlank packet × StandsFor console (console_served period packet steps)
+abbrev pub readied : ℕ → List ReplayStep → Console → Type 0
+readied period steps console = (packet : LoopPacket) × PacketIsBlank packet × ConsoleStandsFor console (console_served period packet steps)
 
 -- such a console was made, or there was no memory for it
-abbrev pub readies : {W : Type 0} → ℕ → List Step → steps.Step W Console
+abbrev pub readies : {W : Type 0} → ℕ → List ReplayStep → steps.CommandStep W Console
 readies period steps old result new =
     IfOk result (readied period steps) × IfErr result (λ output. output ≡ no_memory) × (new ≡ old)
 
@@ -87,7 +87,7 @@ pub record serves {L : Type 0} (traffic : Traffic L) (before : Console) (turns :
 
 -- The settings are read and judged, then the schedule for their period, the console is made, a call is waited for at the
 -- address, and the console is served over it.
-abbrev pub serves_files : {F K L D : Type 0} → Meanings F K L D → ConsoleNames → steps.Step (Outside F K L D) Lines
+abbrev pub serves_files : {F K L D : Type 0} → Meanings F K L D → ConsoleNames → steps.CommandStep (Outside F K L D) Lines
 serves_files m names =
     then (over_files (settles m.shelf names.settings)) (λ settings.
     then (over_files (reads_schedule m.shelf names.schedule settings.period)) (λ schedule.

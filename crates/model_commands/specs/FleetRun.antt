@@ -7,12 +7,12 @@ use Rattle.command_words.specs.Command.{FleetNames}
 use Rattle.disk_model.specs.declared.mem_disk.MemDisk.{MemDisk}
 use Rattle.disk_model.specs.declared.stopping.Stopping.{Stopping}
 use Rattle.eeprom_map.specs.Memory.{new_memory}
-use Rattle.fleet.specs.Crew.{Crew, IsReady}
+use Rattle.fleet.specs.Crew.{Crew, CrewIsReady}
 use Rattle.fleet.specs.FleetEnds.{RunsFleet}
 use Rattle.fleet.specs.declared.member.MemberTurn.TheVariants.{Ended, More}
 use Rattle.fleet.specs.declared.run.FleetEnd.{FleetEnd}
 use Rattle.fleet.specs.declared.run.FleetEnd.TheVariants as fleet_end
-use Rattle.loop_packet.specs.Blank.{IsBlank}
+use Rattle.loop_packet.specs.Blank.{PacketIsBlank}
 use Rattle.loop_packet.specs.declared.packet.LoopPacket.{LoopPacket}
 use Rattle.run_output.specs.Ended.{Lines, output_of}
 use Rattle.run_output.specs.Output.{Output, no_memory, write_fault}
@@ -27,7 +27,7 @@ use Rattle.schedule_replay.specs.Replayed.{IsNewDisk}
 use Rattle.schedule_replay.specs.Standing.{LineAt}
 use Rattle.settings_file.specs.Reading.{settings_of}
 use Rattle.settings_file.specs.StationSettings.{StationSettings}
-use Rattle.station_fleet.specs.Outcomes.{Stands}
+use Rattle.station_fleet.specs.Outcomes.{StationStands}
 use Rattle.station_fleet.specs.StationTurns.{station_turning}
 use Rattle.station_fleet.specs.declared.station.Station.{Station}
 use Rattle.station_io.specs.Files.{Shelf, most_bytes}
@@ -38,11 +38,11 @@ use Rattle.model_commands.specs.ReplayRun.{IsGoodSchedule}
 use Rattle.model_commands.specs.ScheduleReading.{reads_schedule}
 
 -- there is memory, or the run ends for want of it
-abbrev pub finds_memory : {W : Type 0} → steps.Step W (Unit {0})
+abbrev pub finds_memory : {W : Type 0} → steps.CommandStep W (Unit {0})
 finds_memory old result new = IfErr result (λ output. output ≡ no_memory) × (new ≡ old)
 
 -- the files of schedules are read one after another, for consoles of this period, and their schedules are given behind those that were read
-abbrev pub reads_schedules : {F K L D : Type 0} → Meanings F K L D → ℕ → List Schedule → List (List ℕ) → steps.Step (Outside F K L D) (Vec Schedule)
+abbrev pub reads_schedules : {F K L D : Type 0} → Meanings F K L D → ℕ → List Schedule → List (List ℕ) → steps.CommandStep (Outside F K L D) (Vec Schedule)
 reads_schedules m period given [] old result new = IsOkAnd result (λ schedules. schedules.items ≡ given) × (new ≡ old)
 reads_schedules m period given (name ∷ names) old result new =
     then (over_files (reads_schedule m.shelf name period)) (λ schedule.
@@ -52,16 +52,16 @@ reads_schedules m period given (name ∷ names) old result new =
 -- and a new disk that has room for the schedule's records.
 pub record IsNewStation (settings : StationSettings) (schedule : Schedule) (s : Station) : Type 0 where
   pub packet : LoopPacket
-  pub blank : IsBlank packet
+  pub blank : PacketIsBlank packet
   pub before : Sim
   pub made : Stopping MemDisk
   pub line : LineAt (start (new_memory settings.period) packet) before
   pub disk : IsNewDisk schedule.records (new_memory settings.period) packet made
-  pub stands : Stands settings
+  pub stands : StationStands settings
       (record { eeprom = new_memory settings.period; packet = packet; steps = schedule.steps.items; before = before; made = made }) [] s
 
 -- a station is made for each schedule, or there is no memory for them
-abbrev pub makes_stations : {W : Type 0} → StationSettings → List Schedule → steps.Step W (Vec Station)
+abbrev pub makes_stations : {W : Type 0} → StationSettings → List Schedule → steps.CommandStep W (Vec Station)
 makes_stations settings schedules old result new =
     IfOk result (λ stations. AllZip (IsNewStation settings) schedules stations.items)
     × IfErr result (λ output. output ≡ no_memory) × (new ≡ old)
@@ -86,14 +86,14 @@ pub record takes_turns {S : Type 0} (outlet : Outlet S) (seed : ℕ) (stations :
   pub after : Crew Station
   pub members : opening.members ≡ stations
   pub none_ended : (k : ℕ) → k < length stations → slice_index_or opening.last k Ended ≡ More
-  pub ready : IsReady station_turning opening
+  pub ready : CrewIsReady station_turning opening
   pub end : FleetEnd
   pub ran : RunsFleet station_turning outlet seed opening old end after new
   pub given : output_of result ≡ fleet_output (length stations) end
 
 -- The settings are read and judged, then each schedule for their period, in the order of their names. Then the stations are made, and
 -- take turns.
-abbrev pub fleets : {F K L D : Type 0} → Meanings F K L D → FleetNames → steps.Step (Outside F K L D) Lines
+abbrev pub fleets : {F K L D : Type 0} → Meanings F K L D → FleetNames → steps.CommandStep (Outside F K L D) Lines
 fleets m names =
     then (over_files (settles m.shelf names.settings)) (λ settings.
     then (reads_schedules m settings.period [] names.schedules) (λ schedules.

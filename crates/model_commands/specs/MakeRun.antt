@@ -4,7 +4,7 @@ use Rattle.std.specs.declared.result.Result.{Result}
 use Rattle.made_run.specs.CountsRun.{CountsRun}
 use Rattle.run_output.specs.Ended.{Lines}
 use Rattle.run_output.specs.Output.{Output, no_memory}
-use Rattle.run_output.specs.Steps.{Step}
+use Rattle.run_output.specs.Steps.{CommandStep}
 use Rattle.schedule_replay.specs.declared.counts.Counts.{Counts}
 
 -- `made`, how many records, and how many rounds
@@ -37,5 +37,5 @@ MakesRun seed records (Ok text) = (counts : Counts) × CountsRun seed records co
 MakesRun seed records (Err output) = output ≡ no_memory
 
 -- the schedule is made and run, and nothing outside is touched
-abbrev pub makes_run : {W : Type 0} → ℕ → ℕ → Step W Lines
+abbrev pub makes_run : {W : Type 0} → ℕ → ℕ → CommandStep W Lines
 makes_run seed records old result new = MakesRun seed records result × (new ≡ old)

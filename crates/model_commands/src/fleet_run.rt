@@ -30,7 +30,8 @@ pub fn run_fleet<F: Files, K: Sink, L: Link, D: Disk>(
     outside: &mut Outside<F, K, L, D>,
 ) -> Result<Text, Ending>
     requires seed { words.now.seed < 2 ^ 31 }
-    ensures { fleets (means F.shelf K.outlet L.traffic D.medium) (fleet_names words.now) outside.old result outside.new }
+    ensures { fleets (means F.shelf K.outlet L.traffic D.medium)
+        (fleet_names words.now) outside.old result outside.new }
 {
     let settings = settle(alloc, &mut outside.files, words.settings)?;
     let schedules = read_schedules(alloc, &words.schedules, settings.period(), outside)?;
@@ -47,7 +48,8 @@ fn read_schedules<F: Files, K: Sink, L: Link, D: Disk>(
     period: Period,
     outside: &mut Outside<F, K, L, D>,
 ) -> Result<Vec<Schedule>, Ending>
-    ensures reads { reads_schedules (means F.shelf K.outlet L.traffic D.medium) period [] (texts names.now) outside.old result outside.new }
+    ensures reads { reads_schedules (means F.shelf K.outlet L.traffic D.medium) period []
+        (texts names.now) outside.old result outside.new }
     ensures fit { IfOk result (λ schedules. All (IsFit period) schedules.items) }
     ensures as_many { IfOk result (λ schedules. vec_len schedules ≡ length names.now) }
 {

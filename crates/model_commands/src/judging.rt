@@ -1,6 +1,6 @@
 ghost use Rattle.std.specs.Prelude.{◌≡◌, ◌≤◌, IfOk, length};
 ghost use Rattle.model_commands.specs.ScheduleReading.{SaysSchedule, bad_schedule, reads_schedule};
-ghost use Rattle.schedule_steps.specs.Accepted.{IsAccepted};
+ghost use Rattle.schedule_steps.specs.Accepted.{ScheduleIsAccepted};
 
 use run_output::{Ending, Status, Text, read};
 use schedule_file::{Schedule, ScheduleFault};
@@ -18,7 +18,7 @@ pub fn read_schedule<F: Files>(
     period: Period,
 ) -> Result<Schedule, Ending>
     ensures reads { reads_schedule F.shelf name.now period files.old result files.new }
-    ensures accepted { IfOk result (λ schedule. IsAccepted schedule) }
+    ensures accepted { IfOk result (λ schedule. ScheduleIsAccepted schedule) }
     ensures period { IfOk result (λ schedule. schedule.period ≡ period) }
     ensures few { IfOk result (λ schedule. length schedule.steps.items ≤ 10000) }
 {
@@ -29,7 +29,7 @@ pub fn read_schedule<F: Files>(
 // The schedule that a text says.
 fn schedule_in(alloc: Global, text: &[u8], period: Period) -> Result<Schedule, Ending>
     ensures exact { SaysSchedule text.now period result }
-    ensures accepted { IfOk result (λ schedule. IsAccepted schedule) }
+    ensures accepted { IfOk result (λ schedule. ScheduleIsAccepted schedule) }
     ensures period { IfOk result (λ schedule. schedule.period ≡ period) }
     ensures few { IfOk result (λ schedule. length schedule.steps.items ≤ 10000) }
 {

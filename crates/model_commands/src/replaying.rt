@@ -2,7 +2,7 @@ ghost use Rattle.std.specs.Prelude.{◌≡◌, []};
 ghost use Rattle.model_commands.specs.ReplayRun.{replay_status, replays, replays_files};
 ghost use Rattle.run_output.specs.Ended.{output_of};
 ghost use Rattle.run_output.specs.Outside.{means};
-ghost use Rattle.schedule_steps.specs.Accepted.{IsAccepted};
+ghost use Rattle.schedule_steps.specs.Accepted.{ScheduleIsAccepted};
 ghost use Rattle.schedule_replay.specs.Replayed.{steps_in};
 
 use crate::judging::read_schedule;
@@ -23,7 +23,8 @@ pub fn replay_files<F: Files, K: Sink, L: Link, D: Disk>(
     schedule: &str,
     outside: &mut Outside<F, K, L, D>,
 ) -> Result<Text, Ending>
-    ensures { replays_files (means F.shelf K.outlet L.traffic D.medium) settings.now schedule.now outside.old result outside.new }
+    ensures { replays_files
+        (means F.shelf K.outlet L.traffic D.medium) settings.now schedule.now outside.old result outside.new }
 {
     let settings = settle(alloc, &mut outside.files, settings)?;
     let schedule = read_schedule(alloc, &mut outside.files, schedule, settings.period())?;
@@ -37,7 +38,7 @@ fn replay_anew<K: Sink>(
     schedule: &Schedule,
     out: &mut K,
 ) -> Result<Text, Ending>
-    requires accepted { IsAccepted schedule.now }
+    requires accepted { ScheduleIsAccepted schedule.now }
     requires period { schedule.now.period ≡ settings.now.period }
     ensures { replays K.outlet settings.now (steps_in schedule.now) out.old result out.new }
 {

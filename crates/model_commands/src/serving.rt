@@ -3,7 +3,7 @@ ghost use Rattle.command_words.specs.Command.{console_names};
 ghost use Rattle.model_commands.specs.ConsoleRun.{readied, served_line, serves, serves_files};
 ghost use Rattle.run_output.specs.Output.{no_memory};
 ghost use Rattle.run_output.specs.Outside.{means};
-ghost use Rattle.schedule_steps.specs.Accepted.{IsAccepted};
+ghost use Rattle.schedule_steps.specs.Accepted.{ScheduleIsAccepted};
 ghost use Rattle.schedule_replay.specs.Replayed.{steps_in};
 
 use crate::judging::read_schedule;
@@ -28,7 +28,8 @@ pub fn serve_files<F: Files, K: Sink, L: Link, D: Disk>(
     words: &ConsoleWords<'_>,
     outside: &mut Outside<F, K, L, D>,
 ) -> Result<Text, Ending>
-    ensures { serves_files (means F.shelf K.outlet L.traffic D.medium) (console_names words.now) outside.old result outside.new }
+    ensures { serves_files (means F.shelf K.outlet L.traffic D.medium)
+        (console_names words.now) outside.old result outside.new }
 {
     let settings = settle(alloc, &mut outside.files, words.settings)?;
     let schedule = read_schedule(alloc, &mut outside.files, words.schedule, settings.period())?;
@@ -39,7 +40,7 @@ pub fn serve_files<F: Files, K: Sink, L: Link, D: Disk>(
 
 // A new console of the schedule's period with a blank packet, which has the steps before the first round behind it.
 fn ready_console(alloc: Global, schedule: &Schedule) -> Result<Console, Ending>
-    requires { IsAccepted schedule.now }
+    requires { ScheduleIsAccepted schedule.now }
     ensures ready { IfOk result (readied schedule.now.period (steps_in schedule.now)) }
     ensures none { IfErr result (λ output. output ≡ no_memory) }
 {

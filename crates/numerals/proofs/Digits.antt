@@ -9,7 +9,7 @@ use Rattle.std.specs.Char.{is_digit, digit_value}
 use Rattle.std.specs.List.{list_all}
 use Rattle.std.specs.Str.Parse.{AllDigits, digits_value}
 use Rattle.std.specs.Prelude.{Some, nat_lt, nat_le, ◌&&◌}
-use Rattle.numerals.specs.Numeral.{number_in, is_short_numeral, Writes}
+use Rattle.numerals.specs.Numeral.{number_in, is_short_numeral, WritesNumber}
 use Rattle.numerals.proofs.Passing.{only_if_some}
 
 -- digits that are so, and so many, are a numeral
@@ -29,7 +29,7 @@ all_digits_of base (digit ∷ digits) all =
     (ltb-true (digit_value digit) base both.0, all_digits_of base digits both.1)
 
 -- what is read is what the digits write
-pub number_in_writes : (base most : ℕ) (digits : List ℕ) (n : ℕ) → number_in base most digits ≡ Some n → Writes base most digits n
+pub number_in_writes : (base most : ℕ) (digits : List ℕ) (n : ℕ) → number_in base most digits ≡ Some n → WritesNumber base most digits n
 number_in_writes base most digits n read =
     let chosen : (is_short_numeral base most digits ≡ true) × (digits_value base digits ≡ n) = only_if_some (is_short_numeral base most digits) (digits_value base digits) n read in
     let halves : (nat_lt 0 (length digits) && nat_le (length digits) most ≡ true) × (list_all (λ digit. is_digit digit base) digits ≡ true) = and_parts (nat_lt 0 (length digits) && nat_le (length digits) most) (list_all (λ digit. is_digit digit base) digits) chosen.0 in
@@ -41,7 +41,7 @@ number_in_writes base most digits n read =
     }
 
 -- what digits write is read
-pub number_in-writes : (base most : ℕ) (digits : List ℕ) (n : ℕ) → Writes base most digits n → number_in base most digits ≡ Some n
+pub number_in-writes : (base most : ℕ) (digits : List ℕ) (n : ℕ) → WritesNumber base most digits n → number_in base most digits ≡ Some n
 number_in-writes base most digits n writes =
     number_in_digits base most digits writes.numeral.0 writes.short writes.numeral.1 ∙ ap Some writes.value
 

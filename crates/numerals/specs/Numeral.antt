@@ -7,7 +7,7 @@ use Rattle.std.specs.Str.Parse.{IsNumeral, digits_value}
 use Rattle.numerals.specs.Then.{◌>>=◌, only_if}
 
 -- The digits write the number in this base, letters in either case, with one digit at least and so many at most.
-pub record Writes (base most : ℕ) (digits : List ℕ) (number : ℕ) : Type 0 where
+pub record WritesNumber (base most : ℕ) (digits : List ℕ) (number : ℕ) : Type 0 where
   pub numeral : IsNumeral base digits
   pub short : length digits ≤ most
   pub value : digits_value base digits ≡ number

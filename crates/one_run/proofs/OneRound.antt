@@ -4,7 +4,7 @@ use Rattle.std.proofs.lemmas.Option.{same_Some}
 use Rattle.station_base.specs.CivilMinute.{CivilMinute}
 use Rattle.serial_link.specs.declared.talk.TalkItem.{TalkItem}
 use Rattle.causes.specs.declared.stored.Stored.TheVariants as reply
-use Rattle.dmpaft_pump.specs.Batch.{all_skipped, answered, batches}
+use Rattle.dmpaft_pump.specs.Batch.{all_skipped, answered_batches, batches}
 use Rattle.dmpaft_driver.specs.Gathered.{keeper_answer}
 use Rattle.dmpaft_pump.specs.Keeper.{Handed, join, kept_all, last_kept}
 use Rattle.dmpaft_pump.specs.declared.outcome.DumpEnd.{DumpEnd}
@@ -50,8 +50,8 @@ by_pages g none t u same = go t.taken refl
 -- their batches are the same
 same_handed : (last : Option CivilMinute) (t u : Tried) → SameTried t u → batches_in last t ≡ batches_in last u
 same_handed last t u same =
-    ap (answered (keeper_answer t.end)) (by_pages (batches last) (λ p q. refl) t u same)
-    ∙ ap (λ (end : DumpEnd). answered (keeper_answer end) (batches last u.place u.taken)) same.end
+    ap (answered_batches (keeper_answer t.end)) (by_pages (batches last) (λ p q. refl) t u same)
+    ∙ ap (λ (end : DumpEnd). answered_batches (keeper_answer end) (batches last u.place u.taken)) same.end
 
 pub all_handed : (last : Option CivilMinute) (ts us : List Tried) → AllSame ts us → all_batches last ts ≡ all_batches last us
 all_handed last [] [] same = refl

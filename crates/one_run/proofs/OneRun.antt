@@ -6,7 +6,7 @@ use Rattle.station_base.specs.declared.row.Row.{Row}
 use Rattle.settings_file.specs.StationSettings.{StationSettings}
 use Rattle.serial_link.specs.declared.talk.TalkItem.{TalkItem}
 use Rattle.dmpaft_pump.specs.Keeper.{Handed}
-use Rattle.packed_rows.specs.Rising.{last_stamp}
+use Rattle.packed_rows.specs.Rising.{last_row_stamp}
 use Rattle.schedule_file.specs.Fates.{Fates}
 use Rattle.station_sim.specs.Joining.{talks_part}
 use Rattle.station_sim.specs.Line.{Line}
@@ -18,11 +18,11 @@ use Rattle.station_session.specs.Attempts.{Tried, all_said, page_count, skip_cou
 use Rattle.station_session.specs.Batches.{kept_count, kept_records}
 use Rattle.station_session.specs.Records.{stored_rows}
 use Rattle.station_replay.specs.Keeping.{Archive}
-use Rattle.station_replay.specs.Replay.{Does, IsBroken, IsReplay, IsRound, Item, Opens, Rounded, Runs, Stage, after_round, closing, first, is_stop, left_by_round, opened}
+use Rattle.station_replay.specs.Replay.{Does, IsBroken, IsReplay, IsRound, Item, Opens, Rounded, Runs, Stage, after_round, closing_items, opening_if_closed, is_stop, left_by_round, opened}
 use Rattle.station_replay.specs.Round.{Attempted, Ending, finished, tried_of}
-use Rattle.station_replay.specs.Schedule.{Step, Stop}
-use Rattle.station_replay.specs.Session.{ComesAt, EndsAs, NotPast, given_in, left_after}
-use Rattle.station_replay.specs.Texts.{text, text_of, rows_text, round_line, rows_behind}
+use Rattle.station_replay.specs.Schedule.{ReplayStep, Stop}
+use Rattle.station_replay.specs.Session.{ComesAt, RoundEndsAs, NotPast, given_in, archive_left_after}
+use Rattle.station_replay.specs.Texts.{text, item_text, rows_text, round_line, rows_text_behind}
 use Rattle.station_replay.proofs.Bridge.{ends_same, known_end, round_talk}
 use Rattle.one_run.proofs.OneRound.{RoundFrom, SameRound, all_handed, rounds_meet, same_number, same_pages, same_skipped}
 use Rattle.one_run.proofs.OneTalk.{CutShort}
@@ -31,7 +31,7 @@ use Rattle.one_run.proofs.OneTried.{never_cut}
 -- the texts of items after one another are that of all
 text_join : (is js : List Item) → text (is ++ js) ≡ text is ++ text js
 text_join [] js = refl
-text_join (i ∷ is) js = ap (λ (t : List ℕ). text_of i ++ t) (text_join is js) ∙ sym (append_assoc (text_of i) (text is) (text js))
+text_join (i ∷ is) js = ap (λ (t : List ℕ). item_text i ++ t) (text_join is js) ∙ sym (append_assoc (item_text i) (text is) (text js))
 
 -- what is written of a round shows nothing of its attempts but how many there are, with their pages and skipped slots
 pub record ReadsAlike (x y : Rounded) : Type 0 where
@@ -49,29 +49,29 @@ line_alike : (x y : Rounded) → ReadsAlike x y → round_line x ≡ round_line 
 line_alike x y alike =
     rw (alike.number, alike.end, alike.attempts, alike.pages, alike.skipped, alike.harmed, alike.kept, alike.rows) refl
 
-behind_alike : (x y : Rounded) → ReadsAlike x y → rows_behind x.end x ≡ rows_behind y.end y
-behind_alike x y alike = go x.end ∙ ap (λ (end : Ending). rows_behind end y) alike.end
+behind_alike : (x y : Rounded) → ReadsAlike x y → rows_text_behind x.end x ≡ rows_text_behind y.end y
+behind_alike x y alike = go x.end ∙ ap (λ (end : Ending). rows_text_behind end y) alike.end
   where
     same : rows_text x.written x.rows ≡ rows_text y.written y.rows
     same = ap (λ (n : ℕ). rows_text n x.rows) alike.written ∙ ap (λ (rows : List Row). rows_text y.written rows) alike.rows
 
-    go : (end : Ending) → rows_behind end x ≡ rows_behind end y
+    go : (end : Ending) → rows_text_behind end x ≡ rows_text_behind end y
     go Ending.Ok = same
     go Ending.GaveUp = same
     go Ending.Full = same
     go (Ending.Stopped k) = refl
 
-ran_alike : (x y : Rounded) → ReadsAlike x y → text_of (Item.Ran x) ≡ text_of (Item.Ran y)
-unfolding text_of
+ran_alike : (x y : Rounded) → ReadsAlike x y → item_text (Item.Ran x) ≡ item_text (Item.Ran y)
+unfolding item_text
 ran_alike x y alike =
-    ap (λ (line : List ℕ). line ++ rows_behind x.end x) (line_alike x y alike)
+    ap (λ (line : List ℕ). line ++ rows_text_behind x.end x) (line_alike x y alike)
     ∙ ap (λ (rows : List ℕ). round_line y ++ rows) (behind_alike x y alike)
 
 module _ (settings : StationSettings) where
   -- the attempts of a round of a run, and of one with an unseen delivery
   abbrev StageRound : Fates → Option Stop → Stage → Bool → List Tried → RoundEnd → Line → Type 0
   StageRound f stop s fails ts end v =
-      RoundFrom settings.most stop f fails 0 0 (length s.archive.rows) (last_stamp s.archive.rows) (started s.line) ts end v
+      RoundFrom settings.most stop f fails 0 0 (length s.archive.rows) (last_row_stamp s.archive.rows) (started s.line) ts end v
 
   from_none : (n : ℕ) → n ≡ 0 + n
   from_none n = omega arith
@@ -103,21 +103,21 @@ module _ (settings : StationSettings) where
       → StageRound f stop s fails ts end v → StageRound f stop s falls us stops x
       → SameRound settings.most stop f ts us end stops v x ⊎ CutShort fails falls (all_said ts) (all_said us)
   stage_meets f stop s fails falls ts us end stops v x =
-      rounds_meet settings.most stop f ts us fails falls 0 0 (length s.archive.rows) (last_stamp s.archive.rows) (started s.line) end stops v x
+      rounds_meet settings.most stop f ts us fails falls 0 0 (length s.archive.rows) (last_row_stamp s.archive.rows) (started s.line) end stops v x
 
   -- two rounds of a run whose attempts are the same
   module _ (f : Fates) (left : ℕ → List (List ℕ)) (stop : Option Stop) (s u v : Stage) (x y : Rounded)
       (one : IsRound settings f left stop s x u) (two : IsRound settings f left stop s y v)
       (same : SameRound settings.most stop f one.made two.made one.end two.end one.line two.line) where
     given : given_in s.archive one.made ≡ given_in s.archive two.made
-    given = all_handed (last_stamp s.archive.rows) one.made two.made same.tried
+    given = all_handed (last_row_stamp s.archive.rows) one.made two.made same.tried
 
     archive : left_by_round settings stop s one.made ≡ left_by_round settings stop s two.made
-    archive = ap (left_after settings stop 0 s.archive) given
+    archive = ap (archive_left_after settings stop 0 s.archive) given
 
     ending : x.end ≡ y.end
     ending = ends_same settings f stop two.end x.end y.end
-        (subst (λ (end : RoundEnd). EndsAs stop end x.end) same.end one.ends) two.ends
+        (subst (λ (end : RoundEnd). RoundEndsAs stop end x.end) same.end one.ends) two.ends
 
     number : length x.tried ≡ length y.tried
     number = sym (length-map x.tried (λ (t : Attempted). t.made)) ∙ (ap length one.made_are
@@ -146,12 +146,12 @@ module _ (settings : StationSettings) where
   -- two rounds read alike, and lead to one stage
   same_round : (f : Fates) (left : ℕ → List (List ℕ)) (stop : Option Stop) (s u v : Stage) (x y : Rounded)
       → IsRound settings f left stop s x u → IsRound settings f left stop s y v
-      → (text_of (Item.Ran x) ≡ text_of (Item.Ran y)) × (u ≡ v)
+      → (item_text (Item.Ran x) ≡ item_text (Item.Ran y)) × (u ≡ v)
   same_round f left stop s u v x y one two = go (stage_meets f stop s false false one.made two.made one.end two.end one.line two.line
       (round_from f left stop s u x one) (round_from f left stop s v y two))
     where
       go : SameRound settings.most stop f one.made two.made one.end two.end one.line two.line
-          ⊎ CutShort false false (all_said one.made) (all_said two.made) → (text_of (Item.Ran x) ≡ text_of (Item.Ran y)) × (u ≡ v)
+          ⊎ CutShort false false (all_said one.made) (all_said two.made) → (item_text (Item.Ran x) ≡ item_text (Item.Ran y)) × (u ≡ v)
       go (inl same) =
           (ran_alike x y (reads_alike f left stop s u v x y one two same), same_next f left stop s u v x y one two same)
       go (inr cut) = never_cut (all_said one.made) (all_said two.made) cut
@@ -200,9 +200,9 @@ module _ (settings : StationSettings) where
       go (inr (inr (fault, more, is))) = same_Some one.which two.which (sym one.unseen ∙ stays f (all_said two.tried) (all_said one.tried)
           (started s.line) two.line one.line two.which two.talks one.talks more is two.unseen)
 
-  first_alike : (ready : Bool) (s : Stage) (i j : Item) → text_of i ≡ text_of j → text (first ready s ++ i ∷ []) ≡ text (first ready s ++ j ∷ [])
+  first_alike : (ready : Bool) (s : Stage) (i j : Item) → item_text i ≡ item_text j → text (opening_if_closed ready s ++ i ∷ []) ≡ text (opening_if_closed ready s ++ j ∷ [])
   first_alike ready s i j same =
-      text_join (first ready s) (i ∷ []) ∙ (ap (λ (t : List ℕ). text (first ready s) ++ (t ++ [])) same ∙ sym (text_join (first ready s) (j ∷ [])))
+      text_join (opening_if_closed ready s) (i ∷ []) ∙ (ap (λ (t : List ℕ). text (opening_if_closed ready s) ++ (t ++ [])) same ∙ sym (text_join (opening_if_closed ready s) (j ∷ [])))
 
   same_opens : (reached : Bool) (k : Stop) (s : Stage) (is js : List Item) (u v : Stage) → Opens reached k s is u → Opens reached k s js v
       → (text is ≡ text js) × (u ≡ v)
@@ -210,54 +210,54 @@ module _ (settings : StationSettings) where
   same_opens false k s is js u v one two = (ap text (one.0 ∙ sym two.0), one.1 ∙ sym two.1)
 
   -- a step has one text, and leads to one stage
-  same_does : (x : Step) (s : Stage) (is js : List Item) (u v : Stage) → Does settings x s is u → Does settings x s js v
+  same_does : (x : ReplayStep) (s : Stage) (is js : List Item) (u v : Stage) → Does settings x s is u → Does settings x s js v
       → (text is ≡ text js) × (u ≡ v)
-  same_does (Step.Due rs) s is js u v one two = (ap text (one.0 ∙ sym two.0), one.1 ∙ sym two.1)
-  same_does (Step.Idle n) s is js u v one two = (ap text (one.0 ∙ sym two.0), one.1 ∙ sym two.1)
-  same_does (Step.Open None) s is js u v one two = (ap text (one.0 ∙ sym two.0), one.1 ∙ sym two.1)
-  same_does (Step.Open (Some k)) s is js u v one two = same_opens _ k s is js u v one two
-  same_does (Step.Round f left stop) s is js u v one two =
+  same_does (ReplayStep.Due rs) s is js u v one two = (ap text (one.0 ∙ sym two.0), one.1 ∙ sym two.1)
+  same_does (ReplayStep.Idle n) s is js u v one two = (ap text (one.0 ∙ sym two.0), one.1 ∙ sym two.1)
+  same_does (ReplayStep.Open None) s is js u v one two = (ap text (one.0 ∙ sym two.0), one.1 ∙ sym two.1)
+  same_does (ReplayStep.Open (Some k)) s is js u v one two = same_opens _ k s is js u v one two
+  same_does (ReplayStep.Round f left stop) s is js u v one two =
       let same = same_round f left stop (opened s.is_open s) u v one.0 two.0 one.1 two.1 in (
         ap text one.2 ∙ (first_alike s.is_open s (Item.Ran one.0) (Item.Ran two.0) same.0 ∙ sym (ap text two.2)),
         same.1,
       )
 
   -- a run that comes to its end in this step, for a delivery that is unseen
-  abbrev Halts : Step → Stage → List Item → Type 0
-  Halts (Step.Due rs) s o = ⊥
-  Halts (Step.Idle n) s o = ⊥
-  Halts (Step.Open stop) s o = ⊥
-  Halts (Step.Round f left stop) s o = (i : Item) × IsBroken settings f stop (opened s.is_open s) i × (o ≡ first s.is_open s ++ i ∷ [])
+  abbrev Halts : ReplayStep → Stage → List Item → Type 0
+  Halts (ReplayStep.Due rs) s o = ⊥
+  Halts (ReplayStep.Idle n) s o = ⊥
+  Halts (ReplayStep.Open stop) s o = ⊥
+  Halts (ReplayStep.Round f left stop) s o = (i : Item) × IsBroken settings f stop (opened s.is_open s) i × (o ≡ opening_if_closed s.is_open s ++ i ∷ [])
 
   -- the items of a run from here on
-  abbrev ComesTo : List Step → Stage → List Item → Type 0
-  ComesTo [] s o = o ≡ closing s
+  abbrev ComesTo : List ReplayStep → Stage → List Item → Type 0
+  ComesTo [] s o = o ≡ closing_items s
   ComesTo (x ∷ xs) s o = Halts x s o ⊎ ((mid : Stage) × (now : List Item) × (rest : List Item) × (o ≡ now ++ rest)
       × Does settings x s now mid × ComesTo xs mid rest)
 
-  whole_comes : (steps : List Step) (s : Stage) (is : List Item) (u : Stage) (o : List Item) → Runs settings steps s is u → o ≡ is ++ closing u
+  whole_comes : (steps : List ReplayStep) (s : Stage) (is : List Item) (u : Stage) (o : List Item) → Runs settings steps s is u → o ≡ is ++ closing_items u
       → ComesTo steps s o
   whole_comes [] s is u o runs whole =
-      whole ∙ (ap (λ (items : List Item). items ++ closing u) runs.0 ∙ ap closing runs.1)
+      whole ∙ (ap (λ (items : List Item). items ++ closing_items u) runs.0 ∙ ap closing_items runs.1)
   whole_comes (x ∷ xs) s is u o (mid, now, rest, items, does, more) whole = inr (
     mid,
     now,
-    rest ++ closing u,
-    whole ∙ (ap (λ (z : List Item). z ++ closing u) items ∙ append_assoc now rest (closing u)),
+    rest ++ closing_items u,
+    whole ∙ (ap (λ (z : List Item). z ++ closing_items u) items ∙ append_assoc now rest (closing_items u)),
     does,
-    whole_comes xs mid rest u (rest ++ closing u) more refl,
+    whole_comes xs mid rest u (rest ++ closing_items u) more refl,
   )
 
-  unseen_comes : (xs ys : List Step) (f : Fates) (left : ℕ → List (List ℕ)) (stop : Option Stop) (s : Stage) (is : List Item) (u : Stage) (i : Item)
-      (o : List Item) → Runs settings xs s is u → IsBroken settings f stop (opened u.is_open u) i → o ≡ is ++ (first u.is_open u ++ i ∷ [])
-      → ComesTo (xs ++ Step.Round f left stop ∷ ys) s o
+  unseen_comes : (xs ys : List ReplayStep) (f : Fates) (left : ℕ → List (List ℕ)) (stop : Option Stop) (s : Stage) (is : List Item) (u : Stage) (i : Item)
+      (o : List Item) → Runs settings xs s is u → IsBroken settings f stop (opened u.is_open u) i → o ≡ is ++ (opening_if_closed u.is_open u ++ i ∷ [])
+      → ComesTo (xs ++ ReplayStep.Round f left stop ∷ ys) s o
   unseen_comes [] ys f left stop s is u i o runs broken whole = inl (
     i,
     subst (λ (z : Stage). IsBroken settings f stop (opened z.is_open z) i) runs.1 broken,
-    whole ∙ (ap (λ (z : List Item). z ++ (first u.is_open u ++ i ∷ [])) runs.0 ∙ ap (λ (z : Stage). first z.is_open z ++ i ∷ []) runs.1),
+    whole ∙ (ap (λ (z : List Item). z ++ (opening_if_closed u.is_open u ++ i ∷ [])) runs.0 ∙ ap (λ (z : Stage). opening_if_closed z.is_open z ++ i ∷ []) runs.1),
   )
   unseen_comes (x ∷ xs) ys f left stop s is u i o (mid, now, rest, items, does, more) broken whole =
-      let behind = first u.is_open u ++ i ∷ [] in
+      let behind = opening_if_closed u.is_open u ++ i ∷ [] in
       inr (
         mid,
         now,
@@ -267,26 +267,26 @@ module _ (settings : StationSettings) where
         unseen_comes xs ys f left stop mid rest u i (rest ++ behind) more broken refl,
       )
 
-  replay_comes : (s : Stage) (steps : List Step) (o : List Item) → IsReplay settings s steps o → ComesTo steps s o
+  replay_comes : (s : Stage) (steps : List ReplayStep) (o : List Item) → IsReplay settings s steps o → ComesTo steps s o
   replay_comes s steps o (inl (is, u, runs, whole)) = whole_comes steps s is u o runs whole
   replay_comes s steps o (inr (xs, ys, f, left, stop, is, u, i, parts, runs, broken, whole)) =
-      subst (λ (z : List Step). ComesTo z s o) (sym parts) (unseen_comes xs ys f left stop s is u i o runs broken whole)
+      subst (λ (z : List ReplayStep). ComesTo z s o) (sym parts) (unseen_comes xs ys f left stop s is u i o runs broken whole)
 
-  halts_alike : (x : Step) (s : Stage) (o p : List Item) → Halts x s o → Halts x s p → text o ≡ text p
-  halts_alike (Step.Due rs) s o p one two = absurd one
-  halts_alike (Step.Idle n) s o p one two = absurd one
-  halts_alike (Step.Open stop) s o p one two = absurd one
-  halts_alike (Step.Round f left stop) s o p one two =
-      ap text (one.2 ∙ (ap (λ (i : Item). first s.is_open s ++ i ∷ []) (same_broken f stop (opened s.is_open s) one.0 two.0 one.1 two.1) ∙ sym two.2))
+  halts_alike : (x : ReplayStep) (s : Stage) (o p : List Item) → Halts x s o → Halts x s p → text o ≡ text p
+  halts_alike (ReplayStep.Due rs) s o p one two = absurd one
+  halts_alike (ReplayStep.Idle n) s o p one two = absurd one
+  halts_alike (ReplayStep.Open stop) s o p one two = absurd one
+  halts_alike (ReplayStep.Round f left stop) s o p one two =
+      ap text (one.2 ∙ (ap (λ (i : Item). opening_if_closed s.is_open s ++ i ∷ []) (same_broken f stop (opened s.is_open s) one.0 two.0 one.1 two.1) ∙ sym two.2))
 
-  goes_or_halts : {A : Type 0} (x : Step) (s mid : Stage) (o now : List Item) → Halts x s o → Does settings x s now mid → A
-  goes_or_halts (Step.Due rs) s mid o now one two = absurd one
-  goes_or_halts (Step.Idle n) s mid o now one two = absurd one
-  goes_or_halts (Step.Open stop) s mid o now one two = absurd one
-  goes_or_halts (Step.Round f left stop) s mid o now one two =
+  goes_or_halts : {A : Type 0} (x : ReplayStep) (s mid : Stage) (o now : List Item) → Halts x s o → Does settings x s now mid → A
+  goes_or_halts (ReplayStep.Due rs) s mid o now one two = absurd one
+  goes_or_halts (ReplayStep.Idle n) s mid o now one two = absurd one
+  goes_or_halts (ReplayStep.Open stop) s mid o now one two = absurd one
+  goes_or_halts (ReplayStep.Round f left stop) s mid o now one two =
       no_both f left stop (opened s.is_open s) mid one.0 two.0 one.1 two.1
 
-  one_comes : (steps : List Step) (s : Stage) (o p : List Item) → ComesTo steps s o → ComesTo steps s p → text o ≡ text p
+  one_comes : (steps : List ReplayStep) (s : Stage) (o p : List Item) → ComesTo steps s o → ComesTo steps s p → text o ≡ text p
   one_comes [] s o p one two = ap text (one ∙ sym two)
   one_comes (x ∷ xs) s o p (inl halts) (inl also) = halts_alike x s o p halts also
   one_comes (x ∷ xs) s o p (inl halts) (inr (mid, now, rest, items, does, more)) = goes_or_halts x s mid o now halts does
@@ -297,7 +297,7 @@ module _ (settings : StationSettings) where
       ap text items ∙ (text_join now rest ∙ (ap (λ (t : List ℕ). t ++ text rest) same.0
       ∙ (ap (λ (t : List ℕ). text here ++ t) (one_comes xs mid rest later more from) ∙ (sym (text_join here later) ∙ sym (ap text all)))))
 
-pub one_text : (settings : StationSettings) (from : Stage) (steps : List Step) (o other : List Item) → IsReplay settings from steps o
+pub one_text : (settings : StationSettings) (from : Stage) (steps : List ReplayStep) (o other : List Item) → IsReplay settings from steps o
     → IsReplay settings from steps other → text o ≡ text other
 one_text settings from steps o other one two =
     one_comes settings steps from o other (replay_comes settings from steps o one) (replay_comes settings from steps other two)

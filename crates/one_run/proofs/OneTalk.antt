@@ -11,9 +11,9 @@ use Rattle.station_sim.specs.declared.part.Part.{Part}
 use Rattle.station_sim.specs.declared.part.Part.TheVariants.{Byte, Wait}
 use Rattle.station_sim.specs.Joining.{and_then_some}
 use Rattle.station_sim.specs.Line.{Line}
-use Rattle.station_sim.specs.Talk.{ConsoleTalk, console_talk, hearing, step as step_of, waiting}
+use Rattle.station_sim.specs.Talk.{ConsoleTalk, console_talk, hearing, line_step, waiting}
 use Rattle.dmpaft_pump.specs.Pump as pump
-use Rattle.dmpaft_pump.specs.Pump.{State, Saying, Hearing, Keeping, Over, Astray, answered_by, batch_of, begun, given, is_said, onward, pump_from, said_if, step, ungiven, unless_given}
+use Rattle.dmpaft_pump.specs.Pump.{AttemptState, Saying, Hearing, Keeping, Over, Astray, answered_by, batch_of, begun, answer_taken, is_said, onward, pump_from, said_if, attempt_step, ungiven, unless_given}
 use Rattle.dmpaft_pump.specs.declared.pump_end.PumpEnd.{PumpEnd}
 use Rattle.dmpaft_driver.proofs.Cutting.{begun_not_over}
 use Rattle.dmpaft_pump.proofs.Walking.{no_astray, said_is}
@@ -22,7 +22,7 @@ use Rattle.one_run.proofs.Answering.{AreAnswered, answers_meet, done_too, one_an
 use Rattle.one_run.proofs.Handing.{gives_all, over_by}
 
 -- a pump that stands so takes this talk and these answers to its end
-abbrev pub Ends : Option CivilMinute → State → List TalkItem → List Stored → Type 0
+abbrev pub Ends : Option CivilMinute → AttemptState → List TalkItem → List Stored → Type 0
 Ends after s talk answers = (place : ℕ) × (taken : List (List ℕ)) × (end : PumpEnd)
     × (pump_from after s talk answers ≡ Over place taken end)
 
@@ -95,16 +95,16 @@ same_line w v e = cc
 module _ (most : ℕ) (stop : Option Stop) (after : Option CivilMinute) (f : Fates) where
   -- From this state of the pump, over this line and with so many batches stored and rows held, the talk and the answers lead to the end. The answers
   -- are those of an archive with so many rows.
-  pub record Leads (fails : Bool) (s : State) (stored held : ℕ) (w : Line) (talk : List TalkItem) (answers : List Stored) : Type 0 where
+  pub record Leads (fails : Bool) (s : AttemptState) (stored held : ℕ) (w : Line) (talk : List TalkItem) (answers : List Stored) : Type 0 where
     pub ends : Ends after s talk answers
     pub answered : AreAnswered most stop fails stored held (gives_all after s talk answers)
     pub line : Line
     pub talks : ConsoleTalk f talk w line
 
   -- the same with an item first, where no answer is taken before it
-  pub record Goes (fails : Bool) (g : State) (stored held : ℕ) (w : Line) (i : TalkItem) (talk : List TalkItem) (answers : List Stored) : Type 0 where
-    pub ends : Ends after (step after g i) talk answers
-    pub answered : AreAnswered most stop fails stored held (gives_all after (step after g i) talk answers)
+  pub record Goes (fails : Bool) (g : AttemptState) (stored held : ℕ) (w : Line) (i : TalkItem) (talk : List TalkItem) (answers : List Stored) : Type 0 where
+    pub ends : Ends after (attempt_step after g i) talk answers
+    pub answered : AreAnswered most stop fails stored held (gives_all after (attempt_step after g i) talk answers)
     pub line : Line
     pub talks : ConsoleTalk f (i ∷ talk) w line
 
@@ -119,13 +119,13 @@ module _ (most : ℕ) (stop : Option Stop) (after : Option CivilMinute) (f : Fat
 
   module _ (fails falls : Bool) where
     -- what is to be said is said
-    said_right : (part : pump.Part) (k : TalkItem) (l : List TalkItem) (i : TalkItem) (talk : List TalkItem) (answers : List Stored) (p : Bool)
+    said_right : (part : pump.AttemptPart) (k : TalkItem) (l : List TalkItem) (i : TalkItem) (talk : List TalkItem) (answers : List Stored) (p : Bool)
         → is_said k i ≡ p → Ends after (said_if part l p) talk answers → i ≡ k
     said_right part k l i talk answers true is e = said_is k i is
     said_right part k l i talk answers false is e = never after talk answers e
 
     -- the line has one item to hear
-    heard_right : (part : pump.Part) (bytes : List ℕ) (run stored held : ℕ) (w : Line) (i j : TalkItem) (talk others : List TalkItem)
+    heard_right : (part : pump.AttemptPart) (bytes : List ℕ) (run stored held : ℕ) (w : Line) (i j : TalkItem) (talk others : List TalkItem)
         (answers replies : List Stored) → Goes fails (Hearing part bytes run) stored held w i talk answers
         → Goes falls (Hearing part bytes run) stored held w j others replies → i ≡ j
     heard_right part bytes run stored held w (Said b ends) j talk others answers replies x y = never after talk answers x.ends
@@ -150,7 +150,7 @@ module _ (most : ℕ) (stop : Option Stop) (after : Option CivilMinute) (f : Fat
         no_wait w.flight f w m.0 q.0 q.1 q.2 m.1
     heard_right part bytes run stored held w Quiet Quiet talk others answers replies x y = refl
 
-    one_item : (g : State) (stored held : ℕ) (w : Line) (i j : TalkItem) (talk others : List TalkItem)
+    one_item : (g : AttemptState) (stored held : ℕ) (w : Line) (i j : TalkItem) (talk others : List TalkItem)
         (answers replies : List Stored) → Goes fails g stored held w i talk answers → Goes falls g stored held w j others replies → i ≡ j
     one_item (Saying part k l) stored held w i j talk others answers replies x y =
         said_right part k l i talk answers (is_said k i) refl x.ends
@@ -163,17 +163,17 @@ module _ (most : ℕ) (stop : Option Stop) (after : Option CivilMinute) (f : Fat
 
     -- from one place on talks are alike
     abbrev pub AlikeFrom : List TalkItem → Type 0
-    AlikeFrom talk = (s : State) (stored held : ℕ) (w : Line) (others : List TalkItem) (answers replies : List Stored)
+    AlikeFrom talk = (s : AttemptState) (stored held : ℕ) (w : Line) (others : List TalkItem) (answers replies : List Stored)
         → Leads fails s stored held w talk answers → Leads falls s stored held w others replies → Alike fails falls talk others answers replies
 
     module _ (talk : List TalkItem) (again : AlikeFrom talk) where
-      behind : (g : State) (stored held : ℕ) (w : Line) (i : TalkItem) (others : List TalkItem) (answers replies : List Stored)
+      behind : (g : AttemptState) (stored held : ℕ) (w : Line) (i : TalkItem) (others : List TalkItem) (answers replies : List Stored)
           → Goes fails g stored held w i talk answers → Goes falls g stored held w i others replies → Alike fails falls talk others answers replies
       behind g stored held w i others answers replies x y =
-          let p = and_then_some (step_of f i w) (console_talk f talk) x.line x.talks in
-          let q = and_then_some (step_of f i w) (console_talk f others) y.line y.talks in
+          let p = and_then_some (line_step f i w) (console_talk f talk) x.line x.talks in
+          let q = and_then_some (line_step f i w) (console_talk f others) y.line y.talks in
           let same : q.0 ≡ p.0 = same_line q.0 p.0 (sym q.1 ∙ p.1) in
-          again (step after g i) stored held p.0 others answers replies
+          again (attempt_step after g i) stored held p.0 others answers replies
           (record { ends = x.ends; answered = x.answered; line = x.line; talks = p.2 })
           (record {
             ends = y.ends;
@@ -182,7 +182,7 @@ module _ (most : ℕ) (stop : Option Stop) (after : Option CivilMinute) (f : Fat
             talks = subst (λ (m : Line). ConsoleTalk f others m y.line) same q.2;
           })
 
-      at : (g : State) (stored held : ℕ) (w : Line) (i j : TalkItem) (others : List TalkItem) (answers replies : List Stored)
+      at : (g : AttemptState) (stored held : ℕ) (w : Line) (i j : TalkItem) (others : List TalkItem) (answers replies : List Stored)
           → Goes fails g stored held w i talk answers → Goes falls g stored held w j others replies
           → Alike fails falls (i ∷ talk) (j ∷ others) answers replies
       at g stored held w i j others answers replies x y =
@@ -208,7 +208,7 @@ module _ (most : ℕ) (stop : Option Stop) (after : Option CivilMinute) (f : Fat
       kept more place taken page stored held w i j others reply.Stale l answers replies x y = never after talk answers x.ends
       kept more place taken page stored held w i j others reply.DiskFault l answers replies x y = never after talk answers x.ends
 
-      from : (s : State) (stored held : ℕ) (w : Line) (i j : TalkItem) (others : List TalkItem) (answers replies : List Stored)
+      from : (s : AttemptState) (stored held : ℕ) (w : Line) (i j : TalkItem) (others : List TalkItem) (answers replies : List Stored)
           → Leads fails s stored held w (i ∷ talk) answers → Leads falls s stored held w (j ∷ others) replies
           → Alike fails falls (i ∷ talk) (j ∷ others) answers replies
       from (Saying part k l) stored held w i j others answers replies x y = at (Saying part k l) stored held w i j others answers replies
@@ -224,12 +224,12 @@ module _ (most : ℕ) (stop : Option Stop) (after : Option CivilMinute) (f : Fat
       from (Over place taken end) stored held w i j others answers replies x y = never after talk answers x.ends
       from Astray stored held w i j others answers replies x y = never after talk answers x.ends
 
-    no_end : {A : Type 0} (g : State) (answers : List Stored) → ((place : ℕ) (taken : List (List ℕ)) (end : PumpEnd) → g ≢ Over place taken end)
+    no_end : {A : Type 0} (g : AttemptState) (answers : List Stored) → ((place : ℕ) (taken : List (List ℕ)) (end : PumpEnd) → g ≢ Over place taken end)
         → (place : ℕ) × (taken : List (List ℕ)) × (end : PumpEnd) × (unless_given answers g ≡ Over place taken end) → A
     no_end g answers not e = absurd (not e.0 e.1 e.2 (over_by answers g e.0 e.1 e.2 e.3).1)
 
     -- two that end here
-    both_end : (s : State) (stored held : ℕ) (w : Line) (answers replies : List Stored) → Leads fails s stored held w [] answers
+    both_end : (s : AttemptState) (stored held : ℕ) (w : Line) (answers replies : List Stored) → Leads fails s stored held w [] answers
         → Leads falls s stored held w [] replies → Alike fails falls [] [] answers replies
     both_end (Saying part i l) stored held w answers replies x y =
         no_end (Saying part i l) answers (λ place taken end e. cc) x.ends
@@ -261,7 +261,7 @@ module _ (most : ℕ) (stop : Option Stop) (after : Option CivilMinute) (f : Fat
     both_end Astray stored held w answers replies x y = never after [] answers x.ends
 
     -- one that ends here, and one that goes on
-    first_ends : (s : State) (stored held : ℕ) (w : Line) (j : TalkItem) (others : List TalkItem) (answers replies : List Stored)
+    first_ends : (s : AttemptState) (stored held : ℕ) (w : Line) (j : TalkItem) (others : List TalkItem) (answers replies : List Stored)
         → Leads fails s stored held w [] answers → Leads falls s stored held w (j ∷ others) replies
         → Alike fails falls [] (j ∷ others) answers replies
     first_ends (Saying part i l) stored held w j others answers replies x y =

@@ -10,12 +10,12 @@ use Rattle.schedule_file.specs.Fates.{Fates}
 use Rattle.station_sim.specs.Line.{Line}
 use Rattle.station_sim.specs.Talk.{ConsoleTalk, console_talk}
 use Rattle.dmpaft_driver.specs.Attempt.{Attempt, End}
-use Rattle.dmpaft_pump.specs.Batch.{EndsGiving, answered, batches}
-use Rattle.dmpaft_driver.specs.Exact.{end_of}
+use Rattle.dmpaft_pump.specs.Batch.{EndsGiving, answered_batches, batches}
+use Rattle.dmpaft_driver.specs.Exact.{attempt_end}
 use Rattle.dmpaft_driver.specs.Gathered.{keeper_answer, RefusesLast}
 use Rattle.dmpaft_pump.specs.Keeper.{Handed}
 use Rattle.dmpaft_pump.specs.Pump.{Over, Settling, begun, pump_after}
-use Rattle.dmpaft_pump.specs.Shown.{answer_of}
+use Rattle.dmpaft_pump.specs.Shown.{pump_answer}
 use Rattle.dmpaft_driver.specs.Turning.{dump_end_of}
 use Rattle.dmpaft_pump.specs.declared.outcome.DumpEnd.{DumpEnd}
 use Rattle.dmpaft_pump.specs.declared.outcome.DumpEnd.TheVariants as dump_end
@@ -44,7 +44,7 @@ pump_end_of dump_end.Flood = pump_end.Flood
 pump_end_of dump_end.LinkFault = pump_end.Flood
 pump_end_of dump_end.OutOfMemory = pump_end.Flood
 
-ends_same : (end : DumpEnd) → rounds.end_of end ≡ end_of (pump_end_of end)
+ends_same : (end : DumpEnd) → rounds.end_of end ≡ attempt_end (pump_end_of end)
 ends_same dump_end.Whole = refl
 ends_same (dump_end.Failed trouble) = refl
 ends_same dump_end.Full = refl
@@ -54,7 +54,7 @@ ends_same dump_end.Flood = refl
 ends_same dump_end.LinkFault = refl
 ends_same dump_end.OutOfMemory = refl
 
-answers_same : (end : DumpEnd) → answer_of (pump_end_of end) ≡ keeper_answer end
+answers_same : (end : DumpEnd) → pump_answer (pump_end_of end) ≡ keeper_answer end
 answers_same dump_end.Whole = refl
 answers_same (dump_end.Failed trouble) = refl
 answers_same dump_end.Full = refl
@@ -76,7 +76,7 @@ end_back dump_end.OutOfMemory plain = absurd plain
 
 -- an attempt that was refused gave a batch last
 gave_last : (end : DumpEnd) (after : Option CivilMinute) (place : ℕ) (taken : List (List ℕ)) → RefusesLast end after place taken
-    → end_of (pump_end_of end) ≡ End.Refused → EndsGiving after place taken
+    → attempt_end (pump_end_of end) ≡ End.Refused → EndsGiving after place taken
 gave_last dump_end.Whole after place taken refused e = absurd (let bad : End.Whole ≡ End.Refused = e in cc)
 gave_last (dump_end.Failed trouble) after place taken refused e = absurd (let bad : End.Failed trouble ≡ End.Refused = e in cc)
 gave_last dump_end.Full after place taken refused e = refused (λ z. cc)
@@ -144,13 +144,13 @@ module _ (most : ℕ) (stop : Option Stop) (f : Fates) (stored held : ℕ) (afte
 
   pub pumped : (fails : Bool) (w v : Line) (t : Tried) → Tries fails w t v → Pumped fails w t
   pumped fails w v t h =
-      let attempt : Attempt (stamp_frame_of after) t.said t.place t.taken (end_of (pump_end_of t.end)) =
+      let attempt : Attempt (stamp_frame_of after) t.said t.place t.taken (attempt_end (pump_end_of t.end)) =
       subst (λ (end : End). Attempt (stamp_frame_of after) t.said t.place t.taken end) (ends_same t.end)
       (plain_ended (λ talk pages end. Attempt (stamp_frame_of after) talk t.place pages end) t.end t.said t.taken h.plain h.tried.ends) in
       let found = complete after t.said t.place t.taken (pump_end_of t.end) attempt (gave_last t.end after t.place t.taken h.tried.refused) in
-      let all : answered (keeper_answer t.end) (batches after t.place t.taken) ≡ gives_all after (begun after Settling) t.said found.0 =
-      ap (λ (bs : List (List (List ℕ))). answered (keeper_answer t.end) bs) (batches_same after t.place found.1 t.taken found.3)
-      ∙ ap (λ (k : Stored). answered k (batches after found.1 t.taken)) (sym (answers_same t.end))
+      let all : answered_batches (keeper_answer t.end) (batches after t.place t.taken) ≡ gives_all after (begun after Settling) t.said found.0 =
+      ap (λ (bs : List (List (List ℕ))). answered_batches (keeper_answer t.end) bs) (batches_same after t.place found.1 t.taken found.3)
+      ∙ ap (λ (k : Stored). answered_batches k (batches after found.1 t.taken)) (sym (answers_same t.end))
       ∙ handed_all after t.said (begun after Settling) found.0 found.1 t.taken (pump_end_of t.end) tt found.2 in
       record {
         answers = found.0;

@@ -4,7 +4,7 @@ ghost use Rattle.settings_file.specs.StationSettings.{StationSettings};
 ghost use Rattle.station_session.specs.Attempts.{Tried};
 ghost use Rattle.schedule_file.specs.Fates.{Fates};
 ghost use Rattle.station_sim.specs.Line.{Line};
-ghost use Rattle.station_replay.specs.Schedule.{Stop, Step};
+ghost use Rattle.station_replay.specs.Schedule.{Stop, ReplayStep};
 ghost use Rattle.station_replay.specs.Keeping.{Archive};
 ghost use Rattle.station_replay.specs.Replay.{IsReplay, Item, Stage};
 ghost use Rattle.one_run.specs.SameTried.{SameTried, TriesOver};
@@ -13,7 +13,8 @@ ghost use Rattle.station_replay.specs.Texts.{text};
 /// From one line, under one round's fates, over one archive and after one stamp, an attempt has one talk, one list of taken
 /// pages, one end and one line behind it. Its place is fixed if it took a page.
 pub fn an_attempt_is_fixed()
-    ensures { (settings : StationSettings) (stop : Option Stop) (f : Fates) (stored : ℕ) (a : Archive) (after : Option CivilMinute)
+    ensures { (settings : StationSettings) (stop : Option Stop) (f : Fates) (stored : ℕ) (a : Archive)
+        (after : Option CivilMinute)
         (w v x : Line) (t u : Tried) → TriesOver settings stop f stored a after w t v
         → TriesOver settings stop f stored a after w u x → SameTried t u × (v ≡ x) }
 {}
@@ -21,6 +22,6 @@ pub fn an_attempt_is_fixed()
 /// A schedule has one text: all its runs from one stage, with the same settings, write the same, whether they come to their
 /// end or to an unseen delivery.
 pub fn a_run_has_one_text()
-    ensures { (settings : StationSettings) (from : Stage) (steps : List Step) (o other : List Item)
+    ensures { (settings : StationSettings) (from : Stage) (steps : List ReplayStep) (o other : List Item)
         → IsReplay settings from steps o → IsReplay settings from steps other → text o ≡ text other }
 {}

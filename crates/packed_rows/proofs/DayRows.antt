@@ -11,7 +11,7 @@ use Rattle.station_base.specs.CivilMinute.{CivilMinute, minute_of, archive_day_o
 use Rattle.daily_summary.specs.Summary.{is_of_day, rows_of_day}
 use Rattle.packed_rows.specs.Closing.{day_of_stamp, last_day}
 use Rattle.packed_rows.specs.Days.{day_of_row, is_before, is_up_to}
-use Rattle.packed_rows.specs.Rising.{exceeds, rise, last_after}
+use Rattle.packed_rows.specs.Rising.{stamp_exceeds, rows_rise, last_stamp_after}
 use Rattle.packed_rows.proofs.DayLaws.{later_day, still_beyond, count_yes, count_no}
 
 skip : (p : Row → Bool) (row : Row) (rows : List Row) → p row ≡ false → filter p (row ∷ rows) ≡ filter p rows
@@ -67,13 +67,13 @@ day_count day (row ∷ rows) = by (int_le (day_of_row row) day.0) (int_lt (day_o
         let f = ap length (skip (is_of_day day.0) row rows (beyond_not_on a day.0 et)) in omega (arith, up, bf, f, rest)
 
 -- rows that rise behind a stamp past the day are all past it
-none_of : (day : DayNumber) (s : CivilMinute) (rows : List Row) → rise (Some s) rows ≡ true → int_le (pos (archive_day_of s)) day.0 ≡ false →
+none_of : (day : DayNumber) (s : CivilMinute) (rows : List Row) → rows_rise (Some s) rows ≡ true → int_le (pos (archive_day_of s)) day.0 ≡ false →
     (count_by (is_up_to day) rows ≡ 0) × (rows_of_day day.0 rows ≡ [])
 none_of day s [] up past = (refl, refl)
 none_of day s (row ∷ rows) up past =
-    let le = later_day s row.stamp (and_parts (exceeds (Some s) row.stamp) (rise (Some row.stamp) rows) up).0 in
+    let le = later_day s row.stamp (and_parts (stamp_exceeds (Some s) row.stamp) (rows_rise (Some row.stamp) rows) up).0 in
     let here = still_beyond (archive_day_of s) (archive_day_of row.stamp) day.0 le past in
-    let rest = none_of day row.stamp rows (and_parts (exceeds (Some s) row.stamp) (rise (Some row.stamp) rows) up).1 here in
+    let rest = none_of day row.stamp rows (and_parts (stamp_exceeds (Some s) row.stamp) (rows_rise (Some row.stamp) rows) up).1 here in
     (count_no (is_up_to day) row rows here ∙ rest.0, skip (is_of_day day.0) row rows (beyond_not_on (archive_day_of row.stamp) day.0 here) ∙ rest.1)
 
 -- the rows up to a day stand in front
@@ -86,10 +86,10 @@ pub record Splits (day : DayNumber) (rows : List Row) : Type 0 where
   pub none : rows_of_day day.0 behind ≡ []
   pub next : (row : Row) (more : List Row) → behind ≡ row ∷ more → int_le (day_of_row row) day.0 ≡ false
 
-pub splits : (day : DayNumber) (last : Option CivilMinute) (rows : List Row) → rise last rows ≡ true → Splits day rows
+pub splits : (day : DayNumber) (last : Option CivilMinute) (rows : List Row) → rows_rise last rows ≡ true → Splits day rows
 splits day last [] up = record { front = []; behind = []; parts = refl; count = refl; all = refl; none = refl; next = λ row more e. absurd cc }
 splits day last (row ∷ rows) up =
-    by (int_le (day_of_row row) day.0) refl (splits day (Some row.stamp) rows (and_parts (exceeds last row.stamp) (rise (Some row.stamp) rows) up).1)
+    by (int_le (day_of_row row) day.0) refl (splits day (Some row.stamp) rows (and_parts (stamp_exceeds last row.stamp) (rows_rise (Some row.stamp) rows) up).1)
   where
     by : (to : Bool) → int_le (day_of_row row) day.0 ≡ to → Splits day rows → Splits day (row ∷ rows)
     by true e rest = record {
@@ -102,7 +102,7 @@ splits day last (row ∷ rows) up =
       next = rest.next;
     }
     by false e rest =
-        let past = none_of day row.stamp rows (and_parts (exceeds last row.stamp) (rise (Some row.stamp) rows) up).1 e in
+        let past = none_of day row.stamp rows (and_parts (stamp_exceeds last row.stamp) (rows_rise (Some row.stamp) rows) up).1 e in
         record {
           front = [];
           behind = row ∷ rows;
@@ -121,20 +121,20 @@ first_up_to p row rows all most = by (p row) refl
     by true e = let c = count_yes p row rows e in (e, omega (arith, c, all))
     by false e = let c = count_no p row rows e in absurd (omega (arith, c, all, most))
 
-day_of_last : (day : DayNumber) (last : Option CivilMinute) (rows : List Row) → rise last rows ≡ true → count_by (is_up_to day) rows ≡ length rows →
-    (1 ≤ length (rows_of_day day.0 rows)) ⊎ ((s : CivilMinute) × (last ≡ Some s) × (pos (archive_day_of s) ≡ day.0)) → day_of_stamp (last_after last rows) ≡ day.0
+day_of_last : (day : DayNumber) (last : Option CivilMinute) (rows : List Row) → rows_rise last rows ≡ true → count_by (is_up_to day) rows ≡ length rows →
+    (1 ≤ length (rows_of_day day.0 rows)) ⊎ ((s : CivilMinute) × (last ≡ Some s) × (pos (archive_day_of s) ≡ day.0)) → day_of_stamp (last_stamp_after last rows) ≡ day.0
 day_of_last day last [] up all (inl some) = absurd (omega (arith, some))
 day_of_last day last [] up all (inr known) = ap day_of_stamp known.1 ∙ known.2
 day_of_last day last (row ∷ rows) up all known =
     let f = first_up_to (is_up_to day) row rows all (count_by-le-length (is_up_to day) rows) in
-    day_of_last day (Some row.stamp) rows (and_parts (exceeds last row.stamp) (rise (Some row.stamp) rows) up).1 f.1 (by (int_lt (day_of_row row) day.0) refl f.0 known)
+    day_of_last day (Some row.stamp) rows (and_parts (stamp_exceeds last row.stamp) (rows_rise (Some row.stamp) rows) up).1 f.1 (by (int_lt (day_of_row row) day.0) refl f.0 known)
   where
     a : ℕ
     a = archive_day_of row.stamp
 
     contrary : (s : CivilMinute) → last ≡ Some s → pos (archive_day_of s) ≡ day.0 → int_lt (pos a) day.0 ≡ true → ⊥
     contrary s is same lt =
-        let le = later_day s row.stamp (and_parts (exceeds (Some s) row.stamp) (rise (Some row.stamp) rows) (subst (λ (o : Option CivilMinute). rise o (row ∷ rows) ≡ true) is up)).0 in
+        let le = later_day s row.stamp (and_parts (stamp_exceeds (Some s) row.stamp) (rows_rise (Some row.stamp) rows) (subst (λ (o : Option CivilMinute). rows_rise o (row ∷ rows) ≡ true) is up)).0 in
         let less : int_lt (pos a) (pos (archive_day_of s)) ≡ true = subst (λ (d : ℤ). int_lt (pos a) d ≡ true) (sym same) lt in
         not_less a (archive_day_of s) le less
       where
@@ -148,7 +148,7 @@ day_of_last day last (row ∷ rows) up all known =
     by true eb et (inl some) = inl (subst (λ (n : ℕ). 1 ≤ n) (ap length (skip (is_of_day day.0) row rows (before_not_on a day.0 eb))) some)
     by true eb et (inr known) = absurd (contrary known.0 known.1 known.2 eb)
 
-pub last_day_is : (day : DayNumber) (rows : List Row) → rise None rows ≡ true → count_by (is_up_to day) rows ≡ length rows → 1 ≤ length (rows_of_day day.0 rows) → last_day rows ≡ day.0
+pub last_day_is : (day : DayNumber) (rows : List Row) → rows_rise None rows ≡ true → count_by (is_up_to day) rows ≡ length rows → 1 ≤ length (rows_of_day day.0 rows) → last_day rows ≡ day.0
 last_day_is day rows up all some = day_of_last day None rows up all (inl some)
 
 -- each stamp is later than the one before
@@ -156,11 +156,11 @@ abbrev AreAfter : ℕ → List Row → Type 0
 AreAfter last [] = Unit {0}
 AreAfter last (row ∷ rows) = (last < minute_of row.stamp) × AreAfter (minute_of row.stamp) rows
 
-after_of : (s : CivilMinute) (rows : List Row) → rise (Some s) rows ≡ true → AreAfter (minute_of s) rows
+after_of : (s : CivilMinute) (rows : List Row) → rows_rise (Some s) rows ≡ true → AreAfter (minute_of s) rows
 after_of s [] up = tt
 after_of s (row ∷ rows) up =
-    let above = (and_parts (exceeds (Some s) row.stamp) (rise (Some row.stamp) rows) up).0 in
-    ((let lt : minute_of s < minute_of row.stamp = ltb-true (minute_of s) (minute_of row.stamp) above in lt), after_of row.stamp rows (and_parts (exceeds (Some s) row.stamp) (rise (Some row.stamp) rows) up).1)
+    let above = (and_parts (stamp_exceeds (Some s) row.stamp) (rows_rise (Some row.stamp) rows) up).0 in
+    ((let lt : minute_of s < minute_of row.stamp = ltb-true (minute_of s) (minute_of row.stamp) above in lt), after_of row.stamp rows (and_parts (stamp_exceeds (Some s) row.stamp) (rows_rise (Some row.stamp) rows) up).1)
 
 -- a day has at most 1,440 rows
 day_minutes : ℕ → ℕ → ℕ
@@ -181,7 +181,7 @@ few_of_day last d (row ∷ rows) after = by (int_eq (day_of_row row) (pos d)) re
         omega (arith, f, day, lt, rest)
     by false e rest = let f = ap length (skip (is_of_day (pos d)) row rows e) in let lt = after.0 in omega (arith, f, lt, rest)
 
-few_by : (d : ℤ) (rows : List Row) → rise None rows ≡ true → length (filter (is_of_day d) rows) ≤ 1441
+few_by : (d : ℤ) (rows : List Row) → rows_rise None rows ≡ true → length (filter (is_of_day d) rows) ≤ 1441
 unfolding day_minutes
 few_by (negsuc n) rows up = let none = no_such n rows in omega (arith, none)
   where
@@ -190,12 +190,12 @@ few_by (negsuc n) rows up = let none = no_such n rows in omega (arith, none)
     no_such n (row ∷ rows) = no_such n rows
 few_by (pos d) [] up = omega arith
 few_by (pos d) (row ∷ rows) up =
-    let rest = few_of_day (minute_of row.stamp) d rows (after_of row.stamp rows (and_parts true (rise (Some row.stamp) rows) up).1) in
+    let rest = few_of_day (minute_of row.stamp) d rows (after_of row.stamp rows (and_parts true (rows_rise (Some row.stamp) rows) up).1) in
     most (int_eq (day_of_row row) (pos d)) refl rest
   where
     most : (b : Bool) → int_eq (day_of_row row) (pos d) ≡ b → length (filter (is_of_day (pos d)) rows) ≤ day_minutes (minute_of row.stamp) d → length (filter (is_of_day (pos d)) (row ∷ rows)) ≤ 1441
     most true e rest = let f = ap length (take_it (is_of_day (pos d)) row rows e) in omega (arith, f, rest)
     most false e rest = let f = ap length (skip (is_of_day (pos d)) row rows e) in omega (arith, f, rest)
 
-pub few_of : (day : DayNumber) (rows : List Row) → rise None rows ≡ true → length (rows_of_day day.0 rows) ≤ 1441
+pub few_of : (day : DayNumber) (rows : List Row) → rows_rise None rows ≡ true → length (rows_of_day day.0 rows) ≤ 1441
 few_of day rows up = few_by day.0 rows up

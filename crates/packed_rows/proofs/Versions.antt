@@ -5,7 +5,7 @@ use Rattle.std.specs.Str.{bytes_eq}
 use Rattle.std.proofs.lemmas.Bool.{and_right}
 use Rattle.daily_summary.specs.declared.summary.DaySummary.{DaySummary}
 use Rattle.station_base.specs.declared.row.Row.{Row}
-use Rattle.row_slot.specs.Slot.{row_in}
+use Rattle.row_slot.specs.Slot.{row_in_slot}
 use Rattle.gated_log.specs.Log.{log_of, unmarked}
 use Rattle.gated_log.specs.Log as log
 use Rattle.gated_log.specs.Version.{version_of}
@@ -35,20 +35,20 @@ read_at Second [] i = refl
 read_at v (slot ∷ slots) zero = refl
 read_at v (slot ∷ slots) (suc i) = read_at v slots i
 
-no_row : row_in [] ≡ None
-unfolding row_in
+no_row : row_in_slot [] ≡ None
+unfolding row_in_slot
 no_row = refl
 
 -- a slot that is none of its version has no row
-pub unknown_none : (known : Bool) (slot : List ℕ) → known ≡ false → row_in (cond known slot []) ≡ None
-unknown_none known slot is = ap (λ (b : Bool). row_in (cond b slot [])) is ∙ no_row
+pub unknown_none : (known : Bool) (slot : List ℕ) → known ≡ false → row_in_slot (cond known slot []) ≡ None
+unknown_none known slot is = ap (λ (b : Bool). row_in_slot (cond b slot [])) is ∙ no_row
 
-row_by : (known : Bool) (slot : List ℕ) (row : Row) → row_in (cond known slot []) ≡ Some row → row_in slot ≡ Some row
+row_by : (known : Bool) (slot : List ℕ) (row : Row) → row_in_slot (cond known slot []) ≡ Some row → row_in_slot slot ≡ Some row
 row_by true slot row is = is
 row_by false slot row is = absurd (let e : None ≡ Some row = sym no_row ∙ is in cc e)
 
 -- a row that is read so stands in the slot
-pub row_read : (v : Version) (slot : List ℕ) (row : Row) → row_in (as_read v slot) ≡ Some row → row_in slot ≡ Some row
+pub row_read : (v : Version) (slot : List ℕ) (row : Row) → row_in_slot (as_read v slot) ≡ Some row → row_in_slot slot ≡ Some row
 row_read v slot row is = row_by (is_known v slot) slot row is
 
 summary_by : (known : Bool) (slot : List ℕ) (day : ℤ) (k : ℕ) (s : DaySummary) → unmarked (cond known slot []) ≡ summary_slot day k s → unmarked slot ≡ summary_slot day k s
@@ -69,8 +69,8 @@ unfolding summary_slot
 no_bytes rows shown = refl
 
 -- a slot without bytes fits nowhere
-none_right : (rows : List Row) (shown : ℕ) → is_right rows shown [] (row_in []) ≡ false
+none_right : (rows : List Row) (shown : ℕ) → is_right rows shown [] (row_in_slot []) ≡ false
 none_right rows shown = ap (is_right rows shown []) no_row ∙ and_right (nat_lt 0 (length rows) && nat_lt shown 13) (bytes_eq [] (closing_slot rows shown)) (no_bytes rows shown)
 
-pub unknown_wrong : (known : Bool) (rows : List Row) (shown : ℕ) (slot : List ℕ) → known ≡ false → is_right rows shown (cond known slot []) (row_in (cond known slot [])) ≡ false
-unknown_wrong known rows shown slot is = ap (λ (b : Bool). is_right rows shown (cond b slot []) (row_in (cond b slot []))) is ∙ none_right rows shown
+pub unknown_wrong : (known : Bool) (rows : List Row) (shown : ℕ) (slot : List ℕ) → known ≡ false → is_right rows shown (cond known slot []) (row_in_slot (cond known slot [])) ≡ false
+unknown_wrong known rows shown slot is = ap (λ (b : Bool). is_right rows shown (cond b slot []) (row_in_slot (cond b slot []))) is ∙ none_right rows shown

@@ -8,10 +8,10 @@ use Rattle.byteorder.specs.Endian.{little_bytes}
 use Rattle.station_base.specs.declared.row.Row.{Row}
 use Rattle.station_base.specs.CivilMinute.{CivilMinute, archive_day_of}
 use Rattle.daily_summary.specs.declared.summary.DaySummary.{DaySummary}
-use Rattle.daily_summary.specs.Parts.{part_of}
+use Rattle.daily_summary.specs.Parts.{summary_part}
 use Rattle.daily_summary.specs.Summary.{summary_of, rows_of_day}
 use Rattle.gated_log.specs.Layout.{slot_size}
-use Rattle.packed_rows.specs.Rising.{last_stamp}
+use Rattle.packed_rows.specs.Rising.{last_row_stamp}
 
 -- the archive day of a stamp, in days since 1970-01-01
 abbrev pub day_of_stamp : Option CivilMinute → ℤ
@@ -20,7 +20,7 @@ day_of_stamp (Some stamp) = pos (archive_day_of stamp)
 
 -- the archive day of the last row
 abbrev pub last_day : List Row → ℤ
-last_day rows = day_of_stamp (last_stamp rows)
+last_day rows = day_of_stamp (last_row_stamp rows)
 
 -- the rows of the last row's day
 abbrev pub last_day_rows : List Row → List Row
@@ -31,7 +31,7 @@ last_day_rows rows = rows_of_day (last_day rows) rows
 unfoldable pub summary_slot : ℤ → ℕ → DaySummary → List ℕ
 summary_slot day k s =
     0 ∷ 2 ∷ 0 ∷ 0 ∷ (little_bytes 4 (cast_unsigned w32 day) ++ (k ∷ 0 ∷ 0 ∷ 0 ∷ (little_bytes 4 s.rows ++ (replicate 8 0
-    ++ (part_of k s ++ replicate (slot_size - 156) 0)))))
+    ++ (summary_part k s ++ replicate (slot_size - 156) 0)))))
 
 -- the slot k that closes the day of the last of these rows
 abbrev pub closing_slot : List Row → ℕ → List ℕ
@@ -52,5 +52,5 @@ closings true = 13
 closings false = 0
 
 -- those that stand before a row behind these rows
-abbrev pub closing : List Row → Row → List (List ℕ)
-closing rows row = map (λ k. closing_slot rows k) (range_with_len 0 (closings (begins_day (last_stamp rows) row.stamp)))
+abbrev pub closing_before : List Row → Row → List (List ℕ)
+closing_before rows row = map (λ k. closing_slot rows k) (range_with_len 0 (closings (begins_day (last_row_stamp rows) row.stamp)))

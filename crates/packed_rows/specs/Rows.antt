@@ -4,16 +4,16 @@ use Rattle.std.specs.Prelude.{if◌then◌else◌, List, [], ◌∷◌, ◌++◌
 use Rattle.std.specs.declared.option.Option.{Option}
 use Rattle.std.specs.Str.{bytes_eq}
 use Rattle.station_base.specs.declared.row.Row.{Row}
-use Rattle.row_slot.specs.Slot.{slot_of, row_in, limited_in}
+use Rattle.row_slot.specs.Slot.{slot_of, row_in_slot, limited_in}
 use Rattle.gated_log.specs.Log.{LogOf, log_of, unmarked}
 use Rattle.gated_log.specs.Log as log
 use Rattle.gated_log.specs.Version.{version_of}
 use Rattle.gated_log.specs.declared.version.Version.{Version}
 use Rattle.gated_log.specs.declared.version.Version.TheVariants.{First, Second}
 use Rattle.gated_log.specs.Layout.{slot_size}
-use Rattle.packed_rows.specs.Closing.{closing, closing_slot, closings, begins_day}
+use Rattle.packed_rows.specs.Closing.{closing_before, closing_slot, closings, begins_day}
 use Rattle.packed_rows.specs.Days.{days_of}
-use Rattle.packed_rows.specs.Rising.{exceeds, last_stamp}
+use Rattle.packed_rows.specs.Rising.{stamp_exceeds, last_row_stamp}
 
 -- the rows of a file, or why it has none: it is no archive, or it is damaged at a place
 pub data RowsOf : Type 0 where
@@ -25,7 +25,7 @@ pub data RowsOf : Type 0 where
 -- are thirteen, else none.
 abbrev pub may_follow : List Row → ℕ → Row → Bool
 may_follow rows shown row =
-    exceeds (last_stamp rows) row.stamp && (shown == closings (begins_day (last_stamp rows) row.stamp))
+    stamp_exceeds (last_row_stamp rows) row.stamp && (shown == closings (begins_day (last_row_stamp rows) row.stamp))
 
 -- the slot is the next of the thirteen that close the last row's day; gate and batch word are not tested
 abbrev pub is_closing : List Row → ℕ → List ℕ → Bool
@@ -38,9 +38,9 @@ is_right rows shown slot (Some row) = may_follow rows shown row
 is_right rows shown slot None = is_closing rows shown slot
 
 -- the rows then
-abbrev pub rows_with : List Row → Option Row → List Row
-rows_with rows (Some row) = rows ++ row ∷ []
-rows_with rows None = rows
+abbrev pub rows_with_row : List Row → Option Row → List Row
+rows_with_row rows (Some row) = rows ++ row ∷ []
+rows_with_row rows None = rows
 
 -- how many summary slots stand behind the last row then
 abbrev pub shown_with : ℕ → Option Row → ℕ
@@ -48,20 +48,20 @@ shown_with shown (Some row) = 0
 shown_with shown None = shown + 1
 
 -- what is behind a slot that is right; else slot n is damaged
-abbrev pub judged : Bool → ℕ → RowsOf → RowsOf
-judged true n more = more
-judged false n more = damaged (slot_size * (n + 1))
+abbrev pub slot_judged : Bool → ℕ → RowsOf → RowsOf
+slot_judged true n more = more
+slot_judged false n more = damaged (slot_size * (n + 1))
 
 -- at the end, at slot n, no summary slots may stand open
-abbrev pub ended : List Row → ℕ → ℕ → RowsOf
-ended rows shown n = judged (shown == 0) n (holds rows)
+abbrev pub rows_ended : List Row → ℕ → ℕ → RowsOf
+rows_ended rows shown n = slot_judged (shown == 0) n (holds rows)
 
 -- the rows of slots, each judged by the rows and the summary slots that stand before it; the first of them has number n
 abbrev pub rows_from : List Row → ℕ → ℕ → List (List ℕ) → RowsOf
-rows_from rows shown n [] = ended rows shown n
+rows_from rows shown n [] = rows_ended rows shown n
 rows_from rows shown n (slot ∷ slots) =
-    judged (is_right rows shown slot (row_in slot)) n
-    (rows_from (rows_with rows (row_in slot)) (shown_with shown (row_in slot)) (n + 1) slots)
+    slot_judged (is_right rows shown slot (row_in_slot slot)) n
+    (rows_from (rows_with_row rows (row_in_slot slot)) (shown_with shown (row_in_slot slot)) (n + 1) slots)
 
 -- a slot of the first version names no field that limits made missing: its last eight bytes are 0
 abbrev pub is_known : Version → List ℕ → Bool
@@ -85,7 +85,7 @@ rows_of image = rows_of_log (version_of image) (log_of image)
 -- the slots in which rows are stored behind others: before the first row of a later day those that close the day before
 abbrev pub slots_after : List Row → List Row → List (List ℕ)
 slots_after before [] = []
-slots_after before (row ∷ rows) = closing before row ++ slot_of row ∷ slots_after (before ++ row ∷ []) rows
+slots_after before (row ∷ rows) = closing_before before row ++ slot_of row ∷ slots_after (before ++ row ∷ []) rows
 
 -- the slots in which rows are stored
 abbrev pub slots_of : List Row → List (List ℕ)

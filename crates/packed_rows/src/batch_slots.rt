@@ -6,9 +6,9 @@ ghost use Rattle.station_base.specs.RowLine.{IsPrintable};
 ghost use Rattle.station_base.specs.declared.row.Row.{Row};
 ghost use Rattle.gated_log.specs.Layout.{slot_size};
 ghost use Rattle.packed_rows.specs.Adding.{ArePrintable, AreLimited};
-ghost use Rattle.packed_rows.specs.Closing.{closing};
+ghost use Rattle.packed_rows.specs.Closing.{closing_before};
 ghost use Rattle.packed_rows.specs.Packed.{joined_slots, IsReadBack, AreReadBack};
-ghost use Rattle.packed_rows.specs.Rising.{rise};
+ghost use Rattle.packed_rows.specs.Rising.{rows_rise};
 ghost use Rattle.packed_rows.specs.Rows.{slots_after};
 ghost use Rattle.packed_rows.specs.Tail.{EndsRows};
 
@@ -28,8 +28,9 @@ pub fn pack(tail: &Tail, rows: &[Row]) -> ArrayVec<u8, LONGEST_BATCH>
     requires few { length rows.now ≤ 5 }
     requires printable { ArePrintable rows.now }
     requires limited { AreLimited rows.now }
-    requires rising { rise tail.now.last rows.now ≡ true }
-    ensures slots { (before : List Row) → EndsRows tail.now before → result.items ≡ joined_slots (slots_after before rows.now) }
+    requires rising { rows_rise tail.now.last rows.now ≡ true }
+    ensures slots { (before : List Row) → EndsRows tail.now before
+        → result.items ≡ joined_slots (slots_after before rows.now) }
     ensures read_back { AreReadBack rows.now }
 {
     let mut slots = ArrayVec::new();
@@ -47,7 +48,7 @@ fn push_row(slots: &mut ArrayVec<u8, LONGEST_BATCH>, tail: &Tail, row: &Row)
     requires printable { All IsPrintable row.now.values }
     requires limited { AreMissing row.now.limited row.now.values }
     ensures slots { (before : List Row) → EndsRows tail.now before
-        → slots.new.items ≡ slots.old.items ++ joined_slots (closing before row.now ++ slot_of row.now ∷ []) }
+        → slots.new.items ≡ slots.old.items ++ joined_slots (closing_before before row.now ++ slot_of row.now ∷ []) }
     ensures length { array_vec_len slots.new ≤ array_vec_len slots.old + 14 * slot_size }
     ensures read_back { IsReadBack row.now }
 {

@@ -7,7 +7,7 @@ ghost use Rattle.daily_summary.specs.Bounds.{IsInBounds};
 ghost use Rattle.daily_summary.specs.Summary.{summary_of};
 ghost use Rattle.packed_rows.specs.Closing.{begins_day, closings, closing_slot, last_day, summary_slot};
 ghost use Rattle.packed_rows.specs.Packed.{IsReadBack};
-ghost use Rattle.packed_rows.specs.Rising.{exceeds, last_stamp};
+ghost use Rattle.packed_rows.specs.Rising.{stamp_exceeds, last_row_stamp};
 ghost use Rattle.packed_rows.specs.Rows.{may_follow, is_closing, is_known, as_read};
 ghost use Rattle.gated_log.specs.Log.{unmarked};
 ghost use Rattle.packed_rows.specs.Into.{minutes_into};
@@ -90,7 +90,7 @@ impl Tail {
 
     /// One row more.
     pub fn push(&mut self, row: &Row)
-        requires rises { exceeds self.old.last row.now.stamp ≡ true }
+        requires rises { stamp_exceeds self.old.last row.now.stamp ≡ true }
         requires printable { All IsPrintable row.now.values }
         ensures ends { (rows : List Row) → EndsRows self.old rows → EndsRows self.new (rows ++ row.now ∷ []) }
         ensures last { self.new.last ≡ Some row.now.stamp }
@@ -147,7 +147,8 @@ impl Tail {
         slot: &[u8; SLOT_SIZE],
         row: &mut Row,
     ) -> Judged
-        ensures judges { (rows : List Row) → EndsRows self.now rows → Judges result row.new rows shown (as_read version slot.now) }
+        ensures judges { (rows : List Row) → EndsRows self.now rows
+            → Judges result row.new rows shown (as_read version slot.now) }
         ensures printable { OnRowJudged result (All IsPrintable row.new.values) }
         ensures back { OnRowJudged result (IsReadBack row.new) }
     {

@@ -8,7 +8,7 @@ use Rattle.weather_book.specs.declared.book.Book.{Book}
 use Rattle.weather_book.proofs.Standing.{to_read_stays}
 use Rattle.query_service.specs.Answers.{answer_to}
 use Rattle.query_service.specs.Lines.{lines_after, rest_after}
-use Rattle.query_service.specs.Turns.{AnswersLines, AreAnswers, BreaksOff, IsBegun, ServesFrom}
+use Rattle.query_service.specs.Turns.{AnswersLines, AreAnswers, AnsweringBreaksOff, AnswerIsBegun, ServesFrom}
 use Rattle.query_service.specs.declared.service.QueryEnd.{QueryEnd}
 use Rattle.query_service.specs.declared.service.QueryEnd.TheVariants.{Done, LinkFault, DiskFault, OutOfMemory}
 use Rattle.query_service.proofs.HeardLines.{lines_join, rest_join}
@@ -25,7 +25,7 @@ answers_join rows (line ∷ lines) more bytes later one two = (
 )
 
 breaks_join : (rows : List Row) (lines more : List (List ℕ)) (bytes later : List ℕ) (a b c : ℕ) → AnswersLines Done rows lines bytes a b
-    → BreaksOff rows more later b c → BreaksOff rows (lines ++ more) (bytes ++ later) a c
+    → AnsweringBreaksOff rows more later b c → AnsweringBreaksOff rows (lines ++ more) (bytes ++ later) a c
 breaks_join rows lines more bytes later a b c one two = record {
   met = lines ++ two.met;
   ahead = two.ahead;
@@ -47,12 +47,12 @@ lines_answered LinkFault rows lines more bytes later a b c one two = breaks_join
 lines_answered DiskFault rows lines more bytes later a b c one two = breaks_join rows lines more bytes later a b c one two
 lines_answered OutOfMemory rows lines more bytes later a b c one two = breaks_join rows lines more bytes later a b c one two
 
-begun_more : (rows : List Row) (ahead more : List (List ℕ)) (part : List ℕ) → IsBegun rows ahead part → IsBegun rows (ahead ++ more) part
+begun_more : (rows : List Row) (ahead more : List (List ℕ)) (part : List ℕ) → AnswerIsBegun rows ahead part → AnswerIsBegun rows (ahead ++ more) part
 begun_more rows [] [] part begun = begun
 begun_more rows [] (line ∷ more) part begun = inl begun
 begun_more rows (line ∷ ahead) more part begun = begun
 
-breaks_more : (rows : List Row) (lines more : List (List ℕ)) (bytes : List ℕ) (a b : ℕ) → BreaksOff rows lines bytes a b → BreaksOff rows (lines ++ more) bytes a b
+breaks_more : (rows : List Row) (lines more : List (List ℕ)) (bytes : List ℕ) (a b : ℕ) → AnsweringBreaksOff rows lines bytes a b → AnsweringBreaksOff rows (lines ++ more) bytes a b
 breaks_more rows lines more bytes a b one = record {
   met = one.met;
   ahead = one.ahead ++ more;
@@ -73,7 +73,7 @@ lines_cut LinkFault rows lines more bytes a b broke one = breaks_more rows lines
 lines_cut DiskFault rows lines more bytes a b broke one = breaks_more rows lines more bytes a b one
 lines_cut OutOfMemory rows lines more bytes a b broke one = breaks_more rows lines more bytes a b one
 
-broken_none : (rows : List Row) (n : ℕ) → BreaksOff rows [] [] n n
+broken_none : (rows : List Row) (n : ℕ) → AnsweringBreaksOff rows [] [] n n
 broken_none rows n = record {
   met = [];
   ahead = [];

@@ -1,7 +1,7 @@
 -- The lines of bytes that are heard one behind another.
 use Rattle.std.proofs.Common.{ℕ, ◌≡◌, ◌<◌, ◌≤◌, ◌==◌, Bool, true, false, List, [], ◌∷◌, ◌++◌, cond, length, take, refl, sym, ap, subst, ◌∙◌, arith}
 use Rattle.std.proofs.lemmas.List.{length-append, length-take, length-take-le, take_all, take-append-le}
-use Rattle.query_service.specs.Asked.{Asks, Means}
+use Rattle.query_service.specs.Asked.{LineAsks, Means}
 use Rattle.query_service.specs.Lines.{lines_after, rest_after}
 use Rattle.query_service.specs.declared.request.Request.{Request}
 
@@ -41,7 +41,7 @@ line_goes_on begun b apart =
     (ap (λ (t : Bool). cond t (begun ∷ []) []) goes_on, ap (λ (t : Bool). cond t [] (begun ++ b ∷ [])) goes_on)
 
 -- what is held of a line asks for what the line asks for
-pub asks_held : (line : List ℕ) (request : Request) → Asks (take 65 line) request → Asks line request
+pub asks_held : (line : List ℕ) (request : Request) → LineAsks (take 65 line) request → LineAsks line request
 asks_held line request asks = record {
   long = λ more. asks.long (omega (arith, length-take-le 65 line (omega (arith, more))));
   short = λ few.

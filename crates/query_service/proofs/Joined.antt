@@ -14,13 +14,13 @@ use Rattle.packed_rows.specs.Rows.{slot_total}
 use Rattle.weather_book.specs.declared.book.Book.{Book}
 use Rattle.weather_book.proofs.Looks.{no_look}
 use Rattle.weather_book.proofs.Pieces.{more_reads}
-use Rattle.query_service.specs.Service.{IsDoneWithoutFault, Serves}
+use Rattle.query_service.specs.Service.{IsDoneWithoutFault, ServesQueries}
 use Rattle.query_service.specs.declared.service.QueryEnd.{QueryEnd}
 use Rattle.query_service.specs.declared.service.QueryEnd.TheVariants.{Done, LinkFault, DiskFault, OutOfMemory}
 
 module _ {L D : Type 0} (traffic : Traffic L) (medium : Medium D) (book : Book) where
   -- no call
-  pub serves_none : (Part : List TalkItem → Type 0) (link : L) (disk : D) → Part [] → Serves traffic medium book Done Part link link disk disk
+  pub serves_none : (Part : List TalkItem → Type 0) (link : L) (disk : D) → Part [] → ServesQueries traffic medium book Done Part link link disk disk
   serves_none Part link disk part = record {
     talk = record {
       talk = ([], part, adds_none traffic link);
@@ -34,8 +34,8 @@ module _ {L D : Type 0} (traffic : Traffic L) (medium : Medium D) (book : Book) 
   }
 
   -- a call that went well, and then another
-  pub serves_joins : (end : QueryEnd) (P Q R : List TalkItem → Type 0) (l m n : L) (d e f : D) → Serves traffic medium book Done P l m d e
-      → Serves traffic medium book end Q m n e f → ((s t : List TalkItem) → P s → Q t → R (s ++ t)) → Serves traffic medium book end R l n d f
+  pub serves_joins : (end : QueryEnd) (P Q R : List TalkItem → Type 0) (l m n : L) (d e f : D) → ServesQueries traffic medium book Done P l m d e
+      → ServesQueries traffic medium book end Q m n e f → ((s t : List TalkItem) → P s → Q t → R (s ++ t)) → ServesQueries traffic medium book end R l n d f
   serves_joins end P Q R l m n d e f one two parts = record {
     talk = talks_then R one.talk two.talk parts;
     still = record {
@@ -59,8 +59,8 @@ module _ {L D : Type 0} (traffic : Traffic L) (medium : Medium D) (book : Book) 
   }
 
   -- the same talk said otherwise
-  pub serves_as : (end : QueryEnd) (P R : List TalkItem → Type 0) (l m : L) (d e : D) → Serves traffic medium book end P l m d e
-      → ((t : List TalkItem) → P t → R t) → Serves traffic medium book end R l m d e
+  pub serves_as : (end : QueryEnd) (P R : List TalkItem → Type 0) (l m : L) (d e : D) → ServesQueries traffic medium book end P l m d e
+      → ((t : List TalkItem) → P t → R t) → ServesQueries traffic medium book end R l m d e
   serves_as end P R l m d e one part = record {
     talk = talks_as R one.talk (λ is. is) (λ is. is) part;
     still = one.still;
@@ -70,7 +70,7 @@ module _ {L D : Type 0} (traffic : Traffic L) (medium : Medium D) (book : Book) 
   }
 
   -- where no count rose all turns were taken
-  pub done_without_fault : (end : QueryEnd) (P : List TalkItem → Type 0) (l m : L) (d e : D) → Serves traffic medium book end P l m d e
+  pub done_without_fault : (end : QueryEnd) (P : List TalkItem → Type 0) (l m : L) (d e : D) → ServesQueries traffic medium book end P l m d e
       → IsDoneWithoutFault traffic medium end l m d e
   done_without_fault Done P l m d e one link short disk = refl
   done_without_fault LinkFault P l m d e one link short disk = absurd (link (one.talk.fault.rose refl))

@@ -19,7 +19,7 @@ use Rattle.query_service.specs.declared.link_sink.Refusal.TheVariants.{LinkFault
 use Rattle.query_service.specs.declared.link_sink.LinkSink.{LinkSink}
 use Rattle.query_service.specs.Refused.{Refuses, refused}
 use Rattle.query_service.specs.SaidOver.{saying_outlet, says_none}
-use Rattle.query_service.specs.Talk.{OnlySays, said_joins}
+use Rattle.query_service.specs.Talk.{TalkOnlySays, said_joins}
 
 message_bytes : (bytes : List ℕ) → said (message bytes) ≡ bytes
 message_bytes [] = refl
@@ -31,7 +31,7 @@ message_heard [] = refl
 message_heard (b ∷ []) = refl
 message_heard (b ∷ c ∷ bytes) = message_heard (c ∷ bytes)
 
-message_only : (bytes : List ℕ) → OnlySays (message bytes)
+message_only : (bytes : List ℕ) → TalkOnlySays (message bytes)
 message_only bytes = (message_heard bytes, message_waits bytes)
 
 none_before : (xs ys : List ℕ) → xs ++ ys ≡ [] → xs ≡ []
@@ -39,7 +39,7 @@ none_before [] ys e = refl
 none_before (x ∷ xs) ys e = absurd cc
 
 -- a front of a message is only said
-front_only : (t rest : List TalkItem) (bytes : List ℕ) → t ++ rest ≡ message bytes → OnlySays t
+front_only : (t rest : List TalkItem) (bytes : List ℕ) → t ++ rest ≡ message bytes → TalkOnlySays t
 front_only t rest bytes whole = (
   none_before (heard t) (heard rest) (sym (heard-append t rest) ∙ (ap heard whole ∙ message_heard bytes)),
   omega (arith, count_quiets-append t rest, ap count_quiets whole, message_waits bytes),
@@ -75,7 +75,7 @@ module _ {L : Type 0} (traffic : Traffic L) (old new : LinkSink L) (bytes : List
         same = same;
         talk = speaks.talk.0;
         said_is = ap said speaks.talk.1 ∙ message_bytes bytes;
-        only = subst OnlySays (sym speaks.talk.1) (message_only bytes);
+        only = subst TalkOnlySays (sym speaks.talk.1) (message_only bytes);
         adds = speaks.talk.2;
         refuses = refuses_by _ _ None _ _ _ _ free (is ∙ free) (
           speaks.still.faults (λ e. absurd (let bad : sent.Done ≡ sent.Failed = e in cc)),

@@ -7,12 +7,12 @@ use Rattle.weather_book.specs.declared.book.Book.{Book}
 use Rattle.weather_reports.specs.declared.end.ReportEnd.{ReportEnd}
 use Rattle.weather_reports.specs.declared.end.ReportEnd.TheVariants as report
 use Rattle.query_service.specs.Answers.{answer_to}
-use Rattle.query_service.specs.Asked.{Asks}
+use Rattle.query_service.specs.Asked.{LineAsks}
 use Rattle.query_service.specs.Ends.{query_end}
 use Rattle.query_service.specs.Refused.{Refuses, refused}
-use Rattle.query_service.specs.Said.{Replies}
+use Rattle.query_service.specs.Said.{BookReplies}
 use Rattle.query_service.specs.SaidOver.{saying_outlet}
-use Rattle.query_service.specs.Service.{Serves}
+use Rattle.query_service.specs.Service.{ServesQueries}
 use Rattle.query_service.specs.Turns.{AnswersLine, IsAnswer}
 use Rattle.query_service.specs.declared.link_sink.LinkSink.{LinkSink}
 use Rattle.query_service.specs.declared.link_sink.Refusal.{Refusal}
@@ -24,7 +24,7 @@ use Rattle.query_service.specs.declared.service.QueryEnd.TheVariants.{Done, Link
 none_refused : (r : Refusal) (count : ℕ) → refused (Some r) ≡ count → count ≡ 0 → ⊥
 none_refused r count is none = omega (arith, is, none)
 
-module _ {L D : Type 0} (traffic : Traffic L) (medium : Medium D) (book : Book) (line : List ℕ) (request : Request) (asks : Asks line request)
+module _ {L D : Type 0} (traffic : Traffic L) (medium : Medium D) (book : Book) (line : List ℕ) (request : Request) (asks : LineAsks line request)
     (disk disk' : D) (old new : LinkSink L) (free : old.refusal ≡ None) where
   -- what became of the link's counts
   counts : (why : Option Refusal) → new.refusal ≡ why
@@ -36,8 +36,8 @@ module _ {L D : Type 0} (traffic : Traffic L) (medium : Medium D) (book : Book) 
       subst (λ (n : Option Refusal). F None n) is (subst (λ (o : Option Refusal). F o new.refusal) free refuses)
 
   answered_by : (end : ReportEnd) (why : Option Refusal) → new.refusal ≡ why
-      → Replies (saying_outlet traffic) medium book (λ rows. answer_to rows request) end disk disk' old new
-      → Serves traffic medium book (query_end end why) (AnswersLine medium book disk (query_end end why) line) old.link.now new.link.now disk disk'
+      → BookReplies (saying_outlet traffic) medium book (λ rows. answer_to rows request) end disk disk' old new
+      → ServesQueries traffic medium book (query_end end why) (AnswersLine medium book disk (query_end end why) line) old.link.now new.link.now disk disk'
   answered_by report.Done None is by =
       let over = by.wrote.1 in let r = counts None is over.refuses in
       record {
@@ -127,6 +127,6 @@ module _ {L D : Type 0} (traffic : Traffic L) (medium : Medium D) (book : Book) 
       }
 
   -- the answer to a line, through a sink over the link that had refused nothing
-  pub answered : (end : ReportEnd) → Replies (saying_outlet traffic) medium book (λ rows. answer_to rows request) end disk disk' old new
-      → Serves traffic medium book (query_end end new.refusal) (AnswersLine medium book disk (query_end end new.refusal) line) old.link.now new.link.now disk disk'
+  pub answered : (end : ReportEnd) → BookReplies (saying_outlet traffic) medium book (λ rows. answer_to rows request) end disk disk' old new
+      → ServesQueries traffic medium book (query_end end new.refusal) (AnswersLine medium book disk (query_end end new.refusal) line) old.link.now new.link.now disk disk'
   answered end by = answered_by end new.refusal refl by

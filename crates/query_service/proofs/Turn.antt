@@ -20,11 +20,11 @@ use Rattle.packed_rows.specs.Rows.{slot_total}
 use Rattle.weather_book.specs.declared.book.Book.{Book}
 use Rattle.weather_book.proofs.Looks.{no_look}
 use Rattle.query_service.specs.Answers.{answer_to}
-use Rattle.query_service.specs.Asked.{Asks}
+use Rattle.query_service.specs.Asked.{LineAsks}
 use Rattle.query_service.specs.Lines.{lines_after}
-use Rattle.query_service.specs.Service.{Serves}
+use Rattle.query_service.specs.Service.{ServesQueries}
 use Rattle.query_service.specs.Talk.{count_met, only_joins, only_none, said_joins}
-use Rattle.query_service.specs.Turns.{AnswersBytes, AnswersLine, AnswersLines, AnswersTurns, BreaksOff, IsAnswer, ServesFrom, TakesTurns}
+use Rattle.query_service.specs.Turns.{AnswersBytes, AnswersLine, AnswersLines, AnswersTurns, AnsweringBreaksOff, IsAnswer, ServesFrom, TakesTurns}
 use Rattle.query_service.specs.declared.service.QueryEnd.{QueryEnd}
 use Rattle.query_service.specs.declared.service.QueryEnd.TheVariants.{Done, LinkFault, DiskFault, OutOfMemory}
 use Rattle.query_service.proofs.Answered.{from_cut, from_joins, from_none, no_lines}
@@ -48,7 +48,7 @@ answer_front DiskFault answer bytes broke is = is
 answer_front OutOfMemory answer bytes broke is = is
 
 -- what broke off, by the end
-broken_by : (end : QueryEnd) (rows : List Row) (lines : List (List ℕ)) (bytes : List ℕ) (a b : ℕ) → end ≢ Done → BreaksOff rows lines bytes a b
+broken_by : (end : QueryEnd) (rows : List Row) (lines : List (List ℕ)) (bytes : List ℕ) (a b : ℕ) → end ≢ Done → AnsweringBreaksOff rows lines bytes a b
     → AnswersLines end rows lines bytes a b
 broken_by Done rows lines bytes a b broke is = absurd (broke refl)
 broken_by LinkFault rows lines bytes a b broke is = is
@@ -81,7 +81,7 @@ module _ {D : Type 0} (medium : Medium D) (book : Book) where
     only = one.only;
     answers = λ begun held rows stands x told.
         let feed = line_ends begun b ends in let answer = one.answers rows stands x told in
-        let asks = asks_held begun answer.0 (subst (λ (l : List ℕ). Asks l answer.0) held answer.1) in
+        let asks = asks_held begun answer.0 (subst (λ (l : List ℕ). LineAsks l answer.0) held answer.1) in
         record {
           answers = subst (λ (lines : List (List ℕ)). AnswersLines Done rows lines (said t) n m) (sym feed.0)
               ((answer.0, [], asks, answer.2 ∙ sym (append-nil (answer_to rows answer.0)), refl), counted);
@@ -96,7 +96,7 @@ module _ {D : Type 0} (medium : Medium D) (book : Book) where
     only = one.only;
     answers = λ begun held rows stands x told.
         let feed = line_ends begun b ends in let answer = one.answers rows stands x told in
-        let asks = asks_held begun answer.0 (subst (λ (l : List ℕ). Asks l answer.0) held answer.1) in
+        let asks = asks_held begun answer.0 (subst (λ (l : List ℕ). LineAsks l answer.0) held answer.1) in
         record {
           answers = subst (λ (lines : List (List ℕ)). AnswersLines end rows lines (said t) n n) (sym feed.0)
               (broken_by end rows (begun ∷ []) (said t) n n broke (record {
@@ -196,7 +196,7 @@ module _ {D : Type 0} (medium : Medium D) (book : Book) where
 
 -- bytes were heard
 pub hears_serves : {L D : Type 0} (traffic : Traffic L) (medium : Medium D) (book : Book) (link link' : L) (disk : D) (n : ℕ) (buf : List ℕ)
-    → Hears traffic link (recv.Got n) buf link' → Serves traffic medium book Done (λ t. t ≡ map Heard (take n buf)) link link' disk disk
+    → Hears traffic link (recv.Got n) buf link' → ServesQueries traffic medium book Done (λ t. t ≡ map Heard (take n buf)) link link' disk disk
 hears_serves traffic medium book link link' disk n buf hears = record {
   talk = record {
     talk = (map Heard (take n buf), refl, hears.talk);
@@ -215,7 +215,7 @@ hears_serves traffic medium book link link' disk n buf hears = record {
 
 -- a wait passed
 pub quiet_serves : {L D : Type 0} (traffic : Traffic L) (medium : Medium D) (book : Book) (link link' : L) (disk : D) (buf : List ℕ)
-    → Hears traffic link recv.Quiet buf link' → Serves traffic medium book Done (λ t. t ≡ Quiet ∷ []) link link' disk disk
+    → Hears traffic link recv.Quiet buf link' → ServesQueries traffic medium book Done (λ t. t ≡ Quiet ∷ []) link link' disk disk
 quiet_serves traffic medium book link link' disk buf hears = record {
   talk = record {
     talk = (Quiet ∷ [], refl, hears.talk);
@@ -234,7 +234,7 @@ quiet_serves traffic medium book link link' disk buf hears = record {
 
 -- the link failed
 pub failed_serves : {L D : Type 0} (traffic : Traffic L) (medium : Medium D) (book : Book) (link link' : L) (disk : D) (buf : List ℕ)
-    → Hears traffic link recv.Failed buf link' → Serves traffic medium book LinkFault (λ t. t ≡ []) link link' disk disk
+    → Hears traffic link recv.Failed buf link' → ServesQueries traffic medium book LinkFault (λ t. t ≡ []) link link' disk disk
 failed_serves traffic medium book link link' disk buf hears = record {
   talk = record {
     talk = ([], refl, hears.talk);
@@ -253,7 +253,7 @@ failed_serves traffic medium book link link' disk buf hears = record {
 
 -- it found no memory
 pub short_serves : {L D : Type 0} (traffic : Traffic L) (medium : Medium D) (book : Book) (link link' : L) (disk : D) (buf : List ℕ)
-    → Hears traffic link recv.OutOfMemory buf link' → Serves traffic medium book OutOfMemory (λ t. t ≡ []) link link' disk disk
+    → Hears traffic link recv.OutOfMemory buf link' → ServesQueries traffic medium book OutOfMemory (λ t. t ≡ []) link link' disk disk
 short_serves traffic medium book link link' disk buf hears = record {
   talk = record {
     talk = ([], refl, hears.talk);
@@ -278,27 +278,27 @@ bytes_whole bytes n below =
 module _ {L D : Type 0} (traffic : Traffic L) (medium : Medium D) (book : Book) where
   -- bytes were taken, and then others
   pub bytes_serve : (end : QueryEnd) (x y before now after : List ℕ) (a b c : ℕ) (l m n : L) (d e f : D)
-      → Serves traffic medium book Done (AnswersBytes medium book d Done x before now a b) l m d e
-      → Serves traffic medium book end (AnswersBytes medium book e end y now after b c) m n e f
-      → Serves traffic medium book end (AnswersBytes medium book d end (x ++ y) before after a c) l n d f
+      → ServesQueries traffic medium book Done (AnswersBytes medium book d Done x before now a b) l m d e
+      → ServesQueries traffic medium book end (AnswersBytes medium book e end y now after b c) m n e f
+      → ServesQueries traffic medium book end (AnswersBytes medium book d end (x ++ y) before after a c) l n d f
   bytes_serve end x y before now after a b c l m n d e f one two =
       serves_joins traffic medium book end _ _ _ l m n d e f one two
       (λ s t first second. bytes_join medium book d e end x y before now after a b c s t one.stays first second)
 
   -- the same where the service broke off before the last bytes
   pub bytes_serve_cut : (end : QueryEnd) (x y z before now after : List ℕ) (a b c : ℕ) (l m n : L) (d e f : D) → end ≢ Done
-      → Serves traffic medium book Done (AnswersBytes medium book d Done x before now a b) l m d e
-      → Serves traffic medium book end (AnswersBytes medium book e end y now after b c) m n e f
-      → Serves traffic medium book end (AnswersBytes medium book d end ((x ++ y) ++ z) before after a c) l n d f
+      → ServesQueries traffic medium book Done (AnswersBytes medium book d Done x before now a b) l m d e
+      → ServesQueries traffic medium book end (AnswersBytes medium book e end y now after b c) m n e f
+      → ServesQueries traffic medium book end (AnswersBytes medium book d end ((x ++ y) ++ z) before after a c) l n d f
   bytes_serve_cut end x y z before now after a b c l m n d e f broke one two =
       serves_as traffic medium book end _ _ l n d f (bytes_serve end x y before now after a b c l m n d e f one two)
       (λ t part. bytes_cut medium book d end (x ++ y) z before after a c t broke part)
 
   -- bytes were heard, and taken
   pub turn_serve : (end : QueryEnd) (bytes before after : List ℕ) (a b : ℕ) (l m n : L) (d e : D) → 1 ≤ length bytes → length bytes ≤ 256
-      → Serves traffic medium book Done (λ t. t ≡ map Heard bytes) l m d d
-      → Serves traffic medium book end (AnswersBytes medium book d end bytes before after a b) m n d e
-      → Serves traffic medium book end (TakesTurns medium book d end 1 before after a b) l n d e
+      → ServesQueries traffic medium book Done (λ t. t ≡ map Heard bytes) l m d d
+      → ServesQueries traffic medium book end (AnswersBytes medium book d end bytes before after a b) m n d e
+      → ServesQueries traffic medium book end (TakesTurns medium book d end 1 before after a b) l n d e
   turn_serve end bytes before after a b l m n d e some few one two =
       serves_joins traffic medium book end _ _ _ l m n d d e one two
       (λ s t first second. turn_got medium book d end bytes before after a b s t first some few second)
@@ -306,9 +306,9 @@ module _ {L D : Type 0} (traffic : Traffic L) (medium : Medium D) (book : Book) 
   -- turns were taken, and then one more
   pub turns_serve : (end : QueryEnd) (turns all : ℕ) (before now after : List ℕ) (a b c : ℕ) (l m n : L) (d e f : D)
       → turns + 1 ≤ all → (end ≡ Done → all ≡ turns + 1)
-      → Serves traffic medium book Done (TakesTurns medium book d Done turns before now a b) l m d e
-      → Serves traffic medium book end (TakesTurns medium book e end 1 now after b c) m n e f
-      → Serves traffic medium book end (TakesTurns medium book d end all before after a c) l n d f
+      → ServesQueries traffic medium book Done (TakesTurns medium book d Done turns before now a b) l m d e
+      → ServesQueries traffic medium book end (TakesTurns medium book e end 1 now after b c) m n e f
+      → ServesQueries traffic medium book end (TakesTurns medium book d end all before after a c) l n d f
   turns_serve end turns all before now after a b c l m n d e f within whole one two =
       serves_joins traffic medium book end _ _ _ l m n d e f one two
       (λ s t first second. turns_join medium book d e end turns all before now after a b c s t one.stays within whole first second)

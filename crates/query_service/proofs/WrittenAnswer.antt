@@ -10,29 +10,29 @@ use Rattle.station_base.specs.RowLine.{row_line}
 use Rattle.station_base.specs.declared.row.Row.{Row}
 use Rattle.station_io.specs.Sink.{Outlet}
 use Rattle.gated_log.specs.Layout.{slot_size}
-use Rattle.weather_book.specs.Book.{StandsFor}
+use Rattle.weather_book.specs.Book.{BookStandsFor}
 use Rattle.packed_rows.specs.Rows.{slot_total}
 use Rattle.weather_book.specs.declared.book.Book.{Book}
 use Rattle.weather_book.proofs.Looks.{no_look}
 use Rattle.weather_reports.specs.Report.{later_lines}
-use Rattle.weather_reports.specs.Reported.{IsReport, ReadsOver, text_of}
+use Rattle.weather_reports.specs.Reported.{IsReport, ReadsOver, text_of_lines}
 use Rattle.weather_reports.specs.Wrote.{Wrote}
 use Rattle.weather_reports.specs.declared.end.ReportEnd.{ReportEnd}
 use Rattle.weather_reports.specs.declared.end.ReportEnd.TheVariants.{Done, DiskFault, WriteFault}
 use Rattle.weather_reports.proofs.Behind.{wrote_as, wrote_more}
 use Rattle.weather_reports.proofs.Lines.{text_join}
-use Rattle.query_service.specs.Answers.{last_line}
-use Rattle.query_service.specs.Said.{IsReply, Replies, Says}
+use Rattle.query_service.specs.Answers.{last_row_line}
+use Rattle.query_service.specs.Said.{IsReply, BookReplies, QuerySays}
 
 -- the text of some lines in front is a front of the text of all
-front_text : (front lines : List (List ℕ)) → IsFrontOf front lines → IsFrontOf (text_of front) (text_of lines)
-front_text front lines some = (text_of some.0, sym (text_join front some.0) ∙ ap text_of some.1)
+front_text : (front lines : List (List ℕ)) → IsFrontOf front lines → IsFrontOf (text_of_lines front) (text_of_lines lines)
+front_text front lines some = (text_of_lines some.0, sym (text_join front some.0) ∙ ap text_of_lines some.1)
 
 -- what a report writes of its lines
-pub report_reply : (end : ReportEnd) (lines : List (List ℕ)) (written : List ℕ) → IsReport lines end written → IsReply (text_of lines) end written
+pub report_reply : (end : ReportEnd) (lines : List (List ℕ)) (written : List ℕ) → IsReport lines end written → IsReply (text_of_lines lines) end written
 report_reply Done lines written is = is
 report_reply DiskFault lines written is =
-    subst (λ (w : List ℕ). IsFrontOf w (text_of lines)) (sym is.2) (front_text is.0 lines is.1)
+    subst (λ (w : List ℕ). IsFrontOf w (text_of_lines lines)) (sym is.2) (front_text is.0 lines is.1)
 report_reply WriteFault lines written is =
     (is.left, ap (λ (w : List ℕ). w ++ is.left) is.leaves.appended ∙ is.leaves.whole)
 
@@ -51,17 +51,17 @@ reply_behind DiskFault text tail written is = (is.0, append_assoc text written i
 reply_behind WriteFault text tail written is = (is.0, append_assoc text written is.0 ∙ ap (λ (w : List ℕ). text ++ w) is.1)
 
 -- the last row is the one behind all but one
-pub last_text : (row : Row) (rows : List Row) → text_of (map row_line (drop (length (row ∷ rows) - 1) (row ∷ rows))) ≡ last_line (row ∷ rows)
+pub last_text : (row : Row) (rows : List Row) → text_of_lines (map row_line (drop (length (row ∷ rows) - 1) (row ∷ rows))) ≡ last_row_line (row ∷ rows)
 last_text row [] = append-nil (row_line row)
 last_text row (next ∷ rows) =
     let more : length (row ∷ next ∷ rows) - 1 ≡ suc (length (next ∷ rows) - 1) = omega arith in
-    ap (λ (n : ℕ). text_of (map row_line (drop n (row ∷ next ∷ rows)))) more ∙ last_text next rows
+    ap (λ (n : ℕ). text_of_lines (map row_line (drop n (row ∷ next ∷ rows)))) more ∙ last_text next rows
 
 -- of so many rows, of which there are some
-pub last_of : (count : ℕ) (rows : List Row) → (count ≡ 0 → ⊥) → count ≡ length rows → text_of (later_lines (count - 1) rows) ≡ last_line rows
+pub last_of : (count : ℕ) (rows : List Row) → (count ≡ 0 → ⊥) → count ≡ length rows → text_of_lines (later_lines (count - 1) rows) ≡ last_row_line rows
 last_of count [] some is = absurd (some is)
 last_of count (row ∷ rows) some is =
-    ap (λ (n : ℕ). text_of (map row_line (drop (n - 1) (row ∷ rows)))) is ∙ last_text row rows
+    ap (λ (n : ℕ). text_of_lines (map row_line (drop (n - 1) (row ∷ rows)))) is ∙ last_text row rows
 
 module _ {K D : Type 0} (outlet : Outlet K) (medium : Medium D) (book : Book) where
   -- no read was made
@@ -71,8 +71,8 @@ module _ {K D : Type 0} (outlet : Outlet K) (medium : Medium D) (book : Book) wh
   no_reads disk WriteFault rows no_read = record { failed = false; by_end = tt; looked = no_look medium (slot_size * (slot_total rows + 1)) disk }
 
   -- an answer that no read is made for
-  pub replies_said : (answer : List Row → List ℕ) (bytes : List ℕ) (end : ReportEnd) (disk : D) (old new : K) → Says outlet bytes end old new
-      → ((rows : List Row) → StandsFor book rows → bytes ≡ answer rows) → Replies outlet medium book answer end disk disk old new
+  pub replies_said : (answer : List Row → List ℕ) (bytes : List ℕ) (end : ReportEnd) (disk : D) (old new : K) → QuerySays outlet bytes end old new
+      → ((rows : List Row) → BookStandsFor book rows → bytes ≡ answer rows) → BookReplies outlet medium book answer end disk disk old new
   replies_said answer bytes end disk old new says is = record {
     wrote = (
       says.wrote.0,
@@ -88,11 +88,11 @@ module _ {K D : Type 0} (outlet : Outlet K) (medium : Medium D) (book : Book) wh
 
   module _ (lines : List Row → List (List ℕ)) (end : ReportEnd) (disk disk' : D) (old now : K)
       (wrote : Wrote outlet medium book disk (λ rows. IsReport (lines rows) end) old now) (stays : Stays medium disk disk')
-      (went : (rows : List Row) → StandsFor book rows → ReadsOver medium rows end disk disk') (disk_fault : Faults medium disk disk' (end ≡ DiskFault))
+      (went : (rows : List Row) → BookStandsFor book rows → ReadsOver medium rows end disk disk') (disk_fault : Faults medium disk disk' (end ≡ DiskFault))
       (write_fault : Cause (outlet.faults old) (outlet.faults now) (end ≡ WriteFault)) (still : end ≢ WriteFault → outlet.faults now ≡ outlet.faults old) where
     -- an answer that is a report
-    pub replies_report : (answer : List Row → List ℕ) → ((rows : List Row) → StandsFor book rows → text_of (lines rows) ≡ answer rows)
-        → Replies outlet medium book answer end disk disk' old now
+    pub replies_report : (answer : List Row → List ℕ) → ((rows : List Row) → BookStandsFor book rows → text_of_lines (lines rows) ≡ answer rows)
+        → BookReplies outlet medium book answer end disk disk' old now
     replies_report answer is = record {
       wrote = wrote_as outlet medium book disk _ _ old now wrote (λ rows stands x told w before.
           subst (λ (text : List ℕ). IsReply text end w) (is rows stands.stands_for) (report_reply end (lines rows) w before));
@@ -104,10 +104,10 @@ module _ {K D : Type 0} (outlet : Outlet K) (medium : Medium D) (book : Book) wh
     }
 
     -- a report that broke off, behind which something would have been written
-    pub replies_cut : (tail : List ℕ) → end ≢ Done → Replies outlet medium book (λ rows. text_of (lines rows) ++ tail) end disk disk' old now
+    pub replies_cut : (tail : List ℕ) → end ≢ Done → BookReplies outlet medium book (λ rows. text_of_lines (lines rows) ++ tail) end disk disk' old now
     replies_cut tail broke = record {
       wrote = wrote_as outlet medium book disk _ _ old now wrote (λ rows stands x told w before.
-          reply_cut end (text_of (lines rows)) tail w broke (report_reply end (lines rows) w before));
+          reply_cut end (text_of_lines (lines rows)) tail w broke (report_reply end (lines rows) w before));
       stays = stays;
       went = went;
       disk_fault = disk_fault;
@@ -123,12 +123,12 @@ module _ {K D : Type 0} (outlet : Outlet K) (medium : Medium D) (book : Book) wh
 
   -- behind a whole report something was written
   pub replies_behind : (lines : List Row → List (List ℕ)) (tail : List ℕ) (end : ReportEnd) (disk disk' : D) (old now new : K)
-      → Replies outlet medium book (λ rows. text_of (lines rows)) Done disk disk' old now → Says outlet tail end now new
-      → Replies outlet medium book (λ rows. text_of (lines rows) ++ tail) end disk disk' old new
+      → BookReplies outlet medium book (λ rows. text_of_lines (lines rows)) Done disk disk' old now → QuerySays outlet tail end now new
+      → BookReplies outlet medium book (λ rows. text_of_lines (lines rows) ++ tail) end disk disk' old new
   replies_behind lines tail end disk disk' old now new one says = record {
     wrote = wrote_more outlet medium book disk _ _ old now new says.wrote.0 one.wrote says.wrote.1 (λ rows stands x told w before.
-        subst (λ (text : List ℕ). IsReply (text_of (lines rows) ++ tail) end (text ++ says.wrote.0)) (sym before)
-        (reply_behind end (text_of (lines rows)) tail says.wrote.0 says.wrote.2));
+        subst (λ (text : List ℕ). IsReply (text_of_lines (lines rows) ++ tail) end (text ++ says.wrote.0)) (sym before)
+        (reply_behind end (text_of_lines (lines rows)) tail says.wrote.0 says.wrote.2));
     stays = one.stays;
     went = λ rows stands. went_on end rows disk disk' says.no_read (one.went rows stands);
     disk_fault = record { never_falls = one.disk_fault.never_falls; rose = λ is. absurd (says.no_read is) };

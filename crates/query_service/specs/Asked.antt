@@ -6,8 +6,8 @@ use Rattle.query_service.specs.declared.request.Request.{Request}
 use Rattle.query_service.specs.declared.request.Request.TheVariants.{Count, Last, Rows, Day, Unknown}
 
 -- FIRST LAST
-abbrev pub days_text : DayNumber → DayNumber → List ℕ
-days_text first last = day_text first.0 ++ (codes " " ++ day_text last.0)
+abbrev pub day_span_text : DayNumber → DayNumber → List ℕ
+day_span_text first last = day_text first.0 ++ (codes " " ++ day_text last.0)
 
 -- both are days of a stamp, and the first is no later
 pub record AreInOrder (first last : DayNumber) : Type 0 where
@@ -17,13 +17,13 @@ pub record AreInOrder (first last : DayNumber) : Type 0 where
 
 -- the text is that of these days
 abbrev pub AreDays : List ℕ → DayNumber → DayNumber → Type 0
-AreDays text first last = (text ≡ days_text first last) × AreInOrder first last
+AreDays text first last = (text ≡ day_span_text first last) × AreInOrder first last
 
 -- the line is one of the table's, and asks for this
 abbrev pub IsRequest : List ℕ → Request → Type 0
 IsRequest line Count = line ≡ codes "count"
 IsRequest line Last = line ≡ codes "last"
-IsRequest line (Rows first last) = (line ≡ codes "rows " ++ days_text first last) × AreInOrder first last
+IsRequest line (Rows first last) = (line ≡ codes "rows " ++ day_span_text first last) × AreInOrder first last
 IsRequest line (Day day) = (line ≡ codes "day " ++ day_text day.0) × IsDayNumber day.0
 IsRequest line Unknown = ⊥
 
@@ -36,6 +36,6 @@ Means line (Day day) = IsRequest line (Day day)
 Means line Unknown = (request : Request) → IsRequest line request → ⊥
 
 -- A line asks for what the table has for it; one of more than 64 bytes asks for nothing that is known.
-pub record Asks (line : List ℕ) (request : Request) : Type 0 where
+pub record LineAsks (line : List ℕ) (request : Request) : Type 0 where
   pub long : 64 < length line → request ≡ Unknown
   pub short : length line ≤ 64 → Means line request

@@ -8,7 +8,7 @@ use Rattle.serial_link.specs.Talk.{Adds}
 use Rattle.serial_link.proofs.Growing.{adds_none, adds_joins}
 use Rattle.wake_retry.specs.Bounds.{said}
 use Rattle.query_service.specs.declared.link_sink.LinkSink.{LinkSink}
-use Rattle.query_service.specs.Talk.{OnlySays, only_none, only_joins, said_joins}
+use Rattle.query_service.specs.Talk.{TalkOnlySays, only_none, only_joins, said_joins}
 use Rattle.query_service.specs.Refused.{Refuses, refused, refuses_none, refuses_joins}
 
 -- The same link is spoken over, and just these bytes are said.
@@ -16,7 +16,7 @@ pub record SaysOver {L : Type 0} (traffic : Traffic L) (old : LinkSink L) (bytes
   pub same : new.link.ghost_name ≡ old.link.ghost_name
   pub talk : List TalkItem
   pub said_is : said talk ≡ bytes
-  pub only : OnlySays talk
+  pub only : TalkOnlySays talk
   pub adds : Adds traffic old.link.now talk new.link.now
   pub refuses : Refuses old.refusal new.refusal (traffic.faults old.link.now) (traffic.faults new.link.now)
       (traffic.shortages old.link.now) (traffic.shortages new.link.now)

@@ -9,7 +9,7 @@ use Rattle.serial_link.specs.Traffic.{Traffic}
 use Rattle.serial_link.specs.declared.talk.TalkItem.{TalkItem}
 use Rattle.station_base.specs.declared.row.Row.{Row}
 use Rattle.gated_log.specs.Layout.{slot_size}
-use Rattle.weather_book.specs.Book.{StandsFor}
+use Rattle.weather_book.specs.Book.{BookStandsFor}
 use Rattle.packed_rows.specs.Rows.{slot_total}
 use Rattle.weather_book.specs.declared.book.Book.{Book}
 use Rattle.query_service.specs.declared.service.QueryEnd.{QueryEnd}
@@ -30,12 +30,12 @@ pub record ReadsFor {D : Type 0} (medium : Medium D) (rows : List Row) (end : Qu
 
 -- Each end has its cause: the count of the link's faults, of its shortages or of the disk's faults rose only with it. The
 -- talk is as this has it, and nothing on the disk changed.
-pub record Serves {L D : Type 0} (traffic : Traffic L) (medium : Medium D) (book : Book) (end : QueryEnd)
+pub record ServesQueries {L D : Type 0} (traffic : Traffic L) (medium : Medium D) (book : Book) (end : QueryEnd)
     (Part : List TalkItem → Type 0) (link link' : L) (disk disk' : D) : Type 0 where
   pub talk : Talks traffic link Part (end ≡ LinkFault) (end ≡ OutOfMemory) link'
   pub still : AreStill traffic link (end ≡ LinkFault) ⊤ (end ≡ OutOfMemory) link'
   pub stays : Stays medium disk disk'
-  pub went : (rows : List Row) → StandsFor book rows → ReadsFor medium rows end disk disk'
+  pub went : (rows : List Row) → BookStandsFor book rows → ReadsFor medium rows end disk disk'
   pub disk_fault : Faults medium disk disk' (end ≡ DiskFault)
 
 -- where no count rose all turns were taken

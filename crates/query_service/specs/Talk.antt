@@ -14,13 +14,13 @@ abbrev pub count_met : List TalkItem → ℕ
 count_met t = length (heard t) + count_quiets t
 
 -- nothing is heard in it, and no wait passes
-abbrev pub OnlySays : List TalkItem → Type 0
-OnlySays t = (heard t ≡ []) × (count_quiets t ≡ 0)
+abbrev pub TalkOnlySays : List TalkItem → Type 0
+TalkOnlySays t = (heard t ≡ []) × (count_quiets t ≡ 0)
 
-pub only_none : OnlySays []
+pub only_none : TalkOnlySays []
 only_none = (refl, refl)
 
-pub only_joins : (s t : List TalkItem) → OnlySays s → OnlySays t → OnlySays (s ++ t)
+pub only_joins : (s t : List TalkItem) → TalkOnlySays s → TalkOnlySays t → TalkOnlySays (s ++ t)
 only_joins s t one two = (
   heard-append s t ∙ (ap (λ (x : List ℕ). x ++ heard t) one.0 ∙ two.0),
   omega (arith, count_quiets-append s t, one.1, two.1),

@@ -10,9 +10,9 @@ use Rattle.wake_retry.specs.Parts.{heard}
 use Rattle.weather_book.specs.Stands.{StandsToReadOn}
 use Rattle.weather_book.specs.declared.book.Book.{Book}
 use Rattle.query_service.specs.Answers.{answer_to}
-use Rattle.query_service.specs.Asked.{Asks}
+use Rattle.query_service.specs.Asked.{LineAsks}
 use Rattle.query_service.specs.Lines.{lines_after, lines_in, rest_after}
-use Rattle.query_service.specs.Talk.{OnlySays, count_met}
+use Rattle.query_service.specs.Talk.{TalkOnlySays, count_met}
 use Rattle.query_service.specs.declared.request.Request.{Request}
 use Rattle.query_service.specs.declared.service.QueryEnd.{QueryEnd}
 use Rattle.query_service.specs.declared.service.QueryEnd.TheVariants.{Done, LinkFault, DiskFault, OutOfMemory}
@@ -26,16 +26,16 @@ WhereRead medium book disk P =
 abbrev pub AreAnswers : List Row → List (List ℕ) → List ℕ → Type 0
 AreAnswers rows [] bytes = bytes ≡ []
 AreAnswers rows (line ∷ lines) bytes =
-    (request : Request) × (rest : List ℕ) × Asks line request × (bytes ≡ answer_to rows request ++ rest) × AreAnswers rows lines rest
+    (request : Request) × (rest : List ℕ) × LineAsks line request × (bytes ≡ answer_to rows request ++ rest) × AreAnswers rows lines rest
 
 -- nothing, or a prefix of the answer to the first line
-abbrev pub IsBegun : List Row → List (List ℕ) → List ℕ → Type 0
-IsBegun rows [] bytes = bytes ≡ []
-IsBegun rows (line ∷ lines) bytes =
-    (bytes ≡ []) ⊎ ((request : Request) × Asks line request × IsFrontOf bytes (answer_to rows request))
+abbrev pub AnswerIsBegun : List Row → List (List ℕ) → List ℕ → Type 0
+AnswerIsBegun rows [] bytes = bytes ≡ []
+AnswerIsBegun rows (line ∷ lines) bytes =
+    (bytes ≡ []) ⊎ ((request : Request) × LineAsks line request × IsFrontOf bytes (answer_to rows request))
 
 -- The answers to some lines in front were said whole, and these lines are counted. Of the next answer a front was said.
-pub record BreaksOff (rows : List Row) (lines : List (List ℕ)) (bytes : List ℕ) (old new : ℕ) : Type 0 where
+pub record AnsweringBreaksOff (rows : List Row) (lines : List (List ℕ)) (bytes : List ℕ) (old new : ℕ) : Type 0 where
   pub met : List (List ℕ)
   pub ahead : List (List ℕ)
   pub split : met ++ ahead ≡ lines
@@ -43,15 +43,15 @@ pub record BreaksOff (rows : List Row) (lines : List (List ℕ)) (bytes : List �
   pub part : List ℕ
   pub bytes_are : bytes ≡ whole ++ part
   pub answers : AreAnswers rows met whole
-  pub begun : IsBegun rows ahead part
+  pub begun : AnswerIsBegun rows ahead part
   pub counted : new ≡ old + length met
 
 -- what is said to the lines, and how a count of them goes up, by the end
 abbrev pub AnswersLines : QueryEnd → List Row → List (List ℕ) → List ℕ → ℕ → ℕ → Type 0
 AnswersLines Done rows lines bytes old new = AreAnswers rows lines bytes × (new ≡ old + length lines)
-AnswersLines LinkFault rows lines bytes old new = BreaksOff rows lines bytes old new
-AnswersLines DiskFault rows lines bytes old new = BreaksOff rows lines bytes old new
-AnswersLines OutOfMemory rows lines bytes old new = BreaksOff rows lines bytes old new
+AnswersLines LinkFault rows lines bytes old new = AnsweringBreaksOff rows lines bytes old new
+AnswersLines DiskFault rows lines bytes old new = AnsweringBreaksOff rows lines bytes old new
+AnswersLines OutOfMemory rows lines bytes old new = AnsweringBreaksOff rows lines bytes old new
 
 -- All lines that end within what was heard are answered, or some in front where the service broke off. In each of so many
 -- turns a wait passed, or up to 256 bytes were heard.
@@ -62,7 +62,7 @@ pub record AnswersTurns {D : Type 0} (medium : Medium D) (book : Book) (disk : D
   pub answers : WhereRead medium book disk (λ rows. AnswersLines end rows (lines_in (heard t)) (said t) 0 lines)
 
 -- The same where a line has begun, of which up to 65 bytes are held. So are they of the one that has begun afterwards.
-pub record IsServed (end : QueryEnd) (rows : List Row) (begun came bytes line : List ℕ) (old new : ℕ) : Type 0 where
+pub record QueriesAreServed (end : QueryEnd) (rows : List Row) (begun came bytes line : List ℕ) (old new : ℕ) : Type 0 where
   pub answers : AnswersLines end rows (lines_after begun came) bytes old new
   pub held : end ≡ Done → line ≡ take 65 (rest_after begun came)
 
@@ -70,7 +70,7 @@ pub record IsServed (end : QueryEnd) (rows : List Row) (begun came bytes line : 
 abbrev pub ServesFrom : {D : Type 0} → Medium D → Book → D → QueryEnd → List ℕ → List ℕ → List ℕ → List ℕ → ℕ → ℕ → Type 0
 ServesFrom medium book disk end came bytes before after old new =
     (begun : List ℕ) → before ≡ take 65 begun
-    → WhereRead medium book disk (λ rows. IsServed end rows begun came bytes after old new)
+    → WhereRead medium book disk (λ rows. QueriesAreServed end rows begun came bytes after old new)
 
 -- so many turns were taken
 pub record TakesTurns {D : Type 0} (medium : Medium D) (book : Book) (disk : D) (end : QueryEnd) (turns : ℕ)
@@ -82,7 +82,7 @@ pub record TakesTurns {D : Type 0} (medium : Medium D) (book : Book) (disk : D) 
 -- these bytes had come before
 pub record AnswersBytes {D : Type 0} (medium : Medium D) (book : Book) (disk : D) (end : QueryEnd) (came : List ℕ)
     (before after : List ℕ) (old new : ℕ) (t : List TalkItem) : Type 0 where
-  pub only : OnlySays t
+  pub only : TalkOnlySays t
   pub answers : ServesFrom medium book disk end came (said t) before after old new
 
 -- all of the answer to a line was said, or a prefix of it
@@ -95,5 +95,5 @@ IsAnswer answer OutOfMemory bytes = IsFrontOf bytes answer
 -- one line was answered
 pub record AnswersLine {D : Type 0} (medium : Medium D) (book : Book) (disk : D) (end : QueryEnd) (line : List ℕ)
     (t : List TalkItem) : Type 0 where
-  pub only : OnlySays t
-  pub answers : WhereRead medium book disk (λ rows. (request : Request) × Asks line request × IsAnswer (answer_to rows request) end (said t))
+  pub only : TalkOnlySays t
+  pub answers : WhereRead medium book disk (λ rows. (request : Request) × LineAsks line request × IsAnswer (answer_to rows request) end (said t))

@@ -1,6 +1,6 @@
 ghost use Rattle.std.specs.Prelude.{◌≡◌, ⊤};
 ghost use Rattle.query_service.specs.Ends.{query_end};
-ghost use Rattle.query_service.specs.Service.{Serves};
+ghost use Rattle.query_service.specs.Service.{ServesQueries};
 ghost use Rattle.query_service.specs.Turns.{AnswersLine};
 
 use crate::link_sink::{LinkSink, Refusal};
@@ -14,7 +14,7 @@ use weather_reports::ReportEnd;
 
 // Answers one line over the link. Done if all of the answer was said.
 pub fn answer<L: Link, D: Disk>(book: &Book, disk: &mut D, link: &mut L, line: &[u8]) -> QueryEnd
-    ensures { Serves L.traffic D.medium book.now result
+    ensures { ServesQueries L.traffic D.medium book.now result
         (AnswersLine D.medium book.now disk.old result line.now) link.old link.new disk.old disk.new }
 {
     let mut out = LinkSink {

@@ -1,7 +1,7 @@
 ghost use Rattle.std.specs.Prelude.{◌<◌, length};
 ghost use Rattle.weather_book.specs.Book.{len_of};
-ghost use Rattle.query_service.specs.Answers.{answer_to, count_text, day_answer, last_line, rows_answer};
-ghost use Rattle.query_service.specs.Said.{Replies, Says};
+ghost use Rattle.query_service.specs.Answers.{answer_to, count_text, day_answer, last_row_line, rows_answer};
+ghost use Rattle.query_service.specs.Said.{BookReplies, QuerySays};
 
 use crate::request::Request;
 use arrayvec::ArrayVec;
@@ -22,7 +22,8 @@ pub fn reply<D: Disk, K: Sink>(
     out: &mut K,
     request: Request,
 ) -> ReportEnd
-    ensures { Replies K.outlet D.medium book.now (λ rows. answer_to rows request) result disk.old disk.new out.old out.new }
+    ensures { BookReplies K.outlet D.medium book.now
+        (λ rows. answer_to rows request) result disk.old disk.new out.old out.new }
 {
     match request {
         Request::Count => say_count(book, out),
@@ -35,7 +36,7 @@ pub fn reply<D: Disk, K: Sink>(
 
 // Writes how many rows there are.
 fn say_count<K: Sink>(book: &Book, out: &mut K) -> ReportEnd
-    ensures { Says K.outlet (count_text (len_of book.now)) result out.old out.new }
+    ensures { QuerySays K.outlet (count_text (len_of book.now)) result out.old out.new }
 {
     let mut text: ArrayVec<u8, COUNT_ROOM> = ArrayVec::new();
     let mut digits = Buffer::new();
@@ -47,7 +48,7 @@ fn say_count<K: Sink>(book: &Book, out: &mut K) -> ReportEnd
 
 // Writes the last row.
 fn say_last<D: Disk, K: Sink>(book: &Book, disk: &mut D, out: &mut K) -> ReportEnd
-    ensures { Replies K.outlet D.medium book.now last_line result disk.old disk.new out.old out.new }
+    ensures { BookReplies K.outlet D.medium book.now last_row_line result disk.old disk.new out.old out.new }
 {
     let count = book.len();
     if count == 0 {
@@ -64,7 +65,7 @@ fn say_rows<D: Disk, K: Sink>(
     first: DayNumber,
     last: DayNumber,
 ) -> ReportEnd
-    ensures { Replies K.outlet D.medium book.now (rows_answer first last) result disk.old disk.new out.old out.new }
+    ensures { BookReplies K.outlet D.medium book.now (rows_answer first last) result disk.old disk.new out.old out.new }
 {
     match listing(book, disk, out, first, last) {
         ReportEnd::Done => say(b"end\n", out),
@@ -75,7 +76,7 @@ fn say_rows<D: Disk, K: Sink>(
 
 // Writes what the rows of a day come to.
 fn say_day<D: Disk, K: Sink>(book: &Book, disk: &mut D, out: &mut K, day: DayNumber) -> ReportEnd
-    ensures { Replies K.outlet D.medium book.now (day_answer day) result disk.old disk.new out.old out.new }
+    ensures { BookReplies K.outlet D.medium book.now (day_answer day) result disk.old disk.new out.old out.new }
 {
     match day_table(book, disk, out, day, day) {
         ReportEnd::Done => say(b"end\n", out),
@@ -87,7 +88,7 @@ fn say_day<D: Disk, K: Sink>(book: &Book, disk: &mut D, out: &mut K, day: DayNum
 // Writes these bytes.
 fn say<K: Sink>(bytes: &[u8], out: &mut K) -> ReportEnd
     requires { 0 < length bytes.now }
-    ensures { Says K.outlet bytes.now result out.old out.new }
+    ensures { QuerySays K.outlet bytes.now result out.old out.new }
 {
     match out.put(bytes) {
         Put::Done => ReportEnd::Done,

@@ -1,5 +1,5 @@
 ghost use Rattle.std.specs.Prelude.{◌≡◌, ◌<◌, IfSome, Some, length};
-ghost use Rattle.query_service.specs.Asked.{AreDays, Asks};
+ghost use Rattle.query_service.specs.Asked.{AreDays, LineAsks};
 ghost use Rattle.station_base.specs.declared.day.DayNumber.{DayNumber};
 
 use station_base::DayNumber;
@@ -24,7 +24,7 @@ pub enum Request {
 
 /// What this line asks for, which is given without its line feed.
 pub fn request_of(line: &[u8]) -> Request
-    ensures { Asks line.now result }
+    ensures { LineAsks line.now result }
 {
     if line.len() > LONGEST {
         return Request::Unknown;

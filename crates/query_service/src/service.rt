@@ -2,8 +2,8 @@ ghost use Rattle.std.specs.Prelude.{ℕ, ⊤, ◌≡◌, ◌<◌, ◌≤◌, ◌
 ghost use Rattle.disk_model.specs.Disk.{Faults, Stays};
 ghost use Rattle.serial_link.specs.Link.{AreStill, Talks};
 ghost use Rattle.station_base.specs.declared.row.Row.{Row};
-ghost use Rattle.weather_book.specs.Book.{StandsFor};
-ghost use Rattle.query_service.specs.Service.{IsDoneWithoutFault, ReadsFor, Serves};
+ghost use Rattle.weather_book.specs.Book.{BookStandsFor};
+ghost use Rattle.query_service.specs.Service.{IsDoneWithoutFault, ReadsFor, ServesQueries};
 ghost use Rattle.query_service.specs.Turns.{AnswersBytes, AnswersTurns, TakesTurns};
 
 use crate::answer::answer;
@@ -60,9 +60,10 @@ pub fn answer_queries<L: Link, D: Disk>(
     requires lines { count.old.lines ≡ 0 }
     ensures talk { Talks L.traffic link.old (AnswersTurns D.medium book.now disk.old result turns count.new.lines)
         (result ≡ QueryEnd.LinkFault) (result ≡ QueryEnd.OutOfMemory) link.new }
-    ensures still { AreStill L.traffic link.old (result ≡ QueryEnd.LinkFault) ⊤ (result ≡ QueryEnd.OutOfMemory) link.new }
+    ensures still { AreStill L.traffic link.old (result ≡ QueryEnd.LinkFault) ⊤ (result
+        ≡ QueryEnd.OutOfMemory) link.new }
     ensures stays { Stays D.medium disk.old disk.new }
-    ensures went { (rows : List Row) → StandsFor book.now rows → ReadsFor D.medium rows result disk.old disk.new }
+    ensures went { (rows : List Row) → BookStandsFor book.now rows → ReadsFor D.medium rows result disk.old disk.new }
     ensures disk_fault { Faults D.medium disk.old disk.new (result ≡ QueryEnd.DiskFault) }
     ensures complete { IsDoneWithoutFault L.traffic D.medium result link.old link.new disk.old disk.new }
 {
@@ -80,8 +81,9 @@ fn take_turns<L: Link, D: Disk>(
     count: &mut Queries,
 ) -> QueryEnd
     requires lines { count.old.lines ≡ 0 }
-    ensures { Serves L.traffic D.medium book.now result
-        (TakesTurns D.medium book.now disk.old result turns line.old.items line.new.items count.old.lines count.new.lines)
+    ensures { ServesQueries L.traffic D.medium book.now result
+        (TakesTurns D.medium book.now disk.old result turns line.old.items line.new.items count.old.lines
+        count.new.lines)
         link.old link.new disk.old disk.new }
 {
     for _ in 0..turns {
@@ -104,7 +106,7 @@ fn take_turn<L: Link, D: Disk>(
     count: &mut Queries,
 ) -> QueryEnd
     requires few { count.old.lines + 256 < 2 ^ 64 }
-    ensures serves { Serves L.traffic D.medium book.now result
+    ensures serves { ServesQueries L.traffic D.medium book.now result
         (TakesTurns D.medium book.now disk.old result 1 line.old.items line.new.items count.old.lines count.new.lines)
         link.old link.new disk.old disk.new }
     ensures few { count.new.lines ≤ count.old.lines + 256 }
@@ -128,8 +130,9 @@ fn answer_bytes<L: Link, D: Disk>(
     count: &mut Queries,
 ) -> QueryEnd
     requires few { count.old.lines + length bytes.now < 2 ^ 64 }
-    ensures serves { Serves L.traffic D.medium book.now result
-        (AnswersBytes D.medium book.now disk.old result bytes.now line.old.items line.new.items count.old.lines count.new.lines)
+    ensures serves { ServesQueries L.traffic D.medium book.now result
+        (AnswersBytes D.medium book.now disk.old result bytes.now line.old.items line.new.items count.old.lines
+        count.new.lines)
         link.old link.new disk.old disk.new }
     ensures few { count.new.lines ≤ count.old.lines + length bytes.now }
 {
@@ -154,8 +157,9 @@ fn answer_byte<L: Link, D: Disk>(
     count: &mut Queries,
 ) -> QueryEnd
     requires few { count.old.lines + 1 < 2 ^ 64 }
-    ensures serves { Serves L.traffic D.medium book.now result
-        (AnswersBytes D.medium book.now disk.old result (byte ∷ []) line.old.items line.new.items count.old.lines count.new.lines)
+    ensures serves { ServesQueries L.traffic D.medium book.now result
+        (AnswersBytes D.medium book.now disk.old result
+        (byte ∷ []) line.old.items line.new.items count.old.lines count.new.lines)
         link.old link.new disk.old disk.new }
     ensures few { count.new.lines ≤ count.old.lines + 1 }
 {

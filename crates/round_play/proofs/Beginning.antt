@@ -2,7 +2,7 @@
 use Rattle.std.proofs.Common.{◌≡◌, ℕ, ◌+◌, ◌-◌, ◌<◌, ◌≤◌, ◌^◌, Bool, true, false, List, Some, refl, sym, ◌∙◌, ap, subst, arith, length, take}
 use Rattle.std.proofs.lemmas.Bool.{false≢true}
 use Rattle.causes.specs.Told.{WhereTold}
-use Rattle.disk_model.specs.Disk.{IsDurable, Stays, Begins}
+use Rattle.disk_model.specs.Disk.{IsDurable, Stays, BeginsChanges}
 use Rattle.disk_model.specs.Effects.{Effect, Took}
 use Rattle.disk_model.specs.Stopping.{stopping_medium, stopping_state_of, platter_within}
 use Rattle.disk_model.specs.StoppingState.{StoppingState, after_stops, stop_effects}
@@ -17,21 +17,21 @@ use Rattle.gated_log.specs.declared.version.Version.{Version}
 use Rattle.gated_log.specs.declared.version.Version.TheVariants.{Second}
 use Rattle.packed_rows.specs.Rows.{holds, not_archive, damaged}
 use Rattle.weather_book.specs.Stands.{HasRows}
-use Rattle.weather_book.specs.Start.{Finds}
+use Rattle.weather_book.specs.Start.{FindsBook}
 use Rattle.weather_book.specs.declared.start.BookStart.{BookStart}
 use Rattle.weather_book.specs.declared.start.BookStart.TheVariants as start
 use Rattle.station_replay.specs.Keeping.{Archive}
-use Rattle.station_replay.specs.Stopped.{Rests}
+use Rattle.station_replay.specs.Stopped.{DiskRests}
 use Rattle.gated_log.proofs.StoppedCalls.{IsArmed}
 use Rattle.gated_log.specs.Layout.{empty_size}
-use Rattle.round_play.specs.Opening.{CanOpen, limits_of}
+use Rattle.round_play.specs.Opening.{CanOpen, stopping_limits}
 use Rattle.round_play.specs.Resting.{AtRest, HasLeft}
 use Rattle.round_play.proofs.Changing.{Does, by_changes, fails_by_changes}
 use Rattle.round_play.proofs.Reopening.{Halted, length_within, stops_within, no_effect_of_sync, last_failed, last_done}
 
 -- A disk at rest but for a stop that may be armed, with room for an opening.
 pub record Starts (k pick openings : ℕ) (a : Archive) (d : Stopping MemDisk) : Type 0 where
-  pub rests : Rests a (stopping_state_of d) (stopping_medium.moment d)
+  pub rests : DiskRests a (stopping_state_of d) (stopping_medium.moment d)
   pub armed_is : (stopping_state_of d).armed ≡ k
   pub pick_is : (stopping_state_of d).pick ≡ pick
   pub image : List ℕ
@@ -62,7 +62,7 @@ starts_at_rest openings a d r room = record {
 -- after a stop was armed
 module _ (k pick openings : ℕ) (a : Archive) (d e : Stopping MemDisk)
     (state : stopping_state_of e ≡ record (stopping_state_of d) { armed = k; pick = pick }) (stays : Stays stopping_medium d e) where
-  rests_armed : Rests a (stopping_state_of d) (stopping_medium.moment d) → Rests a (stopping_state_of e) (stopping_medium.moment e)
+  rests_armed : DiskRests a (stopping_state_of d) (stopping_medium.moment d) → DiskRests a (stopping_state_of e) (stopping_medium.moment e)
   rests_armed r = record {
     goes = ap (λ (s : StoppingState). s.stopped) state ∙ r.goes;
     sure = ap (λ (s : StoppingState). s.inner.fails_at) state ∙ r.sure;
@@ -77,7 +77,7 @@ module _ (k pick openings : ℕ) (a : Archive) (d e : Stopping MemDisk)
 
   room_armed : CanOpen d → CanOpen e
   room_armed r =
-      let most : (limits_of e).capacity ≡ (limits_of d).capacity = ap (λ (s : StoppingState). s.inner.limits.capacity) state in
+      let most : (stopping_limits e).capacity ≡ (stopping_limits d).capacity = ap (λ (s : StoppingState). s.inner.limits.capacity) state in
       let changes : (stopping_state_of e).inner.changes ≡ (stopping_state_of d).inner.changes = ap (λ (s : StoppingState). s.inner.changes) state in
       let bytes : (stopping_state_of e).inner.bytes ≡ (stopping_state_of d).inner.bytes = ap (λ (s : StoppingState). s.inner.bytes) state in
       record {
@@ -104,7 +104,7 @@ module _ (k pick openings : ℕ) (a : Archive) (d e : Stopping MemDisk)
 
 -- what the state tells
 pub is_armed : (k pick openings : ℕ) (a : Archive) (d : Stopping MemDisk) → Starts k pick openings a d
-    → IsArmed (stopping_state_of d) a.size k pick (limits_of d).capacity 3 empty_size
+    → IsArmed (stopping_state_of d) a.size k pick (stopping_limits d).capacity 3 empty_size
 is_armed k pick openings a d r = record {
   goes = r.rests.goes;
   armed_is = r.armed_is;
@@ -127,7 +127,7 @@ IsKnown start.DiskFault = Unit {0}
 IsKnown start.OutOfMemory = Unit {0}
 
 pub is_known : (k pick openings : ℕ) (a : Archive) (d : Stopping MemDisk) → Starts k pick openings a d → (answer : BookStart)
-    → WhereTold (stopping_medium.seen d) (Finds Write answer) → IsKnown answer
+    → WhereTold (stopping_medium.seen d) (FindsBook Write answer) → IsKnown answer
 is_known k pick openings a d r (start.Book book) finds = tt
 is_known k pick openings a d r (start.NotArchive bytes) finds =
     let e : holds a.rows ≡ not_archive = sym r.rows.0 ∙ (finds r.image r.seen).0 in cc e
@@ -140,7 +140,7 @@ is_known k pick openings a d r start.OutOfMemory finds = tt
 
 -- What the calls of a recovery from there made of it, a call of them having failed or not.
 module _ (k pick openings : ℕ) (a : Archive) (d e : Stopping MemDisk) (r : Starts k pick openings a d) (slots : ℕ) (failed : Bool)
-    (begun : Begins stopping_medium 3 d e) (went : RecoveryCalls stopping_medium d e (stopping_medium.moment e - stopping_medium.moment d) slots failed) where
+    (begun : BeginsChanges stopping_medium 3 d e) (went : RecoveryCalls stopping_medium d e (stopping_medium.moment e - stopping_medium.moment d) slots failed) where
   does : Does (stopping_state_of d) (stopping_state_of e) went.calls (changes went.calls)
   does = by_changes went.calls (stopping_state_of d) (stopping_state_of e) r.rests.sure went.by.state
 
@@ -169,7 +169,7 @@ module _ (k pick openings : ℕ) (a : Archive) (d e : Stopping MemDisk) (r : Sta
   went_wrong bad =
       let last = last_failed (stopping_medium.moment e - stopping_medium.moment d) went.answer few (failed_by ∙ bad) in (
         last.0,
-        stops_within (stopping_state_of d) (stopping_state_of e) a.size k pick (limits_of d).capacity (is_armed k pick openings a d r)
+        stops_within (stopping_state_of d) (stopping_state_of e) a.size k pick (stopping_limits d).capacity (is_armed k pick openings a d r)
             (stopping_medium.moment e - stopping_medium.moment d) r.room.capacity last.0 few
             (ap (λ answer. after_stops (Some (stopping_state_of d)) (up_to (take (stopping_medium.moment e - stopping_medium.moment d) recovery_changes) answer)) (sym last.1) ∙ went_by),
       )
@@ -181,12 +181,12 @@ module _ (k pick openings : ℕ) (a : Archive) (d e : Stopping MemDisk) (r : Sta
       let last = last_failed (stopping_medium.moment e - stopping_medium.moment d) went.answer few (failed_by ∙ bad) in
       let calls = went.changes_are ∙ ap (λ (n : ℕ). up_to (take n recovery_changes) went.answer) one ∙ ap (λ answer. up_to (take 1 recovery_changes) answer) last.1 in
       let none = does.effects ∙ ap (λ cs. stop_effects (Some (stopping_state_of d)) cs) calls
-      ∙ no_effect_of_sync (stopping_state_of d) (stopping_state_of e) a.size k pick (limits_of d).capacity (is_armed k pick openings a d r) (wrong.1.at ∙ one) in
+      ∙ no_effect_of_sync (stopping_state_of d) (stopping_state_of e) a.size k pick (stopping_limits d).capacity (is_armed k pick openings a d r) (wrong.1.at ∙ one) in
       subst (λ (es : List Effect). Took (platter_within d) es (platter_within e)) none went.by.platter
 
 -- with no stop armed none fails
 pub never_wrong : (pick openings : ℕ) (a : Archive) (d e : Stopping MemDisk) (r : Starts 0 pick openings a d) (slots : ℕ) (failed : Bool)
-    → Begins stopping_medium 3 d e → RecoveryCalls stopping_medium d e (stopping_medium.moment e - stopping_medium.moment d) slots failed
+    → BeginsChanges stopping_medium 3 d e → RecoveryCalls stopping_medium d e (stopping_medium.moment e - stopping_medium.moment d) slots failed
     → failed ≡ true → ⊥
 never_wrong pick openings a d e r slots failed begun went bad =
     let wrong = went_wrong 0 pick openings a d e r slots failed begun went bad in

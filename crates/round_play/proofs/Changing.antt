@@ -7,7 +7,7 @@ use Rattle.disk_model.specs.Calls.{DiskCall, attached, measured, was_read, wrote
 use Rattle.disk_model.specs.declared.disk.Disked.TheVariants.{Done, Failed}
 use Rattle.disk_model.specs.declared.disk.Length.TheVariants.{Known}
 use Rattle.disk_model.specs.declared.disk.Length.TheVariants as unknown
-use Rattle.disk_model.specs.DiskState.{DiskState, counted, done, next, must_fail, same_truth, says_size}
+use Rattle.disk_model.specs.DiskState.{DiskState, call_counted, call_done, next_disk_state, must_fail, same_truth, says_size}
 use Rattle.disk_model.specs.Effects.{Effect}
 use Rattle.disk_model.specs.StoppingState.{StoppingState, within_stop, go_on, after_stop, after_stops, stop_effect, stop_effects}
 use Rattle.gated_log.specs.Calls.{changes, any_failed, reads_fit}
@@ -20,20 +20,20 @@ pub record Counts (s m : DiskState) : Type 0 where
   pub grows : s.size ≤ m.size
   pub limits : m.limits ≡ s.limits
 
-counted_counts : (s : DiskState) → Counts s (counted s)
+counted_counts : (s : DiskState) → Counts s (call_counted s)
 counted_counts s = record { fails = refl; grows = omega arith; limits = refl }
 
-done_counts : (s : DiskState) (call : DiskCall) → Counts s (done (counted s) call)
+done_counts : (s : DiskState) (call : DiskCall) → Counts s (call_done (call_counted s) call)
 done_counts s (attached name make answer) = counted_counts s
 done_counts s (measured answer) = counted_counts s
 done_counts s (was_read at len answer) = counted_counts s
 done_counts s (wrote at len byte answer) = record { fails = refl; grows = omega arith; limits = refl }
 done_counts s (synced answer) = record { fails = refl; grows = omega arith; limits = refl }
 
-next_counts : (s : DiskState) (call : DiskCall) → Counts s (next s call)
+next_counts : (s : DiskState) (call : DiskCall) → Counts s (next_disk_state s call)
 next_counts s call = by (must_fail s call)
   where
-    by : (b : Bool) → Counts s (if b then counted s else done (counted s) call)
+    by : (b : Bool) → Counts s (if b then call_counted s else call_done (call_counted s) call)
     by true = counted_counts s
     by false = done_counts s call
 
@@ -52,14 +52,14 @@ call_counts s m call h =
     to_m x e = subst (λ (z : StoppingState). Counts s.inner z.inner) (same_Some x m e)
 
     go : (t b f k : Bool) (armed : ℕ)
-        → (if t then (if f then Some (record s { inner = counted s.inner; stopped = true }) else None)
+        → (if t then (if f then Some (record s { inner = call_counted s.inner; stopped = true }) else None)
         else if b then (if f then Some (record s { inner = within_stop s.inner call; armed = 0; stopped = true }) else None)
-        else go_on armed s.pick (if k then Some (next s.inner call) else None)) ≡ Some m → Counts s.inner m.inner
-    go true b true k armed h = to_m (record s { inner = counted s.inner; stopped = true }) h (counted_counts s.inner)
+        else go_on armed s.pick (if k then Some (next_disk_state s.inner call) else None)) ≡ Some m → Counts s.inner m.inner
+    go true b true k armed h = to_m (record s { inner = call_counted s.inner; stopped = true }) h (counted_counts s.inner)
     go true b false k armed h = absurd cc
     go false true true k armed h = to_m (record s { inner = within_stop s.inner call; armed = 0; stopped = true }) h (within_counts s.inner call)
     go false true false k armed h = absurd cc
-    go false false f true armed h = to_m (going (next s.inner call) armed s.pick) h (next_counts s.inner call)
+    go false false f true armed h = to_m (going (next_disk_state s.inner call) armed s.pick) h (next_counts s.inner call)
     go false false f false armed h = absurd cc
 
 -- the room that a disk was made with stays
@@ -70,30 +70,30 @@ limits_stay (call ∷ calls) s u h =
     limits_stay calls p.0 u p.2 ∙ (call_counts s p.0 call p.1).limits
 
 -- to count a call is nothing where none is to fail
-same_counted : (s : StoppingState) → s.inner.fails_at ≡ 0 → record s { inner = counted s.inner } ≡ s
+same_counted : (s : StoppingState) → s.inner.fails_at ≡ 0 → record s { inner = call_counted s.inner } ≡ s
 same_counted s sure =
     let e : s.inner.fails_at - 1 ≡ s.inner.fails_at = omega (arith, sure) in
     ap (λ (n : ℕ). record s { inner = record s.inner { fails_at = n } }) e
 
 -- where it is stopped, or goes on, that need not be said again
-same_stopped : (s : StoppingState) (b : Bool) → s.stopped ≡ b → s.inner.fails_at ≡ 0 → record s { inner = counted s.inner; stopped = b } ≡ s
-same_stopped s b is sure = ap (λ (t : Bool). record s { inner = counted s.inner; stopped = t }) (sym is) ∙ same_counted s sure
+same_stopped : (s : StoppingState) (b : Bool) → s.stopped ≡ b → s.inner.fails_at ≡ 0 → record s { inner = call_counted s.inner; stopped = b } ≡ s
+same_stopped s b is sure = ap (λ (t : Bool). record s { inner = call_counted s.inner; stopped = t }) (sym is) ∙ same_counted s sure
 
 -- a call that is no change leaves the state
-next_is : (s : DiskState) (call : DiskCall) → is_change call ≡ false → next s call ≡ counted s
+next_is : (s : DiskState) (call : DiskCall) → is_change call ≡ false → next_disk_state s call ≡ call_counted s
 next_is s (attached name make answer) none = either (must_fail s (attached name make answer))
   where
-    either : (b : Bool) → (if b then counted s else counted s) ≡ counted s
+    either : (b : Bool) → (if b then call_counted s else call_counted s) ≡ call_counted s
     either true = refl
     either false = refl
 next_is s (measured answer) none = either (must_fail s (measured answer))
   where
-    either : (b : Bool) → (if b then counted s else counted s) ≡ counted s
+    either : (b : Bool) → (if b then call_counted s else call_counted s) ≡ call_counted s
     either true = refl
     either false = refl
 next_is s (was_read at len answer) none = either (must_fail s (was_read at len answer))
   where
-    either : (b : Bool) → (if b then counted s else counted s) ≡ counted s
+    either : (b : Bool) → (if b then call_counted s else call_counted s) ≡ call_counted s
     either true = refl
     either false = refl
 next_is s (wrote at len byte answer) none = absurd cc
@@ -104,14 +104,14 @@ no_change s m call none sure h =
     go s.stopped (is_change call) (answered_failed call) (same_truth (must_fail s.inner call) (answered_failed call) && says_size s.inner.size call) refl none h
   where
     go : (t b f k : Bool) → s.stopped ≡ t → b ≡ false
-        → (if t then (if f then Some (record s { inner = counted s.inner; stopped = true }) else None)
+        → (if t then (if f then Some (record s { inner = call_counted s.inner; stopped = true }) else None)
         else if b && (s.armed == 1) then (if f then Some (record s { inner = within_stop s.inner call; armed = 0; stopped = true }) else None)
-        else go_on (if b then s.armed - 1 else s.armed) s.pick (if k then Some (next s.inner call) else None)) ≡ Some m → m ≡ s
-    go true b true k is e h = sym (same_Some (record s { inner = counted s.inner; stopped = true }) m h) ∙ same_stopped s true is sure
+        else go_on (if b then s.armed - 1 else s.armed) s.pick (if k then Some (next_disk_state s.inner call) else None)) ≡ Some m → m ≡ s
+    go true b true k is e h = sym (same_Some (record s { inner = call_counted s.inner; stopped = true }) m h) ∙ same_stopped s true is sure
     go true b false k is e h = absurd cc
     go false true f k is e h = absurd cc
     go false false f true is e h =
-        sym (same_Some (going (next s.inner call) s.armed s.pick) m h) ∙ ap (λ (i : DiskState). going i s.armed s.pick) (next_is s.inner call none) ∙ same_stopped s false is sure
+        sym (same_Some (going (next_disk_state s.inner call) s.armed s.pick) m h) ∙ ap (λ (i : DiskState). going i s.armed s.pick) (next_is s.inner call none) ∙ same_stopped s false is sure
     go false false f false is e h = absurd cc
 
 -- and has no effect
@@ -199,7 +199,7 @@ module _ (s m : StoppingState) (goes : s.stopped ≡ false) (sure : s.inner.fail
       same_number e = grind (arith, nat_tests, e)
 
       go : (t k b : Bool) → t ≡ false → (n == s.inner.size) ≡ k
-          → (if t then None else go_on s.armed s.pick (if b && k then Some (next s.inner (measured (Known n))) else None)) ≡ Some m → n ≡ s.inner.size
+          → (if t then None else go_on s.armed s.pick (if b && k then Some (next_disk_state s.inner (measured (Known n))) else None)) ≡ Some m → n ≡ s.inner.size
       go true k b e f h = absurd cc
       go false true b e f h = same_number f
       go false false true e f h = absurd cc
@@ -209,8 +209,8 @@ module _ (s m : StoppingState) (goes : s.stopped ≡ false) (sure : s.inner.fail
   tells_some h = go s.stopped (s.inner.fails_at == 1) goes tests h
     where
       go : (t b : Bool) → t ≡ false → b ≡ false
-          → (if t then Some (record s { inner = counted s.inner; stopped = true })
-          else go_on s.armed s.pick (if same_truth (b || false) true && true then Some (next s.inner (measured unknown.Failed)) else None)) ≡ Some m → ⊥
+          → (if t then Some (record s { inner = call_counted s.inner; stopped = true })
+          else go_on s.armed s.pick (if same_truth (b || false) true && true then Some (next_disk_state s.inner (measured unknown.Failed)) else None)) ≡ Some m → ⊥
       go true b e f h = absurd cc
       go false true e f h = absurd cc
       go false false e f h = absurd cc
@@ -222,8 +222,8 @@ module _ (s m : StoppingState) (goes : s.stopped ≡ false) (sure : s.inner.fail
       fits = grind (arith, nat_tests)
 
       go : (t b k : Bool) → t ≡ false → b ≡ false → k ≡ false
-          → (if t then Some (record s { inner = counted s.inner; stopped = true })
-          else go_on s.armed s.pick (if same_truth (b || k) true && true then Some (next s.inner (was_read at len Failed)) else None)) ≡ Some m → ⊥
+          → (if t then Some (record s { inner = call_counted s.inner; stopped = true })
+          else go_on s.armed s.pick (if same_truth (b || k) true && true then Some (next_disk_state s.inner (was_read at len Failed)) else None)) ≡ Some m → ⊥
       go true b k e f g h = absurd cc
       go false true k e f g h = absurd cc
       go false false true e f g h = absurd cc
@@ -234,13 +234,13 @@ module _ (s m : StoppingState) (goes : s.stopped ≡ false) (sure : s.inner.fail
   goes_on call ok h = go s.stopped (is_change call && (s.armed == 1)) (answered_failed call) (same_truth (must_fail s.inner call) (answered_failed call) && says_size s.inner.size call) goes ok h
     where
       go : (t b f k : Bool) → t ≡ false → f ≡ false
-          → (if t then (if f then Some (record s { inner = counted s.inner; stopped = true }) else None)
+          → (if t then (if f then Some (record s { inner = call_counted s.inner; stopped = true }) else None)
           else if b then (if f then Some (record s { inner = within_stop s.inner call; armed = 0; stopped = true }) else None)
-          else go_on (if is_change call then s.armed - 1 else s.armed) s.pick (if k then Some (next s.inner call) else None)) ≡ Some m → m.stopped ≡ false
+          else go_on (if is_change call then s.armed - 1 else s.armed) s.pick (if k then Some (next_disk_state s.inner call) else None)) ≡ Some m → m.stopped ≡ false
       go true b f k e g h = absurd cc
       go false true true k e g h = absurd cc
       go false true false k e g h = absurd cc
-      go false false f true e g h = sym (ap (λ (x : StoppingState). x.stopped) (same_Some (going (next s.inner call) (if is_change call then s.armed - 1 else s.armed) s.pick) m h))
+      go false false f true e g h = sym (ap (λ (x : StoppingState). x.stopped) (same_Some (going (next_disk_state s.inner call) (if is_change call then s.armed - 1 else s.armed) s.pick) m h))
       go false false f false e g h = absurd cc
 
 -- on a disk that goes on a call fails only where a change does

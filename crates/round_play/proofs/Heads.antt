@@ -9,7 +9,7 @@ use Rattle.disk_model.specs.DiskState.{must_fail}
 use Rattle.disk_model.specs.Effects.{Effect, write_of, sync_of, IsEffect, Took}
 use Rattle.disk_model.specs.ImageLaws.{fresh_image, steps_image, now_is_image, untear, only_image}
 use Rattle.disk_model.specs.MemDisk.{steps_on}
-use Rattle.disk_model.specs.Platter.{Platter, Step, write, sync, fresh, take_step, IsImage}
+use Rattle.disk_model.specs.Platter.{Platter, PlatterStep, write, sync, fresh_platter, take_step, IsImage}
 use Rattle.disk_model.specs.Stopping.{stopping_medium, stopping_state_of, platter_within}
 use Rattle.disk_model.specs.StoppingState.{StoppingState, and_stop, stop_effect, stop_effects}
 use Rattle.disk_model.specs.declared.disk.Disked.{Disked}
@@ -95,7 +95,7 @@ record Begins (head : List ℕ) (m : Platter) : Type 0 where
   pub same : (c : List ℕ) → IsImage m c → (i : ℕ) → i < 8 → get_or c i 0 ≡ get_or head i 0
   pub now : IsImage m m.now
 
-begins_step : (head : List ℕ) (m : Platter) (s : Step) (effect : Effect) → IsEffect s effect → TakeEffectBehind (effect ∷ []) → Begins head m → Begins head (take_step m s)
+begins_step : (head : List ℕ) (m : Platter) (s : PlatterStep) (effect : Effect) → IsEffect s effect → TakeEffectBehind (effect ∷ []) → Begins head m → Begins head (take_step m s)
 begins_step head m (write place bytes) (write_of at len byte) is behind b =
     let far : 8 ≤ place = omega (arith, behind.0, is.0) in
     record {
@@ -144,7 +144,7 @@ second_left book d e rows calls stands went behind c now =
     let old : Begins image (platter_within d) = record {
       long = λ x is. subst (λ (y : List ℕ). 8 ≤ length y) (just x is) image_long;
       same = λ x is i lt. ap (λ (y : List ℕ). get_or y i 0) (sym (just x is));
-      now = steps_image (fresh d.disk.first.items) (steps_on d.disk) (fresh_image d.disk.first.items);
+      now = steps_image (fresh_platter d.disk.first.items) (steps_on d.disk) (fresh_image d.disk.first.items);
     } in
     let new = begins_after image (platter_within d) (platter_within e) (stop_effects (Some (stopping_state_of d)) calls) (effects_behind (Some (stopping_state_of d)) calls behind) went.platter old in
     not_first c (stand_same 0 (codes "DVARCH01") c image (λ p low high. new.same c (image_of e c now) p high) ∙ begins)

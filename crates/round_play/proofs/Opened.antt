@@ -3,7 +3,7 @@ use Rattle.std.proofs.Common.{◌≡◌, inl, inr, ℕ, ◌+◌, ◌-◌, ◌<�
 use Rattle.std.specs.Prelude.{nat_lt, ◌&&◌, ◌||◌}
 use Rattle.std.proofs.lemmas.Bool.Decides.{nat_tests}
 use Rattle.causes.specs.Told.{WhereTold, map_told}
-use Rattle.disk_model.specs.Disk.{IsDurable, Stays, Begins, written}
+use Rattle.disk_model.specs.Disk.{IsDurable, Stays, BeginsChanges, written}
 use Rattle.disk_model.specs.DiskState.{Limits}
 use Rattle.disk_model.specs.ImageLaws.{length-written}
 use Rattle.disk_model.specs.Stopping.{stopping_medium, stopping_state_of, platter_within}
@@ -26,12 +26,12 @@ use Rattle.weather_book.specs.Book as book_words
 use Rattle.weather_book.specs.declared.book.Book.{Book}
 use Rattle.settings_file.specs.StationSettings.{StationSettings}
 use Rattle.gated_log.specs.Layout.{empty_size}
-use Rattle.station_session.specs.Session.{book_of, settings_of}
+use Rattle.station_session.specs.Session.{book_of, session_settings}
 use Rattle.station_session.specs.declared.session.Session.{Session}
 use Rattle.station_replay.specs.Keeping.{Archive}
-use Rattle.station_replay.specs.Replay.{made_ready, stops_opening}
-use Rattle.station_replay.specs.Stopped.{Rests}
-use Rattle.round_play.specs.Opening.{IsOpened, limits_of}
+use Rattle.station_replay.specs.Replay.{archive_made_ready, stops_opening}
+use Rattle.station_replay.specs.Stopped.{DiskRests}
+use Rattle.round_play.specs.Opening.{IsOpened, stopping_limits}
 use Rattle.round_play.specs.Resting.{AtRest, HasLeft}
 use Rattle.round_play.proofs.Beginning.{Starts, is_armed, went_well}
 use Rattle.round_play.proofs.Changing.{limits_stay}
@@ -114,10 +114,10 @@ pub record Opens (k : ℕ) (a : Archive) (d e : Stopping MemDisk) : Type 0 where
   pub moments : stopping_medium.moment e ≡ stopping_medium.moment d + changes
   pub changes_are : changes ≡ (if nat_lt empty_size a.size then 1 else 3)
   pub unreached : stops_opening k a.size ≡ false
-  pub limits : limits_of e ≡ limits_of d
+  pub limits : stopping_limits e ≡ stopping_limits d
 
 module _ (k pick openings : ℕ) (a : Archive) (d e : Stopping MemDisk) (r : Starts k pick openings a d) (count : ℕ)
-    (begun : Begins stopping_medium 3 d e)
+    (begun : BeginsChanges stopping_medium 3 d e)
     (went : RecoveryCalls stopping_medium d e (stopping_medium.moment e - stopping_medium.moment d) count false)
     (moved : WhereTold (stopping_medium.seen d) (MovedToWrite (stopping_medium.moment d) (stopping_medium.moment e))) where
   went_changes : (n : ℕ) → 1 ≤ n → stopping_medium.moment e ≡ stopping_medium.moment d + n
@@ -131,7 +131,7 @@ module _ (k pick openings : ℕ) (a : Archive) (d e : Stopping MemDisk) (r : Sta
   opens = elim (le_or_gt (length r.image) empty_size) [
     | inl short ↦
         let is = (moved r.image r.seen).made short in
-        let passed = made_anew (stopping_state_of d) (stopping_state_of e) a.size k pick (limits_of d).capacity (is_armed k pick openings a d r) (went_changes 3 (omega arith) is) in
+        let passed = made_anew (stopping_state_of d) (stopping_state_of e) a.size k pick (stopping_limits d).capacity (is_armed k pick openings a d r) (went_changes 3 (omega arith) is) in
         let small : nat_lt empty_size a.size ≡ false = (let le : a.size ≤ empty_size = omega (arith, r.length_is, short) in grind (arith, nat_tests, le)) in
         record {
           changes = 3;
@@ -145,7 +145,7 @@ module _ (k pick openings : ℕ) (a : Archive) (d e : Stopping MemDisk) (r : Sta
     | inr long ↦
         let is = (moved r.image r.seen).kept long in
         let gt : empty_size < a.size = omega (arith, r.length_is, long) in
-        let passed = synced_once (stopping_state_of d) (stopping_state_of e) a.size k pick (limits_of d).capacity (is_armed k pick openings a d r) (went_changes 1 (omega arith) is) in
+        let passed = synced_once (stopping_state_of d) (stopping_state_of e) a.size k pick (stopping_limits d).capacity (is_armed k pick openings a d r) (went_changes 1 (omega arith) is) in
         let large : nat_lt empty_size a.size ≡ true = grind (arith, nat_tests, gt) in
         let size : a.size ≡ max a.size empty_size = omega (arith, gt) in
         record {
@@ -183,7 +183,7 @@ module _ (k pick openings : ℕ) (a : Archive) (d e : Stopping MemDisk) (r : Sta
         (remade r.image) (stopping_medium.since e (stopping_medium.moment d + 1) (stopping_medium.moment e) (remade r.image) (omega (arith, o.moments, o.some))
         (stopping_medium.reads_image e (remade r.image) reads_then))
 
-    rests_now : Rests (made_ready a) (stopping_state_of f) (stopping_medium.moment f)
+    rests_now : DiskRests (archive_made_ready a) (stopping_state_of f) (stopping_medium.moment f)
     rests_now =
         let o = opens in
         record {
@@ -194,21 +194,21 @@ module _ (k pick openings : ℕ) (a : Archive) (d e : Stopping MemDisk) (r : Sta
           changes_are = stays.at ∙ o.moments ∙ ap (λ (n : ℕ). n + o.changes) r.rests.changes_are ∙ ap (λ (n : ℕ). a.changes + n) o.changes_are;
         }
 
-    left_now : HasLeft (openings + 1) (made_ready a) (stopping_state_of f)
+    left_now : HasLeft (openings + 1) (archive_made_ready a) (stopping_state_of f)
     left_now =
         let o = opens in
         let changes : (stopping_state_of f).inner.changes ≡ (stopping_state_of e).inner.changes = ap (λ (s : StoppingState). s.inner.changes) state in
         let bytes : (stopping_state_of f).inner.bytes ≡ (stopping_state_of e).inner.bytes = ap (λ (s : StoppingState). s.inner.bytes) state in
-        let limits : limits_of f ≡ limits_of d = ap (λ (s : StoppingState). s.inner.limits) state ∙ o.limits in
-        let most_changes : (limits_of f).changes ≡ (limits_of d).changes = ap (λ (l : Limits). l.changes) limits in
-        let most_bytes : (limits_of f).bytes ≡ (limits_of d).bytes = ap (λ (l : Limits). l.bytes) limits in
-        let begun_then : (made_ready a).changes ≡ a.changes + o.changes = ap (λ (n : ℕ). a.changes + n) (sym o.changes_are) in
+        let limits : stopping_limits f ≡ stopping_limits d = ap (λ (s : StoppingState). s.inner.limits) state ∙ o.limits in
+        let most_changes : (stopping_limits f).changes ≡ (stopping_limits d).changes = ap (λ (l : Limits). l.changes) limits in
+        let most_bytes : (stopping_limits f).bytes ≡ (stopping_limits d).bytes = ap (λ (l : Limits). l.bytes) limits in
+        let begun_then : (archive_made_ready a).changes ≡ a.changes + o.changes = ap (λ (n : ℕ). a.changes + n) (sym o.changes_are) in
         record {
           changes = omega (arith, changes, most_changes, begun_then, o.passed.changes_are, r.left.changes);
           bytes = omega (arith, bytes, most_bytes, o.passed.bytes_are, r.left.bytes);
         }
 
-    pub at_rest : AtRest (openings + 1) (made_ready a) f
+    pub at_rest : AtRest (openings + 1) (archive_made_ready a) f
     at_rest =
         let there = stands_there in
         record {
@@ -226,15 +226,15 @@ module _ (k pick openings : ℕ) (a : Archive) (d e : Stopping MemDisk) (r : Sta
         }
 
     -- and a session of the book goes on over it
-    pub is_opened : (settings : StationSettings) (session : Session) → book_of session ≡ book → settings_of session ≡ settings
-        → (book_words.is_stale book ≡ false) × (book_words.most_of book ≡ settings.most) → IsOpened settings openings a session f
+    pub is_opened : (settings : StationSettings) (session : Session) → book_of session ≡ book → session_settings session ≡ settings
+        → (book_words.book_is_stale book ≡ false) × (book_words.most_rows_of book ≡ settings.most) → IsOpened settings openings a session f
     is_opened settings session same settings_are fresh = (
       at_rest,
       record {
         stands = subst (λ (b : Book). StandsOn stopping_medium b f a.rows) (sym same) stands_there;
         settings_are = settings_are;
-        most = ap book_words.most_of same ∙ fresh.1;
-        fresh = ap book_words.is_stale same ∙ fresh.0;
+        most = ap book_words.most_rows_of same ∙ fresh.1;
+        fresh = ap book_words.book_is_stale same ∙ fresh.0;
       },
     )
 

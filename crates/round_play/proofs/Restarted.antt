@@ -3,7 +3,7 @@ use Rattle.std.proofs.Common.{◌≡◌, inl, inr, ⊎_elim, ℕ, ◌+◌, ◌-�
 use Rattle.std.specs.Prelude.{nat_lt, ◌&&◌, ◌||◌}
 use Rattle.std.proofs.lemmas.Bool.Decides.{nat_tests}
 use Rattle.causes.specs.Told.{WhereTold}
-use Rattle.disk_model.specs.Disk.{IsDurable, LeavesJust, LeavesOnly, Begins}
+use Rattle.disk_model.specs.Disk.{IsDurable, LeavesJust, LeavesOnly, BeginsChanges}
 use Rattle.disk_model.specs.DiskState.{Limits}
 use Rattle.disk_model.specs.MemDisk.{steps_on}
 use Rattle.disk_model.specs.Picked.{picked_length}
@@ -23,9 +23,9 @@ use Rattle.weather_book.specs.Stands.{HasRows, NowHasRows}
 use Rattle.station_replay.specs.Schedule.{Stop}
 use Rattle.station_replay.specs.Keeping.{Archive}
 use Rattle.station_replay.specs.Replay.{cut_archive, stops_opening}
-use Rattle.station_replay.specs.Stopped.{Rests}
+use Rattle.station_replay.specs.Stopped.{DiskRests}
 use Rattle.station_replay.proofs.Room.{picked_between}
-use Rattle.round_play.specs.Opening.{limits_of}
+use Rattle.round_play.specs.Opening.{stopping_limits}
 use Rattle.round_play.specs.Resting.{AtRest, HasLeft}
 use Rattle.round_play.proofs.Beginning.{Starts, went_wrong, few, same_platter}
 use Rattle.round_play.proofs.Changing.{limits_stay}
@@ -67,7 +67,7 @@ module _ (k size : ℕ) where
 
 -- what a restart made of a disk that had stopped
 module _ (stop : Stop) (openings : ℕ) (a : Archive) (d e f : Stopping MemDisk) (r : Starts stop.change stop.pick openings a d) (count : ℕ) (failed : Bool)
-    (begun : Begins stopping_medium 3 d e)
+    (begun : BeginsChanges stopping_medium 3 d e)
     (went : RecoveryCalls stopping_medium d e (stopping_medium.moment e - stopping_medium.moment d) count failed) (bad : failed ≡ true)
     (one_change : WhereTold (stopping_medium.seen d) (λ c. empty_size < length c → stopping_medium.moment e ≡ stopping_medium.moment d + 1)) where
   wrong : (1 ≤ stopping_medium.moment e - stopping_medium.moment d)
@@ -133,7 +133,7 @@ module _ (stop : Stop) (openings : ℕ) (a : Archive) (d e f : Stopping MemDisk)
           ap version_of (sym same) ∙ r.second
     ]
 
-    rests_left : Rests (cut_archive stop a) (stopping_state_of f) (stopping_medium.moment f)
+    rests_left : DiskRests (cut_archive stop a) (stopping_state_of f) (stopping_medium.moment f)
     rests_left = record {
       goes = ap (λ (s : StoppingState). s.stopped) state;
       sure = ap (λ (s : StoppingState). s.inner.fails_at) state ∙ wrong.1.sure;
@@ -142,16 +142,16 @@ module _ (stop : Stop) (openings : ℕ) (a : Archive) (d e f : Stopping MemDisk)
       changes_are = omega (arith, moment, begun.0, r.rests.changes_are, wrong.1.at);
     }
 
-    limits_left : limits_of f ≡ limits_of d
+    limits_left : stopping_limits f ≡ stopping_limits d
     limits_left = ap (λ (s : StoppingState). s.inner.limits) state ∙ limits_stay went.calls (stopping_state_of d) (stopping_state_of e) went.by.state
 
     room_left : HasLeft (openings + 1) (cut_archive stop a) (stopping_state_of f)
     room_left =
-        let changes : (stopping_state_of f).inner.changes ≡ (limits_of e).changes = ap (λ (s : StoppingState). s.inner.changes) state in
-        let bytes : (stopping_state_of f).inner.bytes ≡ (limits_of e).bytes = ap (λ (s : StoppingState). s.inner.bytes) state in
-        let limits : limits_of f ≡ limits_of e = ap (λ (s : StoppingState). s.inner.limits) state in
-        let most_changes : (limits_of f).changes ≡ (limits_of e).changes = ap (λ (l : Limits). l.changes) limits in
-        let most_bytes : (limits_of f).bytes ≡ (limits_of e).bytes = ap (λ (l : Limits). l.bytes) limits in
+        let changes : (stopping_state_of f).inner.changes ≡ (stopping_limits e).changes = ap (λ (s : StoppingState). s.inner.changes) state in
+        let bytes : (stopping_state_of f).inner.bytes ≡ (stopping_limits e).bytes = ap (λ (s : StoppingState). s.inner.bytes) state in
+        let limits : stopping_limits f ≡ stopping_limits e = ap (λ (s : StoppingState). s.inner.limits) state in
+        let most_changes : (stopping_limits f).changes ≡ (stopping_limits e).changes = ap (λ (l : Limits). l.changes) limits in
+        let most_bytes : (stopping_limits f).bytes ≡ (stopping_limits e).bytes = ap (λ (l : Limits). l.bytes) limits in
         record { changes = omega (arith, changes, most_changes); bytes = omega (arith, bytes, most_bytes) }
 
     durable_left : IsDurable stopping_medium f

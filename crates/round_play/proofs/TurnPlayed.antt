@@ -6,31 +6,31 @@ use Rattle.disk_model.specs.declared.stopping.Stopping.{Stopping}
 use Rattle.serial_link.specs.declared.talk.TalkItem.{TalkItem}
 use Rattle.station_base.specs.CivilMinute.{CivilMinute}
 use Rattle.dmpaft_pump.specs.Keeper.{Handed, kept_all}
-use Rattle.weather_book.specs.Book.{last_of}
+use Rattle.weather_book.specs.Book.{last_stamp_of}
 use Rattle.station_session.specs.declared.round.Turn.{Turn}
 use Rattle.station_session.specs.declared.round.Turn.TheVariants as turn
 use Rattle.station_session.specs.declared.round_end.RoundEnd.{RoundEnd}
 use Rattle.station_session.specs.Holding.{Holding, holding}
 use Rattle.station_session.specs.OneBatch.{AddsBatch, Chain}
-use Rattle.station_session.specs.Session.{settings_of}
-use Rattle.station_session.specs.Turning.{AnswersTurn, Desk, IsOneAtMost, IsOneCallOrBatch, LeavesTurn, TakesTurn, desk}
+use Rattle.station_session.specs.Session.{session_settings}
+use Rattle.station_session.specs.Turning.{AnswersTurn, RoundDesk, IsOneAtMost, IsOneCallOrBatch, LeavesTurn, RoundTakesTurn, round_desk}
 use Rattle.station_session.specs.UnderWay.{GoesOnFrom}
 use Rattle.station_session.proofs.LastTurn.{makes_round}
 use Rattle.schedule_file.specs.declared.fates.Fates as code_fates
 use Rattle.station_sim.specs.declared.sim.Sim.{Sim}
-use Rattle.station_sim.specs.Telling.{told}
+use Rattle.station_sim.specs.Telling.{sim_traffic}
 use Rattle.station_replay.specs.Schedule.{Stop}
 use Rattle.round_play.specs.declared.playing.Playing.{Playing}
-use Rattle.round_play.specs.Played.{Host}
+use Rattle.round_play.specs.Played.{PlayedHost}
 use Rattle.round_play.specs.Restarting.{IsBegunAgain, IsDisarmed}
-use Rattle.round_play.specs.Playing.{IsOver, IsStill, IsUnderWay, MakesOneCall, SaysOrStores}
+use Rattle.round_play.specs.Playing.{RoundIsOver, IsStill, RoundIsUnderWay, MakesOneCall, SaysOrStores}
 
-abbrev pub desk_of : Playing → Sim → Stopping MemDisk → Desk Sim (Stopping MemDisk)
-desk_of playing line disk = desk playing.session line disk playing.round playing.report
+abbrev pub desk_of : Playing → Sim → Stopping MemDisk → RoundDesk Sim (Stopping MemDisk)
+desk_of playing line disk = round_desk playing.session line disk playing.round playing.report
 
 -- it goes on
-pub goes_on : (fates : code_fates.Fates) (stop : Option Stop) (old : Host) (playing now : Playing) (line line' : Sim) (disk disk' : Stopping MemDisk) (u : IsUnderWay fates stop old playing line disk)
-    → GoesOnFrom told stopping_medium turn.More u.began u.talk u.kept (desk_of now line' disk') → IsUnderWay fates stop old now line' disk'
+pub goes_on : (fates : code_fates.Fates) (stop : Option Stop) (old : PlayedHost) (playing now : Playing) (line line' : Sim) (disk disk' : Stopping MemDisk) (u : RoundIsUnderWay fates stop old playing line disk)
+    → GoesOnFrom sim_traffic stopping_medium turn.More u.began u.talk u.kept (desk_of now line' disk') → RoundIsUnderWay fates stop old now line' disk'
 goes_on fates stop old playing now line line' disk disk' u g = record {
   began = u.began;
   begins = u.begins;
@@ -40,11 +40,11 @@ goes_on fates stop old playing now line line' disk disk' u g = record {
 }
 
 -- it is over
-pub is_over : (fates : code_fates.Fates) (stop : Option Stop) (old : Host) (end : RoundEnd) (playing now : Playing) (line line' : Sim) (disk disk' : Stopping MemDisk) (u : IsUnderWay fates stop old playing line disk)
-    → TakesTurn told stopping_medium (turn.Ended end) (last_of u.began.session.book) u.talk u.kept (desk_of playing line disk) (desk_of now line' disk')
-    → AnswersTurn told stopping_medium (turn.Ended end) (desk_of playing line disk) (desk_of now line' disk')
+pub is_over : (fates : code_fates.Fates) (stop : Option Stop) (old : PlayedHost) (end : RoundEnd) (playing now : Playing) (line line' : Sim) (disk disk' : Stopping MemDisk) (u : RoundIsUnderWay fates stop old playing line disk)
+    → RoundTakesTurn sim_traffic stopping_medium (turn.Ended end) (last_stamp_of u.began.session.book) u.talk u.kept (desk_of playing line disk) (desk_of now line' disk')
+    → AnswersTurn sim_traffic stopping_medium (turn.Ended end) (desk_of playing line disk) (desk_of now line' disk')
     → LeavesTurn stopping_medium (turn.Ended end) (desk_of playing line disk) (desk_of now line' disk')
-    → IsOver fates stop old end now.session now.report line' disk'
+    → RoundIsOver fates stop old end now.session now.report line' disk'
 is_over fates stop old end playing now line line' disk disk' u t a l = record {
   began = u.began;
   begins = u.begins;
@@ -53,14 +53,14 @@ is_over fates stop old end playing now line line' disk disk' u t a l = record {
 }
 
 -- what a turn said and heard, and that a turn without a batch begins no change
-talk_grew : (r : Turn) (last : Option CivilMinute) (talk : List TalkItem) (kept : List (List (List ℕ))) (playing now : Playing) (line line' : Sim) (disk disk' : Stopping MemDisk) (t : TakesTurn told stopping_medium r last talk kept (desk_of playing line disk) (desk_of now line' disk'))
+talk_grew : (r : Turn) (last : Option CivilMinute) (talk : List TalkItem) (kept : List (List (List ℕ))) (playing now : Playing) (line line' : Sim) (disk disk' : Stopping MemDisk) (t : RoundTakesTurn sim_traffic stopping_medium r last talk kept (desk_of playing line disk) (desk_of now line' disk'))
     → line'.talk.items ≡ line.talk.items ++ t.said
 talk_grew r last talk kept playing now line line' disk disk' t = let e : Some line'.talk.items ≡ Some (line.talk.items ++ t.said) = t.adds.told in cc
 
-disk_still : (r : Turn) (last : Option CivilMinute) (talk : List TalkItem) (kept : List (List (List ℕ))) (playing now : Playing) (line line' : Sim) (disk disk' : Stopping MemDisk) (t : TakesTurn told stopping_medium r last talk kept (desk_of playing line disk) (desk_of now line' disk'))
+disk_still : (r : Turn) (last : Option CivilMinute) (talk : List TalkItem) (kept : List (List (List ℕ))) (playing now : Playing) (line line' : Sim) (disk disk' : Stopping MemDisk) (t : RoundTakesTurn sim_traffic stopping_medium r last talk kept (desk_of playing line disk) (desk_of now line' disk'))
     → t.given ≡ Handed.Nothing → stopping_medium.moment disk' ≡ stopping_medium.moment disk
 disk_still r last talk kept playing now line line' disk disk' t none =
-    let whole = subst (λ (g : Handed). Chain (AddsBatch stopping_medium (settings_of playing.session)) (holding playing.session.book disk playing.report.marks.items) g (holding now.session.book disk' now.report.marks.items)) none t.chain in
+    let whole = subst (λ (g : Handed). Chain (AddsBatch stopping_medium (session_settings playing.session)) (holding playing.session.book disk playing.report.marks.items) g (holding now.session.book disk' now.report.marks.items)) none t.chain in
     ap (λ (h : Holding (Stopping MemDisk)). stopping_medium.moment h.disk) whole
 
 silent_talk : (line line' : Sim) (said : List TalkItem) → line'.talk.items ≡ line.talk.items ++ said → said ≡ [] → line'.talk.items ≡ line.talk.items
@@ -68,7 +68,7 @@ silent_talk line line' said grew silent = grew ∙ ap (λ z. line.talk.items ++ 
 
 -- one call of the link or of the disk was made
 pub one_call : (last : Option CivilMinute) (talk : List TalkItem) (kept : List (List (List ℕ))) (playing now : Playing) (line line' : Sim) (disk disk' : Stopping MemDisk)
-    → TakesTurn told stopping_medium turn.More last talk kept (desk_of playing line disk) (desk_of now line' disk') → MakesOneCall line disk line' disk'
+    → RoundTakesTurn sim_traffic stopping_medium turn.More last talk kept (desk_of playing line disk) (desk_of now line' disk') → MakesOneCall line disk line' disk'
 one_call last talk kept playing now line line' disk disk' t = by t.stands.3
   where
     grew : line'.talk.items ≡ line.talk.items ++ t.said
@@ -80,7 +80,7 @@ one_call last talk kept playing now line line' disk disk' t = by t.stands.3
 
 -- a turn says or hears, or stores a batch, and not both
 pub says_or_stores : (r : Turn) (last : Option CivilMinute) (talk : List TalkItem) (kept : List (List (List ℕ))) (playing now : Playing) (line line' : Sim) (disk disk' : Stopping MemDisk)
-    → TakesTurn told stopping_medium r last talk kept (desk_of playing line disk) (desk_of now line' disk') → SaysOrStores line disk line' disk'
+    → RoundTakesTurn sim_traffic stopping_medium r last talk kept (desk_of playing line disk) (desk_of now line' disk') → SaysOrStores line disk line' disk'
 says_or_stores turn.More last talk kept playing now line line' disk disk' t = by t.stands.3
   where
     by : IsOneCallOrBatch t.said t.stands.0 → SaysOrStores line disk line' disk'

@@ -11,28 +11,28 @@ use Rattle.gated_log.specs.Layout.{empty_size}
 use Rattle.station_session.specs.declared.session.Session.{Session}
 use Rattle.station_replay.specs.Schedule.{Stop}
 use Rattle.station_replay.specs.Keeping.{Archive}
-use Rattle.station_replay.specs.Replay.{made_ready, cut_archive}
-use Rattle.round_play.specs.Resting.{AtRest, GoesOn}
+use Rattle.station_replay.specs.Replay.{archive_made_ready, cut_archive}
+use Rattle.round_play.specs.Resting.{AtRest, SessionGoesOn}
 
 -- what the disk was made with
-abbrev pub limits_of : Stopping MemDisk → Limits
-limits_of disk = (stopping_state_of disk).inner.limits
+abbrev pub stopping_limits : Stopping MemDisk → Limits
+stopping_limits disk = (stopping_state_of disk).inner.limits
 
 -- The disk has room for an opening: three changes at most, which write an archive without slots.
 pub record CanOpen (disk : Stopping MemDisk) : Type 0 where
-  pub capacity : empty_size ≤ (limits_of disk).capacity
+  pub capacity : empty_size ≤ (stopping_limits disk).capacity
   pub changes : 3 ≤ (stopping_state_of disk).inner.changes
   pub bytes : empty_size ≤ (stopping_state_of disk).inner.bytes
   pub moments : MayBegin stopping_medium 3 disk
 
 -- it is at rest with some archive, which can be opened
-abbrev pub IsReady : Stopping MemDisk → Type 0
-IsReady disk = (openings : ℕ) × (a : Archive) × AtRest openings a disk × CanOpen disk
+abbrev pub DiskIsReady : Stopping MemDisk → Type 0
+DiskIsReady disk = (openings : ℕ) × (a : Archive) × AtRest openings a disk × CanOpen disk
 
 -- the archive was opened: so many openings were made before, and the session goes on
 abbrev pub IsOpened : StationSettings → ℕ → Archive → Session → Stopping MemDisk → Type 0
 IsOpened settings openings a session disk =
-    AtRest (openings + 1) (made_ready a) disk × GoesOn settings a.rows session disk
+    AtRest (openings + 1) (archive_made_ready a) disk × SessionGoesOn settings a.rows session disk
 
 -- the same, if there is a session
 abbrev pub HasOpened : StationSettings → ℕ → Archive → Option Session → Stopping MemDisk → Type 0

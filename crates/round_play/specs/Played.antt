@@ -4,7 +4,7 @@ use Rattle.std.specs.declared.option.Option.{Option}
 use Rattle.settings_file.specs.StationSettings.{StationSettings}
 use Rattle.disk_model.specs.declared.mem_disk.MemDisk.{MemDisk}
 use Rattle.disk_model.specs.declared.stopping.Stopping.{Stopping}
-use Rattle.packed_rows.specs.Rising.{last_stamp}
+use Rattle.packed_rows.specs.Rising.{last_row_stamp}
 use Rattle.station_session.specs.declared.round_end.RoundEnd.{RoundEnd}
 use Rattle.station_session.specs.declared.round_end.RoundEnd.TheVariants as round_end
 use Rattle.station_session.specs.declared.session.Session.{Session}
@@ -16,68 +16,68 @@ use Rattle.station_sim.specs.declared.sim.Sim.{Sim}
 use Rattle.station_sim.specs.declared.unseen.Unseen.{Unseen}
 use Rattle.schedule_file.specs.Fates.{Fates}
 use Rattle.station_sim.specs.Line.{Line}
-use Rattle.station_sim.specs.Standing.{StandsFor}
+use Rattle.station_sim.specs.Standing.{SimStandsFor}
 use Rattle.station_sim.specs.Talk.{ConsoleTalk, started}
 use Rattle.station_replay.specs.Keeping.{Archive}
 use Rattle.station_replay.specs.Schedule.{Stop}
 use Rattle.station_replay.specs.Replay.{Item, Rounded, Stage, IsRound, IsBroken, is_stop}
 use Rattle.station_replay.specs.Room.{AreFew}
-use Rattle.station_replay.specs.Session.{EndsAs, given_in}
+use Rattle.station_replay.specs.Session.{RoundEndsAs, given_in}
 use Rattle.station_replay.specs.Round.{tried_of}
 use Rattle.round_play.specs.declared.playing.Played.{Played}
-use Rattle.round_play.specs.Opening.{limits_of}
-use Rattle.round_play.specs.Resting.{AtRest, GoesOn, IsRoomFor}
+use Rattle.round_play.specs.Opening.{stopping_limits}
+use Rattle.round_play.specs.Resting.{AtRest, SessionGoesOn, IsRoomFor}
 
 -- a session with the line and the disk of a run
-abbrev pub Host : Type 0
-Host = RoundHost Sim (Stopping MemDisk)
+abbrev pub PlayedHost : Type 0
+PlayedHost = RoundHost Sim (Stopping MemDisk)
 
 -- Whatever the attempts of a round behind this archive, no delivery being unseen, where neither the link nor want of
 -- memory ended it: it does not flood, and with all that it was given there would be no more rows than records.
-abbrev pub IsCounted : ℕ → StationSettings → Fates → Stage → Type 0
-IsCounted records settings f s =
-    (v : Line) (ts : List Tried) (end : RoundEnd) → Attempts 0 (last_stamp s.archive.rows) ts end
+abbrev pub RoundIsCounted : ℕ → StationSettings → Fates → Stage → Type 0
+RoundIsCounted records settings f s =
+    (v : Line) (ts : List Tried) (end : RoundEnd) → Attempts 0 (last_row_stamp s.archive.rows) ts end
     → Fit settings.most (length s.archive.rows) (given_in s.archive ts) → ConsoleTalk f (all_said ts) (started s.line) v
     → end ≢ round_end.LinkFault → end ≢ round_end.OutOfMemory → end ≢ round_end.Stale → v.unseen ≡ None
     → (end ≢ round_end.Flood) × AreFew records s.archive.rows (given_in s.archive ts)
 
 -- A session, a line and a disk stand where a run of so many records stands before a round, so many openings made.
-pub record MayPlay (records : ℕ) (settings : StationSettings) (f : Fates) (openings : ℕ) (s : Stage) (host : Host)
+pub record MayPlay (records : ℕ) (settings : StationSettings) (f : Fates) (openings : ℕ) (s : Stage) (host : PlayedHost)
     : Type 0 where
-  pub line : StandsFor host.link s.line
+  pub line : SimStandsFor host.link s.line
   pub disk : AtRest openings s.archive host.disk
-  pub session : GoesOn settings s.archive.rows host.session host.disk
-  pub room : IsRoomFor records (limits_of host.disk)
-  pub counted : IsCounted records settings f s
+  pub session : SessionGoesOn settings s.archive.rows host.session host.disk
+  pub room : IsRoomFor records (stopping_limits host.disk)
+  pub counted : RoundIsCounted records settings f s
   pub changes : s.archive.changes ≤ 4 * length s.archive.rows + 1396
   pub few : openings ≤ 201
 
 -- What is told of a round is what it was.
-pub record Tells (stop : Option Stop) (played : Played) (r : Rounded) : Type 0 where
+pub record PlayedTells (stop : Option Stop) (played : Played) (r : Rounded) : Type 0 where
   pub attempts : played.report.attempts ≡ length r.tried
   pub pages : played.report.tally.pages ≡ page_count (tried_of r.tried)
   pub skipped : played.report.tally.skipped ≡ skip_count (tried_of r.tried)
   pub acked_are : acked played.report ≡ length r.kept
   pub harmed : played.harmed ≡ r.harmed
-  pub ends : EndsAs stop played.end r.end
+  pub ends : RoundEndsAs stop played.end r.end
 
 -- A round without unseen delivery: what it was is told, and the line, the disk and the session stand where it leaves
 -- the run.
 pub record IsPlayedOut (settings : StationSettings) (f : Fates) (left : ℕ → List (List ℕ)) (stop : Option Stop)
-    (openings : ℕ) (s : Stage) (old : Host) (played : Played) (new : Host) : Type 0 where
+    (openings : ℕ) (s : Stage) (old : PlayedHost) (played : Played) (new : PlayedHost) : Type 0 where
   pub round : Rounded
   pub next : Stage
   pub is_round : IsRound settings f left stop s round next
-  pub tells : Tells stop played round
+  pub tells : PlayedTells stop played round
   pub said : new.link.talk.items ≡ old.link.talk.items ++ all_said (tried_of round.tried)
-  pub line : StandsFor new.link next.line
+  pub line : SimStandsFor new.link next.line
   pub disk : AtRest openings next.archive new.disk
-  pub limits : limits_of new.disk ≡ limits_of old.disk
-  pub session : is_stop round.end ≡ false → GoesOn settings next.archive.rows new.session new.disk
+  pub limits : stopping_limits new.disk ≡ stopping_limits old.disk
+  pub session : is_stop round.end ≡ false → SessionGoesOn settings next.archive.rows new.session new.disk
 
 -- by whether a delivery was unseen
-abbrev pub PlaysBy : Option Unseen → StationSettings → Fates → (ℕ → List (List ℕ)) → Option Stop → ℕ → Stage → Host
-    → Played → Host → Type 0
+abbrev pub PlaysBy : Option Unseen → StationSettings → Fates → (ℕ → List (List ℕ)) → Option Stop → ℕ → Stage → PlayedHost
+    → Played → PlayedHost → Type 0
 PlaysBy None settings f left stop openings s old played new =
     IsPlayedOut settings f left stop openings s old played new
 PlaysBy (Some which) settings f left stop openings s old played new =
@@ -87,10 +87,10 @@ PlaysBy (Some which) settings f left stop openings s old played new =
 -- its session goes on.
 pub record IsToldOf (settings : StationSettings) (openings : ℕ) (stop : Option Stop) (session : Session)
     (played : Played) (disk : Stopping MemDisk) (r : Rounded) (a : Archive) : Type 0 where
-  pub tells : Tells stop played r
+  pub tells : PlayedTells stop played r
   pub rests : AtRest openings a disk
   pub rows : a.rows ≡ r.rows
-  pub goes_on : is_stop r.end ≡ false → GoesOn settings r.rows session disk
+  pub goes_on : is_stop r.end ≡ false → SessionGoesOn settings r.rows session disk
 
 -- there is such a round
 abbrev pub IsTellable : Option Stop → Session → Played → Stopping MemDisk → Type 0

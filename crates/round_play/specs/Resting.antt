@@ -13,9 +13,9 @@ use Rattle.gated_log.specs.declared.version.Version.TheVariants.{Second}
 use Rattle.gated_log.specs.Layout.{empty_size, slot_size}
 use Rattle.weather_book.specs.Stands.{HasRows, NowHasRows, StandsOn}
 use Rattle.station_session.specs.declared.session.Session.{Session}
-use Rattle.station_session.specs.Session.{book_of, settings_of, most_of, is_stale}
-use Rattle.station_replay.specs.Keeping.{Archive, slots}
-use Rattle.station_replay.specs.Stopped.{Rests}
+use Rattle.station_session.specs.Session.{book_of, session_settings, session_most_rows, session_is_stale}
+use Rattle.station_replay.specs.Keeping.{Archive, slots_for_rows}
+use Rattle.station_replay.specs.Stopped.{DiskRests}
 
 -- The room that a run of so many records asks for.
 pub record IsRoomFor (records : ℕ) (limits : Limits) : Type 0 where
@@ -27,13 +27,13 @@ pub record IsRoomFor (records : ℕ) (limits : Limits) : Type 0 where
 -- its rows and at each opening.
 pub record HasLeft (openings : ℕ) (a : Archive) (s : StoppingState) : Type 0 where
   pub changes : s.inner.limits.changes ≤ s.inner.changes + a.changes
-  pub bytes : s.inner.limits.bytes ≤ s.inner.bytes + (slot_size * slots a.rows + length a.rows + 200 * openings)
+  pub bytes : s.inner.limits.bytes ≤ s.inner.bytes + (slot_size * slots_for_rows a.rows + length a.rows + 200 * openings)
 
 -- The disk is at rest, of the archive's length, with its rows in what it reads and in each image that a crash may
 -- leave, which is what it reads, in the second version. No stop is armed, and no call is to fail. So many openings
 -- were made.
 pub record AtRest (openings : ℕ) (a : Archive) (disk : Stopping MemDisk) : Type 0 where
-  pub rests : Rests a (stopping_state_of disk) (stopping_medium.moment disk)
+  pub rests : DiskRests a (stopping_state_of disk) (stopping_medium.moment disk)
   pub unarmed : (stopping_state_of disk).armed ≡ 0
   pub image : List ℕ
   pub seen : stopping_medium.seen disk ≡ Some image
@@ -46,9 +46,9 @@ pub record AtRest (openings : ℕ) (a : Archive) (disk : Stopping MemDisk) : Typ
   pub room : HasLeft openings a (stopping_state_of disk)
 
 -- A session of these settings that goes on over the disk, its book standing for these rows.
-pub record GoesOn (settings : StationSettings) (rows : List Row) (session : Session) (disk : Stopping MemDisk)
+pub record SessionGoesOn (settings : StationSettings) (rows : List Row) (session : Session) (disk : Stopping MemDisk)
     : Type 0 where
   pub stands : StandsOn stopping_medium (book_of session) disk rows
-  pub settings_are : settings_of session ≡ settings
-  pub most : most_of session ≡ settings.most
-  pub fresh : is_stale session ≡ false
+  pub settings_are : session_settings session ≡ settings
+  pub most : session_most_rows session ≡ settings.most
+  pub fresh : session_is_stale session ≡ false

@@ -1,7 +1,7 @@
 ghost use Rattle.std.specs.Prelude.{◌≡◌, ◌≤◌, ℕ, IfOk};
 ghost use Rattle.station_replay.specs.Keeping.{Archive};
 ghost use Rattle.station_replay.specs.Replay.{stops_opening};
-ghost use Rattle.round_play.specs.Opening.{IsReady, IsOpened, OpensBy, limits_of};
+ghost use Rattle.round_play.specs.Opening.{DiskIsReady, IsOpened, OpensBy, stopping_limits};
 ghost use Rattle.round_play.specs.Resting.{AtRest};
 ghost use Rattle.schedule_steps.specs.Stops.{stop_of};
 
@@ -20,10 +20,10 @@ pub fn recover(
     settings: &Settings,
     disk: &mut Stopping<MemDisk>,
 ) -> Result<Session, OutOfMemory>
-    requires ready { IsReady disk.old }
+    requires ready { DiskIsReady disk.old }
     ensures opened { IfOk result (λ session. (openings : ℕ) (a : Archive) → AtRest openings a disk.old
         → IsOpened settings.now openings a session disk.new) }
-    ensures limits { limits_of disk.new ≡ limits_of disk.old }
+    ensures limits { stopping_limits disk.new ≡ stopping_limits disk.old }
 {
     match Book::recover(alloc, disk, settings.most(), Purpose::Write) {
         BookStart::Book(book) => Ok(Session::new(book, *settings)),
@@ -45,10 +45,10 @@ pub fn recover_with_stop(
     disk: &mut Stopping<MemDisk>,
 ) -> Result<Option<Session>, OutOfMemory>
     requires stop { 1 ≤ stop.change }
-    requires ready { IsReady disk.old }
+    requires ready { DiskIsReady disk.old }
     ensures opened { IfOk result (λ session. (openings : ℕ) (a : Archive) → AtRest openings a disk.old
         → OpensBy (stops_opening stop.change a.size) settings.now (stop_of stop) openings a session disk.new) }
-    ensures limits { limits_of disk.new ≡ limits_of disk.old }
+    ensures limits { stopping_limits disk.new ≡ stopping_limits disk.old }
 {
     disk.arm(stop.change, stop.pick);
     match Book::recover(alloc, disk, settings.most(), Purpose::Write) {

@@ -3,18 +3,18 @@ ghost use Rattle.disk_model.specs.Disk.{MayBegin};
 ghost use Rattle.disk_model.specs.Stopping.{stopping_medium, stopping_state_of};
 ghost use Rattle.settings_file.specs.StationSettings.{StationSettings};
 ghost use Rattle.station_session.specs.Round.{round_host};
-ghost use Rattle.station_session.specs.RoundAt.{left};
-ghost use Rattle.station_session.specs.Session.{is_stale};
+ghost use Rattle.station_session.specs.RoundAt.{round_turns_left};
+ghost use Rattle.station_session.specs.Session.{session_is_stale};
 ghost use Rattle.station_session.specs.declared.limits.TheConstants.{MOST_CHANGES};
 ghost use Rattle.station_session.specs.declared.round_end.RoundEnd.{RoundEnd};
 ghost use Rattle.station_session.specs.declared.session.Session.{Session};
 ghost use Rattle.schedule_file.specs.declared.fates.Fates as code_fates;
-ghost use Rattle.schedule_file.specs.Lists.{fates_of, left_in, no_fates};
+ghost use Rattle.schedule_file.specs.Lists.{fates_of, records_left_in, no_fates};
 ghost use Rattle.station_replay.specs.Replay.{Stage};
 ghost use Rattle.station_replay.specs.Schedule.{Stop as RunStop};
 ghost use Rattle.station_replay.specs.Stopped.{IsStop};
-ghost use Rattle.round_play.specs.Played.{Host, MayPlay, PlaysBy};
-ghost use Rattle.round_play.specs.Playing.{IsOver, IsStill, IsUnderWay, MayGoOn};
+ghost use Rattle.round_play.specs.Played.{PlayedHost, MayPlay, PlaysBy};
+ghost use Rattle.round_play.specs.Playing.{RoundIsOver, IsStill, RoundIsUnderWay, MayGoOn};
 ghost use Rattle.schedule_steps.specs.Stops.{stop_set};
 
 use crate::resting::{arm, rest};
@@ -56,12 +56,13 @@ pub fn begin_play(
 ) -> Result<Playing, OutOfMemory>
     requires goes { (stopping_state_of disk.old).stopped ≡ false }
     requires stop { IsStop (stop_set stop) }
-    requires fresh { is_stale session ≡ false }
+    requires fresh { session_is_stale session ≡ false }
     requires room { MayBegin stopping_medium MOST_CHANGES disk.old }
-    ensures begins { IfOk result (λ playing. IsUnderWay fates.now (stop_set stop) (round_host session line.old disk.old)
+    ensures begins { IfOk result
+        (λ playing. RoundIsUnderWay fates.now (stop_set stop) (round_host session line.old disk.old)
         playing line.new disk.new) }
     ensures may { IfOk result (λ playing. MayGoOn playing disk.new) }
-    ensures left { IfOk result (λ playing. left playing.round < 2 ^ 32) }
+    ensures left { IfOk result (λ playing. round_turns_left playing.round < 2 ^ 32) }
     ensures stop_is { IfOk result (λ playing. playing.stop ≡ stop) }
     ensures still { OnOk result (IsStill line.old disk.old line.new disk.new) }
 {
@@ -87,14 +88,14 @@ impl Playing {
     pub fn turn(&mut self, line: &mut Sim, disk: &mut Stopping<MemDisk>) -> Turn
         requires may { MayGoOn self.old disk.old }
         ensures may { result ≡ Turn.More → MayGoOn self.new disk.new }
-        ensures more { result ≡ Turn.More → (fates : code_fates.Fates) (stop : Option RunStop) (old : Host)
-            → IsUnderWay fates stop old self.old line.old disk.old
-            → IsUnderWay fates stop old self.new line.new disk.new }
+        ensures more { result ≡ Turn.More → (fates : code_fates.Fates) (stop : Option RunStop) (old : PlayedHost)
+            → RoundIsUnderWay fates stop old self.old line.old disk.old
+            → RoundIsUnderWay fates stop old self.new line.new disk.new }
         ensures ended { (end : RoundEnd) → result ≡ Turn.Ended end
-            → (fates : code_fates.Fates) (stop : Option RunStop) (old : Host)
-            → IsUnderWay fates stop old self.old line.old disk.old
-            → IsOver fates stop old end self.new.session self.new.report line.new disk.new }
-        ensures left { result ≡ Turn.More → left self.new.round < left self.old.round }
+            → (fates : code_fates.Fates) (stop : Option RunStop) (old : PlayedHost)
+            → RoundIsUnderWay fates stop old self.old line.old disk.old
+            → RoundIsOver fates stop old end self.new.session self.new.report line.new disk.new }
+        ensures left { result ≡ Turn.More → round_turns_left self.new.round < round_turns_left self.old.round }
         ensures says_or_stores { SaysOrStores line.old disk.old line.new disk.new }
         ensures one_call { result ≡ Turn.More → MakesOneCall line.old disk.old line.new disk.new }
         ensures stop { self.new.stop ≡ self.old.stop }
@@ -113,10 +114,10 @@ pub fn end_play(
     disk: &mut Stopping<MemDisk>,
 ) -> Result<Played, OutOfMemory>
     ensures played { IfOk result (λ played. (records openings : ℕ) (settings : StationSettings) (s : Stage)
-        (fates : code_fates.Fates) (stop : Option RunStop) (old : Host) (session : Session)
-        → IsOver fates stop old end session report line.old disk.old
+        (fates : code_fates.Fates) (stop : Option RunStop) (old : PlayedHost) (session : Session)
+        → RoundIsOver fates stop old end session report line.old disk.old
         → MayPlay records settings (fates_of fates) openings s old
-        → PlaysBy played.unseen settings (fates_of fates) (left_in fates.mids.items) stop openings s
+        → PlaysBy played.unseen settings (fates_of fates) (records_left_in fates.mids.items) stop openings s
         old played (round_host session line.new disk.new)) }
     ensures fates { OnOk result (fates_of line.new.fates ≡ no_fates) }
     ensures is_still { OnOk result (IsStill line.old disk.old line.new disk.new) }

@@ -53,7 +53,8 @@ impl Member {
     // Takes one turn.
     pub(crate) fn turn(&mut self) -> ReplayTurn
         requires { MayTurn self.old.schedule.steps.items self.old.line self.old.disk self.old.run }
-        ensures { result ≡ ReplayTurn.More → MayTurn self.new.schedule.steps.items self.new.line self.new.disk self.new.run }
+        ensures { result ≡ ReplayTurn.More
+            → MayTurn self.new.schedule.steps.items self.new.line self.new.disk self.new.run }
     {
         self.run.turn(
             self.schedule.steps(),

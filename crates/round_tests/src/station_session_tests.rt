@@ -1,5 +1,5 @@
 ghost use Rattle.std.specs.Prelude.{◌≡◌, None, IfOk};
-ghost use Rattle.station_session.specs.Fits.{Fits};
+ghost use Rattle.station_session.specs.Fits.{RoundFits};
 
 use disk_model::{Disk, MemDisk, Stopping};
 use dmpaft_pump::Trouble;
@@ -117,7 +117,7 @@ struct UnderWay {
 
 // A round over what the words stand for, on a disk of its own.
 fn begun(rt: &impl Abort, alloc: Global, script: &str) -> Result<UnderWay, Fail>
-    ensures { IfOk result (λ way. Fits way.session way.round way.report) }
+    ensures { IfOk result (λ way. RoundFits way.session way.round way.report) }
 {
     let mut disk = MemDisk::new(alloc, 10_000, 50, 10_000)?;
     let mut session = open(rt, alloc, &mut disk, MOST)?;
@@ -137,8 +137,8 @@ fn begun(rt: &impl Abort, alloc: Global, script: &str) -> Result<UnderWay, Fail>
 
 // One turn, and the end if there is one.
 fn turned(rt: &impl Abort, way: &mut UnderWay) -> Option<RoundEnd>
-    requires { Fits way.old.session way.old.round way.old.report }
-    ensures { result ≡ None → Fits way.new.session way.new.round way.new.report }
+    requires { RoundFits way.old.session way.old.round way.old.report }
+    ensures { result ≡ None → RoundFits way.new.session way.new.round way.new.report }
 {
     assert!(rt; way.disk.moment() < 1_000);
     let turn = way.session.turn(
@@ -155,7 +155,7 @@ fn turned(rt: &impl Abort, way: &mut UnderWay) -> Option<RoundEnd>
 
 // The end of a round that takes all its turns.
 fn finished(rt: &impl Abort, way: &mut UnderWay) -> Result<RoundEnd, Fail>
-    requires { Fits way.old.session way.old.round way.old.report }
+    requires { RoundFits way.old.session way.old.round way.old.report }
 {
     for _ in 0..MOST_TURNS {
         if let Some(end) = turned(rt, way) {
@@ -171,8 +171,8 @@ fn in_turns(
     one: &mut UnderWay,
     other: &mut UnderWay,
 ) -> Result<(RoundEnd, RoundEnd), Fail>
-    requires one { Fits one.old.session one.old.round one.old.report }
-    requires other { Fits other.old.session other.old.round other.old.report }
+    requires one { RoundFits one.old.session one.old.round one.old.report }
+    requires other { RoundFits other.old.session other.old.round other.old.report }
 {
     for _ in 0..MOST_TURNS {
         if let Some(end) = turned(rt, one) {

@@ -11,7 +11,7 @@ use Rattle.byteorder.specs.Endian.{little_from, little_bytes, little_number}
 use Rattle.byteorder.specs.Numbers.{little_from-cons, little_from-lt, little_number-reads_back}
 use Rattle.causes.specs.Lists.{AreBytes}
 use Rattle.row_slot.specs.Slot.{row_size}
-use Rattle.row_slot.specs.Values.{number_in}
+use Rattle.row_slot.specs.Values.{signed_number_in}
 
 -- the bytes of a number from its second on are those of what is left of it above the first
 byte_above : (j x : ℕ) → byte_at (suc j) x ≡ byte_at j (x / 256)
@@ -43,7 +43,7 @@ bytes_again (suc n) (x ∷ xs) long fits =
     ∙ ap (λ (bs : List ℕ). x ∷ bs) more
 
 -- and so is a signed number of four bytes
-pub number_again : (xs : List ℕ) → 4 ≤ length xs → AreBytes xs → little_bytes 4 (cast_unsigned w32 (number_in xs)) ≡ take 4 xs
+pub number_again : (xs : List ℕ) → 4 ≤ length xs → AreBytes xs → little_bytes 4 (cast_unsigned w32 (signed_number_in xs)) ≡ take 4 xs
 number_again xs long fits =
     let small : little_number 4 xs < 2 ^ 32 = little_from-lt 0 4 xs fits in
     ap (little_bytes 4) (of_z-to_z w32 (little_number 4 xs) small) ∙ bytes_again 4 xs long fits
@@ -53,7 +53,7 @@ unsigned_small : (z : ℤ) → FitsSigned w32 z → cast_unsigned w32 z < 256 ^ 
 unsigned_small (pos n) fits = let small : n < 2 ^ 31 = fits.sfits in omega arith
 unsigned_small (negsuc n) fits = omega arith
 
-pub number_read : (z : ℤ) (rest : List ℕ) → FitsSigned w32 z → number_in (little_bytes 4 (cast_unsigned w32 z) ++ rest) ≡ z
+pub number_read : (z : ℤ) (rest : List ℕ) → FitsSigned w32 z → signed_number_in (little_bytes 4 (cast_unsigned w32 z) ++ rest) ≡ z
 number_read z rest fits =
     ap (cast_signed w32) (little_number-reads_back 4 (cast_unsigned w32 z) rest (unsigned_small z fits)) ∙ to_z-of_z w32 z fits
 

@@ -11,18 +11,18 @@ use Rattle.station_base.specs.FieldSet.{is_member, AreMissing}
 use Rattle.station_base.proofs.FieldSets.{missing_below, missing_free, missing_where}
 use Rattle.station_base.specs.Period.{is_period}
 use Rattle.station_base.specs.declared.row.Row.{Row}
-use Rattle.row_slot.specs.Values.{number_in, is_allowed, values_in}
-use Rattle.row_slot.specs.Slot.{number_at, is_marked, stamp_in, interval_in, limited_in, row_of, row_in}
+use Rattle.row_slot.specs.Values.{signed_number_in, is_allowed, slot_values_in}
+use Rattle.row_slot.specs.Slot.{number_at, is_marked, stamp_in_slot, interval_in, limited_in, row_of, row_in_slot}
 use Rattle.row_slot.specs.WellFormed.{IsWellFormed}
 use Rattle.row_slot.proofs.Fields.{AreFields, has_value, number_of, fields_of, some_at, some_read}
 use Rattle.row_slot.proofs.Slots.{AreMarks, AreParts, is_marked-marks, marks-is_marked, parts-row_in}
 
 -- the number of a field, by its place in the slot
-place_of : (slot : List ℕ) (field : ℕ) → number_of (drop 20 slot) field ≡ number_in (drop (20 + 4 * field) slot)
-place_of slot field = ap number_in (drop-drop (4 * field) 20 slot)
+place_of : (slot : List ℕ) (field : ℕ) → number_of (drop 20 slot) field ≡ signed_number_in (drop (20 + 4 * field) slot)
+place_of slot field = ap signed_number_in (drop-drop (4 * field) 20 slot)
 
 fields_in : (slot : List ℕ) → AreFields 37 (number_at 8 12 slot) (drop 20 slot) → (field : ℕ) → field < 37 →
-    is_allowed (has_value (number_at 8 12 slot) field) (number_in (drop (20 + 4 * field) slot)) ≡ true
+    is_allowed (has_value (number_at 8 12 slot) field) (signed_number_in (drop (20 + 4 * field) slot)) ≡ true
 fields_in slot are field within = ap (is_allowed (has_value (number_at 8 12 slot) field)) (sym (place_of slot field)) ∙ are.allowed field within
 
 not_one : (b : Bool) (bit : ℕ) → bit < 2 → (bit == 1) ≡ b → b ≡ false → bit ≡ 0
@@ -43,7 +43,7 @@ missing_in slot row parts field within member =
     none_of true false one free = refl
     none_of false b one free = absurd (false≢true one)
 
-read_formed : (slot : List ℕ) (row : Row) → row_in slot ≡ Some row → IsWellFormed slot
+read_formed : (slot : List ℕ) (row : Row) → row_in_slot slot ≡ Some row → IsWellFormed slot
 read_formed slot row is =
     let parts : AreParts slot row = parts-row_in slot row is in
     let marks : AreMarks slot = marks-is_marked slot parts.marked in
@@ -70,7 +70,7 @@ some_row true true (Some stamp) interval None limited m s p v l = absurd (false�
 some_row true true (Some stamp) interval (Some values) limited m s p v l = rw (l values refl) refl
 
 -- the values of a slot have none where limits made a field missing
-missing_of : (slot : List ℕ) → IsWellFormed slot → (values : List (Option ℤ)) → values_in 37 (number_at 8 12 slot) (drop 20 slot) ≡ Some values → AreMissing (limited_in slot) values
+missing_of : (slot : List ℕ) → IsWellFormed slot → (values : List (Option ℤ)) → slot_values_in 37 (number_at 8 12 slot) (drop 20 slot) ≡ Some values → AreMissing (limited_in slot) values
 missing_of slot is values read =
     missing_where (limited_in slot) values is.limited
     (λ field within. free (is_member (limited_in slot) field) (is_some (get_or values field None)) (λ member.
@@ -80,8 +80,8 @@ missing_of slot is values read =
     free true b none = rw (none refl) refl
     free false b none = refl
 
-formed_read : (slot : List ℕ) → IsWellFormed slot → IsSome (row_in slot)
-unfolding row_in
+formed_read : (slot : List ℕ) → IsWellFormed slot → IsSome (row_in_slot slot)
+unfolding row_in_slot
 formed_read slot is =
     let marks : AreMarks slot = record { kind = is.kind; gate = is.gate; batch = is.batch; spare = is.spare } in
     let fields : AreFields 37 (number_at 8 12 slot) (drop 20 slot) = record {
@@ -89,14 +89,14 @@ formed_read slot is =
       allowed = λ field within. ap (is_allowed (has_value (number_at 8 12 slot) field)) (place_of slot field) ∙ is.values field within;
     }
     in
-    some_row (is_marked slot) (is_period (interval_in slot)) (stamp_in slot) (interval_in slot) (values_in 37 (number_at 8 12 slot) (drop 20 slot)) (limited_in slot)
+    some_row (is_marked slot) (is_period (interval_in slot)) (stamp_in_slot slot) (interval_in slot) (slot_values_in 37 (number_at 8 12 slot) (drop 20 slot)) (limited_in slot)
     (is_marked-marks slot marks) is.stamp is.interval (some_read 37 (number_at 8 12 slot) (drop 20 slot) fields) (missing_of slot is)
 
 -- a slot is read as a row exactly where it is well-formed
-pub read_where_formed : (slot : List ℕ) (is_row : Bool) (row : Row) → row_in slot ≡ then_some is_row row → (is_row ≡ true) ↔ IsWellFormed slot
+pub read_where_formed : (slot : List ℕ) (is_row : Bool) (row : Row) → row_in_slot slot ≡ then_some is_row row → (is_row ≡ true) ↔ IsWellFormed slot
 read_where_formed slot true row is = (λ _. read_formed slot row is, λ _. refl)
 read_where_formed slot false row is = (λ e. absurd (false≢true e), λ formed. absurd (false≢true (sym (ap is_some is) ∙ formed_read slot formed)))
 
 -- the row that was read, where one was
-pub read_when : (slot : List ℕ) (is_row : Bool) (row : Row) → row_in slot ≡ then_some is_row row → is_row ≡ true → row_in slot ≡ Some row
+pub read_when : (slot : List ℕ) (is_row : Bool) (row : Row) → row_in_slot slot ≡ then_some is_row row → is_row ≡ true → row_in_slot slot ≡ Some row
 read_when slot is_row row is read = is ∙ ap (λ (b : Bool). then_some b row) read

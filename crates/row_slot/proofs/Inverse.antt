@@ -13,7 +13,7 @@ use Rattle.std.proofs.lemmas.List.Elements.{All-head, All-tail, All-nil, All-con
 use Rattle.station_base.specs.RowLine.{IsPrintable}
 use Rattle.station_base.proofs.Printable.{printable_some, printable_none}
 use Rattle.byteorder.specs.Endian.{little_bytes}
-use Rattle.row_slot.specs.Values.{bit_of, presence_of, numbers_of, spelled, number_in, is_allowed, before, at_end, values_in}
+use Rattle.row_slot.specs.Values.{bit_of, presence_of, numbers_of, spelled_numbers, signed_number_in, is_allowed, before, at_end, slot_values_in}
 use Rattle.causes.specs.Lists.{AreBytes}
 use Rattle.causes.proofs.Bytes.{bytes_behind}
 use Rattle.row_slot.proofs.Bytes.{number_again, number_read}
@@ -51,35 +51,35 @@ bit_first bit rest small = (omega arith, omega arith)
 
 -- one field more is read
 more_read : (count presence bit rest : ℕ) (bytes behind : List ℕ) (number : ℤ) (value : Option ℤ) (values : List (Option ℤ)) →
-    presence % 2 ≡ bit → presence / 2 ≡ rest → number_in bytes ≡ number → drop 4 bytes ≡ behind →
-    is_allowed (bit == 1) number ≡ true → then_some (bit == 1) number ≡ value → values_in count rest behind ≡ Some values →
-    values_in (suc count) presence bytes ≡ Some (value ∷ values)
-unfolding values_in
+    presence % 2 ≡ bit → presence / 2 ≡ rest → signed_number_in bytes ≡ number → drop 4 bytes ≡ behind →
+    is_allowed (bit == 1) number ≡ true → then_some (bit == 1) number ≡ value → slot_values_in count rest behind ≡ Some values →
+    slot_values_in (suc count) presence bytes ≡ Some (value ∷ values)
+unfolding slot_values_in
 more_read count presence bit rest bytes behind number value values low high read after allowed told others =
     rw (low, high, read, after, allowed, told, others) refl
 
 -- what is written of values is read as these values
 pub values_back : (values : List (Option ℤ)) (rest : List ℕ) → All IsPrintable values →
-    values_in (length values) (presence_of values) (spelled (numbers_of values) ++ rest) ≡ Some values
-unfolding values_in
+    slot_values_in (length values) (presence_of values) (spelled_numbers (numbers_of values) ++ rest) ≡ Some values
+unfolding slot_values_in
 values_back [] rest all = refl
 values_back (None ∷ values) rest all =
     let bits = bit_first 0 (presence_of values) (omega arith) in
-    let behind : List ℕ = spelled (numbers_of values) ++ rest in
-    more_read (length values) (presence_of (None ∷ values)) 0 (presence_of values) (spelled (numbers_of (None ∷ values)) ++ rest) behind (pos 0) None values
+    let behind : List ℕ = spelled_numbers (numbers_of values) ++ rest in
+    more_read (length values) (presence_of (None ∷ values)) 0 (presence_of values) (spelled_numbers (numbers_of (None ∷ values)) ++ rest) behind (pos 0) None values
     bits.0 bits.1 refl refl refl refl (values_back values rest (All-tail IsPrintable None values all))
 values_back (Some z ∷ values) rest all =
     let near : IsNear z = near_of z (All-head IsPrintable (Some z) values all) in
     let bits = bit_first 1 (presence_of values) (omega arith) in
-    let behind : List ℕ = spelled (numbers_of values) ++ rest in
-    more_read (length values) (presence_of (Some z ∷ values)) 1 (presence_of values) (spelled (numbers_of (Some z ∷ values)) ++ rest) behind z (Some z) values
+    let behind : List ℕ = spelled_numbers (numbers_of values) ++ rest in
+    more_read (length values) (presence_of (Some z ∷ values)) 1 (presence_of values) (spelled_numbers (numbers_of (Some z ∷ values)) ++ rest) behind z (Some z) values
     bits.0 bits.1 (number_read z behind (fits_of z near)) refl (allowed_of z near) refl (values_back values rest (All-tail IsPrintable (Some z) values all))
 
 -- what is read of bytes
 pub record AreTold (count presence : ℕ) (bytes : List ℕ) (values : List (Option ℤ)) : Type 0 where
   pub long : length values ≡ count
   pub bits : presence ≡ presence_of values
-  pub numbers : spelled (numbers_of values) ≡ take (4 * count) bytes
+  pub numbers : spelled_numbers (numbers_of values) ≡ take (4 * count) bytes
   pub printable : All IsPrintable values
 
 pub parts_of : (allowed : Bool) (value : Option ℤ) (others : Option (List (Option ℤ))) (values : List (Option ℤ)) → before allowed value others ≡ Some values →
@@ -115,18 +115,18 @@ none_told presence bytes values none empty = record {
 }
 
 one_told : (count presence : ℕ) (bytes : List ℕ) (values rest : List (Option ℤ)) → 4 * suc count ≤ length bytes → AreBytes bytes →
-    is_allowed (presence % 2 == 1) (number_in bytes) ≡ true → values ≡ then_some (presence % 2 == 1) (number_in bytes) ∷ rest →
+    is_allowed (presence % 2 == 1) (signed_number_in bytes) ≡ true → values ≡ then_some (presence % 2 == 1) (signed_number_in bytes) ∷ rest →
     AreTold count (presence / 2) (drop 4 bytes) rest → AreTold (suc count) presence bytes values
 one_told count presence bytes values rest long fits allowed is told =
-    let number : ℤ = number_in bytes in
+    let number : ℤ = signed_number_in bytes in
     let value : Option ℤ = then_some (presence % 2 == 1) number in
     let bit : bit_of value ≡ presence % 2 = bit_told (presence % 2) number (omega arith) in
     let same : unwrap_or value (pos 0) ≡ number = number_told (presence % 2 == 1) number allowed in
     let first : little_bytes 4 (cast_unsigned w32 (unwrap_or value (pos 0))) ≡ take 4 bytes =
     ap (λ (z : ℤ). little_bytes 4 (cast_unsigned w32 z)) same ∙ number_again bytes (omega arith) fits in
     let wide : 4 * suc count ≡ 4 + 4 * count = omega arith in
-    let whole : spelled (numbers_of (value ∷ rest)) ≡ take (4 * suc count) bytes =
-    ap (λ (xs : List ℕ). xs ++ spelled (numbers_of rest)) first ∙ ap (λ (xs : List ℕ). take 4 bytes ++ xs) told.numbers
+    let whole : spelled_numbers (numbers_of (value ∷ rest)) ≡ take (4 * suc count) bytes =
+    ap (λ (xs : List ℕ). xs ++ spelled_numbers (numbers_of rest)) first ∙ ap (λ (xs : List ℕ). take 4 bytes ++ xs) told.numbers
     ∙ sym (take-add 4 (4 * count) bytes) ∙ ap (λ (n : ℕ). take n bytes) (sym wide) in
     record {
       long = rw is (ap suc told.long);
@@ -137,14 +137,14 @@ one_told count presence bytes values rest long fits allowed is told =
 
 -- what is read of bytes is written as these bytes
 pub values_again : (count presence : ℕ) (bytes : List ℕ) (values : List (Option ℤ)) → 4 * count ≤ length bytes → AreBytes bytes →
-    values_in count presence bytes ≡ Some values → AreTold count presence bytes values
-unfolding values_in
+    slot_values_in count presence bytes ≡ Some values → AreTold count presence bytes values
+unfolding slot_values_in
 values_again zero presence bytes values long fits is =
     let parts = end_of (presence == 0) values is in
     none_told presence bytes values (eqb-true presence 0 parts.0) parts.1
 values_again (suc count) presence bytes values long fits is =
-    let number : ℤ = number_in bytes in
+    let number : ℤ = signed_number_in bytes in
     let value : Option ℤ = then_some (presence % 2 == 1) number in
-    let parts = parts_of (is_allowed (presence % 2 == 1) number) value (values_in count (presence / 2) (drop 4 bytes)) values is in
+    let parts = parts_of (is_allowed (presence % 2 == 1) number) value (slot_values_in count (presence / 2) (drop 4 bytes)) values is in
     one_told count presence bytes values parts.1.0 long fits parts.0 parts.1.1.1
     (values_again count (presence / 2) (drop 4 bytes) parts.1.0 (omega (arith, length-drop 4 bytes)) (bytes_behind 4 bytes fits) parts.1.1.0)

@@ -17,8 +17,8 @@ use Rattle.station_base.specs.declared.row.Row.{Row}
 use Rattle.station_base.proofs.FieldSets.{missing_below}
 use Rattle.station_base.proofs.Periods.{period_bound}
 use Rattle.station_base.proofs.Words.{stamp_of_words-of, words_of-stamp}
-use Rattle.row_slot.specs.Values.{presence_of, numbers_of, spelled, values_in}
-use Rattle.row_slot.specs.Slot.{slot_of, number_at, is_marked, stamp_in, interval_in, limited_in, row_of, row_in, row_size}
+use Rattle.row_slot.specs.Values.{presence_of, numbers_of, spelled_numbers, slot_values_in}
+use Rattle.row_slot.specs.Slot.{slot_of, number_at, is_marked, stamp_in_slot, interval_in, limited_in, row_of, row_in_slot, row_size}
 use Rattle.causes.specs.Lists.{AreBytes}
 use Rattle.causes.proofs.Bytes.{bytes_behind}
 use Rattle.row_slot.proofs.Bytes.{bytes_again}
@@ -33,21 +33,21 @@ pub record IsWritable (row : Row) : Type 0 where
   pub printable : All IsPrintable row.values
   pub missing : AreMissing row.limited row.values
 
-pub spelled_long : (values : List (Option ℤ)) → length (spelled (numbers_of values)) ≡ 4 * length values
+pub spelled_long : (values : List (Option ℤ)) → length (spelled_numbers (numbers_of values)) ≡ 4 * length values
 spelled_long [] = refl
 spelled_long (value ∷ values) = let rest = spelled_long values in omega (arith, rest)
 
 -- the day of a minute is below 32, as words tell it
-day_by : (date time : ℕ) (c : CivilMinute) (test : Bool) → cond test (Some (words.spelled date time)) None ≡ Some c → c.day ≡ date % 32
-day_by date time c true is = let same : words.spelled date time ≡ c = cc in sym (ap (λ (m : CivilMinute). m.day) same)
+day_by : (date time : ℕ) (c : CivilMinute) (test : Bool) → cond test (Some (words.spelled_stamp date time)) None ≡ Some c → c.day ≡ date % 32
+day_by date time c true is = let same : words.spelled_stamp date time ≡ c = cc in sym (ap (λ (m : CivilMinute). m.day) same)
 day_by date time c false is = cc
 
-spelled_by : (c : CivilMinute) → IsCivilMinute c → cond (is_civil_minute (words.spelled (date_word_of c) (time_word_of c))) (Some (words.spelled (date_word_of c) (time_word_of c))) None ≡ Some c
+spelled_by : (c : CivilMinute) → IsCivilMinute c → cond (is_civil_minute (words.spelled_stamp (date_word_of c) (time_word_of c))) (Some (words.spelled_stamp (date_word_of c) (time_word_of c))) None ≡ Some c
 unfolding stamp_of_words
 spelled_by c civil = stamp_of_words-of c civil
 
 date_small : (c : CivilMinute) → IsCivilMinute c → date_word_of c < 65536
-date_small c civil = let day = day_by (date_word_of c) (time_word_of c) c (is_civil_minute (words.spelled (date_word_of c) (time_word_of c))) (spelled_by c civil) in
+date_small c civil = let day = day_by (date_word_of c) (time_word_of c) c (is_civil_minute (words.spelled_stamp (date_word_of c) (time_word_of c))) (spelled_by c civil) in
     omega (arith, civil.year_from, civil.year_to, civil.month_to)
 
 time_small : (c : CivilMinute) → IsCivilMinute c → time_word_of c < 65536
@@ -94,8 +94,8 @@ marks-is_marked slot marked =
 rest_of : (row : Row) → length row.values ≡ 37 → drop 168 (slot_of row) ≡ little_bytes 8 row.limited
 unfolding slot_of
 rest_of row long =
-    let values : length (spelled (numbers_of row.values)) ≡ 148 = omega (arith, spelled_long row.values) in
-    ap (λ (n : ℕ). drop n (spelled (numbers_of row.values) ++ little_bytes 8 row.limited)) (sym values) ∙ drop-append_seam (spelled (numbers_of row.values)) (little_bytes 8 row.limited)
+    let values : length (spelled_numbers (numbers_of row.values)) ≡ 148 = omega (arith, spelled_long row.values) in
+    ap (λ (n : ℕ). drop n (spelled_numbers (numbers_of row.values) ++ little_bytes 8 row.limited)) (sym values) ∙ drop-append_seam (spelled_numbers (numbers_of row.values)) (little_bytes 8 row.limited)
 
 marks_written : (row : Row) → length row.values ≡ 37 → AreMarks (slot_of row)
 unfolding slot_of
@@ -105,7 +105,7 @@ limited_written : (row : Row) → length row.values ≡ 37 → row.limited < 2 ^
 limited_written row long below =
     ap (little_number 8) (rest_of row long ∙ sym (append-nil (little_bytes 8 row.limited))) ∙ little_number-reads_back 8 row.limited [] (omega arith)
 
-stamp_written : (row : Row) → IsCivilMinute row.stamp → stamp_in (slot_of row) ≡ Some row.stamp
+stamp_written : (row : Row) → IsCivilMinute row.stamp → stamp_in_slot (slot_of row) ≡ Some row.stamp
 unfolding slot_of
 stamp_written row civil =
     let date : number_at 2 4 (slot_of row) ≡ date_word_of row.stamp = little_number-reads_back 2 (date_word_of row.stamp) (drop 6 (slot_of row)) (date_small row.stamp civil) in
@@ -117,32 +117,32 @@ unfolding slot_of
 interval_written row period =
     little_number-reads_back 2 row.interval (drop 10 (slot_of row)) (omega (arith, period_bound row.interval period))
 
-values_written : (row : Row) → length row.values ≡ 37 → All IsPrintable row.values → values_in 37 (number_at 8 12 (slot_of row)) (drop 20 (slot_of row)) ≡ Some row.values
+values_written : (row : Row) → length row.values ≡ 37 → All IsPrintable row.values → slot_values_in 37 (number_at 8 12 (slot_of row)) (drop 20 (slot_of row)) ≡ Some row.values
 unfolding slot_of
 values_written row long printable =
     let below : presence_of row.values < 2 ^ 37 = subst (λ (n : ℕ). presence_of row.values < 2 ^ n) long (presence_below row.values) in
     let presence : number_at 8 12 (slot_of row) ≡ presence_of row.values = little_number-reads_back 8 (presence_of row.values) (drop 20 (slot_of row)) (omega arith) in
-    ap (λ (n : ℕ). values_in 37 n (drop 20 (slot_of row))) presence
-    ∙ ap (λ (n : ℕ). values_in n (presence_of row.values) (drop 20 (slot_of row))) (sym long)
+    ap (λ (n : ℕ). slot_values_in 37 n (drop 20 (slot_of row))) presence
+    ∙ ap (λ (n : ℕ). slot_values_in n (presence_of row.values) (drop 20 (slot_of row))) (sym long)
     ∙ values_back row.values (little_bytes 8 row.limited) printable
 
 -- what is written of a row is read as this row
-pub row_in-slot_of : (row : Row) → IsWritable row → row_in (slot_of row) ≡ Some row
-unfolding row_in
+pub row_in-slot_of : (row : Row) → IsWritable row → row_in_slot (slot_of row) ≡ Some row
+unfolding row_in_slot
 row_in-slot_of row is =
     let slot : List ℕ = slot_of row in
     let interval = interval_written row is.period in
-    parts_row (is_marked slot) (is_period (interval_in slot)) (stamp_in slot) (interval_in slot) (values_in 37 (number_at 8 12 slot) (drop 20 slot)) (limited_in slot) row
+    parts_row (is_marked slot) (is_period (interval_in slot)) (stamp_in_slot slot) (interval_in slot) (slot_values_in 37 (number_at 8 12 slot) (drop 20 slot)) (limited_in slot) row
     (is_marked-marks slot (marks_written row is.long)) (stamp_written row is.civil) (ap is_period interval ∙ is.period) interval
     (values_written row is.long is.printable) (limited_written row is.long (missing_below row.limited row.values is.missing)) is.missing
 
 -- the parts of a slot that is read as a row
 pub record AreParts (slot : List ℕ) (row : Row) : Type 0 where
   pub marked : is_marked slot ≡ true
-  pub stamp : stamp_in slot ≡ Some row.stamp
+  pub stamp : stamp_in_slot slot ≡ Some row.stamp
   pub period : is_period (interval_in slot) ≡ true
   pub interval : interval_in slot ≡ row.interval
-  pub values : values_in 37 (number_at 8 12 slot) (drop 20 slot) ≡ Some row.values
+  pub values : slot_values_in 37 (number_at 8 12 slot) (drop 20 slot) ≡ Some row.values
   pub limited : limited_in slot ≡ row.limited
   pub missing : AreMissing row.limited row.values
 
@@ -164,10 +164,10 @@ parts_by true true (Some stamp) interval (Some values) limited row is = go (are_
         let P : Row → Type 0 = λ r. AreMissing r.limited r.values in
         (refl, ap (λ (r : Row). Some r.stamp) same, refl, ap (λ (r : Row). r.interval) same, ap (λ (r : Row). Some r.values) same, ap (λ (r : Row). r.limited) same, subst P same are)
 
-pub parts-row_in : (slot : List ℕ) (row : Row) → row_in slot ≡ Some row → AreParts slot row
-unfolding row_in
+pub parts-row_in : (slot : List ℕ) (row : Row) → row_in_slot slot ≡ Some row → AreParts slot row
+unfolding row_in_slot
 parts-row_in slot row is =
-    let parts = parts_by (is_marked slot) (is_period (interval_in slot)) (stamp_in slot) (interval_in slot) (values_in 37 (number_at 8 12 slot) (drop 20 slot)) (limited_in slot) row is in
+    let parts = parts_by (is_marked slot) (is_period (interval_in slot)) (stamp_in_slot slot) (interval_in slot) (slot_values_in 37 (number_at 8 12 slot) (drop 20 slot)) (limited_in slot) row is in
     record { marked = parts.0; stamp = parts.1; period = parts.2; interval = parts.3; values = parts.4; limited = parts.5; missing = parts.6 }
 
 -- one part of a slot, and what stands behind it
@@ -187,7 +187,7 @@ chained : (slot d1 d2 d4 d6 d8 d10 d12 d20 d168 b2 b4 b6 b8 b10 b12 b20 b168 : L
 chained slot d1 d2 d4 d6 d8 d10 d12 d20 d168 b2 b4 b6 b8 b10 b12 b20 b168 e0 e1 e2 e4 e6 e8 e10 e12 e20 e168 = rw (e0, e1, e2, e4, e6, e8, e10, e12, e20, e168) refl
 
 -- what is read of a slot is written as this slot
-pub slot_of-row_in : (slot : List ℕ) (row : Row) → length slot ≡ row_size → AreBytes slot → row_in slot ≡ Some row → slot ≡ slot_of row
+pub slot_of-row_in : (slot : List ℕ) (row : Row) → length slot ≡ row_size → AreBytes slot → row_in_slot slot ≡ Some row → slot ≡ slot_of row
 unfolding slot_of
 slot_of-row_in slot row long fits is =
     let parts : AreParts slot row = parts-row_in slot row is in
@@ -195,13 +195,13 @@ slot_of-row_in slot row long fits is =
     let words = words_of-stamp (number_at 2 4 slot) (number_at 2 6 slot) row.stamp parts.stamp in
     let told : AreTold 37 (number_at 8 12 slot) (drop 20 slot) row.values =
     values_again 37 (number_at 8 12 slot) (drop 20 slot) row.values (omega (arith, length-drop 20 slot)) (bytes_behind 20 slot fits) parts.values in
-    let values : drop 20 slot ≡ spelled (numbers_of row.values) ++ drop 168 slot =
+    let values : drop 20 slot ≡ spelled_numbers (numbers_of row.values) ++ drop 168 slot =
     sym (take-append-drop 148 (drop 20 slot)) ∙ ap (λ (xs : List ℕ). xs ++ drop 148 (drop 20 slot)) (sym told.numbers)
-    ∙ ap (λ (xs : List ℕ). spelled (numbers_of row.values) ++ xs) (drop-drop 148 20 slot) in
+    ∙ ap (λ (xs : List ℕ). spelled_numbers (numbers_of row.values) ++ xs) (drop-drop 148 20 slot) in
     let none : drop row_size slot ≡ [] = drop_all row_size slot (omega (arith, long)) in
     chained slot (drop 1 slot) (drop 2 slot) (drop 4 slot) (drop 6 slot) (drop 8 slot) (drop 10 slot) (drop 12 slot) (drop 20 slot) (drop 168 slot)
     (little_bytes 2 0) (little_bytes 2 (date_word_of row.stamp)) (little_bytes 2 (time_word_of row.stamp)) (little_bytes 2 row.interval) (little_bytes 2 0)
-    (little_bytes 8 (presence_of row.values)) (spelled (numbers_of row.values)) (little_bytes 8 row.limited)
+    (little_bytes 8 (presence_of row.values)) (spelled_numbers (numbers_of row.values)) (little_bytes 8 row.limited)
     (byte_at_place 0 1 0 slot refl (omega arith) marks.gate)
     (byte_at_place 1 2 1 slot refl (omega arith) marks.kind)
     (part_at 2 2 4 0 slot refl (omega arith) fits marks.batch)
@@ -214,15 +214,15 @@ slot_of-row_in slot row long fits is =
     (part_at 8 168 row_size row.limited slot refl (omega arith) fits parts.limited ∙ ap (λ (xs : List ℕ). little_bytes 8 row.limited ++ xs) none)
 
 -- and its values are within the bound
-pub printable-row_in : (slot : List ℕ) (row : Row) → length slot ≡ row_size → AreBytes slot → row_in slot ≡ Some row → All IsPrintable row.values
+pub printable-row_in : (slot : List ℕ) (row : Row) → length slot ≡ row_size → AreBytes slot → row_in_slot slot ≡ Some row → All IsPrintable row.values
 printable-row_in slot row long fits is =
     let parts : AreParts slot row = parts-row_in slot row is in
     (values_again 37 (number_at 8 12 slot) (drop 20 slot) row.values (omega (arith, length-drop 20 slot)) (bytes_behind 20 slot fits) parts.values).printable
 
 -- and a field that limits made missing has none
-pub missing-row_in : (slot : List ℕ) (row : Row) → row_in slot ≡ Some row → AreMissing row.limited row.values
+pub missing-row_in : (slot : List ℕ) (row : Row) → row_in_slot slot ≡ Some row → AreMissing row.limited row.values
 missing-row_in slot row is = (parts-row_in slot row is).missing
 
 -- bytes that are the slot of a row are read as this row
-pub read_back : (slot : List ℕ) (row : Row) → IsWritable row → slot ≡ slot_of row → row_in slot ≡ Some row
-read_back slot row is same = ap row_in same ∙ row_in-slot_of row is
+pub read_back : (slot : List ℕ) (row : Row) → IsWritable row → slot ≡ slot_of row → row_in_slot slot ≡ Some row
+read_back slot row is same = ap row_in_slot same ∙ row_in-slot_of row is

@@ -8,7 +8,7 @@ use Rattle.station_base.specs.CivilMinute.{CivilMinute}
 use Rattle.station_base.specs.FieldSet.{are_missing}
 use Rattle.station_base.specs.Period.{is_period}
 use Rattle.station_base.specs.Stamp.{date_word_of, time_word_of, stamp_of_words}
-use Rattle.row_slot.specs.Values.{presence_of, numbers_of, spelled, values_in}
+use Rattle.row_slot.specs.Values.{presence_of, numbers_of, spelled_numbers, slot_values_in}
 
 -- the bytes of a row, which fill a slot of the archive's log
 abbrev pub row_size : ℕ
@@ -23,7 +23,7 @@ head_of row =
 
 -- the bytes of a row: the head, the number of each field, and the bits of those that limits made missing
 unfoldable pub slot_of : Row → List ℕ
-slot_of row = head_of row ++ (spelled (numbers_of row.values) ++ little_bytes 8 row.limited)
+slot_of row = head_of row ++ (spelled_numbers (numbers_of row.values) ++ little_bytes 8 row.limited)
 
 -- the number of so many bytes at a place, the low byte first
 abbrev pub number_at : ℕ → ℕ → List ℕ → ℕ
@@ -35,8 +35,8 @@ is_marked slot =
     (slice_index slot 1 == 1) && (slice_index slot 0 == 0) && (number_at 2 2 slot == 0) && (number_at 2 10 slot == 0)
 
 -- the stamp that the two words name, if they name one
-abbrev pub stamp_in : List ℕ → Option CivilMinute
-stamp_in slot = stamp_of_words (number_at 2 4 slot) (number_at 2 6 slot)
+abbrev pub stamp_in_slot : List ℕ → Option CivilMinute
+stamp_in_slot slot = stamp_of_words (number_at 2 4 slot) (number_at 2 6 slot)
 
 -- the minutes of the interval
 abbrev pub interval_in : List ℕ → ℕ
@@ -57,7 +57,7 @@ row_of true (Some stamp) true interval (Some values) limited =
     (record { stamp = stamp; interval = interval; values = values; limited = limited })
 
 -- the row of a slot, and none where it is ill-formed
-unfoldable pub row_in : List ℕ → Option Row
-row_in slot =
-    row_of (is_marked slot) (stamp_in slot) (is_period (interval_in slot)) (interval_in slot)
-    (values_in 37 (number_at 8 12 slot) (drop 20 slot)) (limited_in slot)
+unfoldable pub row_in_slot : List ℕ → Option Row
+row_in_slot slot =
+    row_of (is_marked slot) (stamp_in_slot slot) (is_period (interval_in slot)) (interval_in slot)
+    (slot_values_in 37 (number_at 8 12 slot) (drop 20 slot)) (limited_in slot)

@@ -22,12 +22,12 @@ abbrev pub numbers_of : List (Option ℤ) → List ℤ
 numbers_of values = map (λ value. unwrap_or value (pos 0)) values
 
 -- signed numbers of four bytes one behind the other, the low byte of each first
-abbrev pub spelled : List ℤ → List ℕ
-spelled numbers = flat_map (λ number. little_bytes 4 (cast_unsigned w32 number)) numbers
+abbrev pub spelled_numbers : List ℤ → List ℕ
+spelled_numbers numbers = flat_map (λ number. little_bytes 4 (cast_unsigned w32 number)) numbers
 
 -- the signed number of four bytes at the front
-abbrev pub number_in : List ℕ → ℤ
-number_in bytes = cast_signed w32 (little_number 4 bytes)
+abbrev pub signed_number_in : List ℕ → ℤ
+signed_number_in bytes = cast_signed w32 (little_number 4 bytes)
 
 -- a value lies within 2,000,000 either way, and where it is missing the number is 0
 abbrev pub is_allowed : Bool → ℤ → Bool
@@ -47,8 +47,8 @@ at_end false = None
 
 -- The values of so many fields, where each is allowed: the lowest bit of the presence tells of the first field, whose
 -- number is that of the first four bytes. No bit is left for further fields.
-unfoldable pub values_in : ℕ → ℕ → List ℕ → Option (List (Option ℤ))
-values_in zero presence bytes = at_end (presence == 0)
-values_in (suc count) presence bytes =
-    before (is_allowed (presence % 2 == 1) (number_in bytes)) (then_some (presence % 2 == 1) (number_in bytes))
-    (values_in count (presence / 2) (drop 4 bytes))
+unfoldable pub slot_values_in : ℕ → ℕ → List ℕ → Option (List (Option ℤ))
+slot_values_in zero presence bytes = at_end (presence == 0)
+slot_values_in (suc count) presence bytes =
+    before (is_allowed (presence % 2 == 1) (signed_number_in bytes)) (then_some (presence % 2 == 1) (signed_number_in bytes))
+    (slot_values_in count (presence / 2) (drop 4 bytes))

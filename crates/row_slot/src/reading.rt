@@ -2,7 +2,7 @@ ghost use Rattle.std.specs.Prelude.{◌≡◌, ◌+◌, ◌≤◌, ◌↔◌, Al
 ghost use Rattle.std.specs.Bool.{then_some};
 ghost use Rattle.station_base.specs.FieldSet.{AreMissing};
 ghost use Rattle.station_base.specs.RowLine.{IsPrintable};
-ghost use Rattle.row_slot.specs.Slot.{is_marked, number_at, row_in, slot_of};
+ghost use Rattle.row_slot.specs.Slot.{is_marked, number_at, row_in_slot, slot_of};
 ghost use Rattle.row_slot.specs.WellFormed.{IsWellFormed};
 
 use crate::layout::{BATCH, DATE, GATE, INTERVAL, KIND, ROW, ROW_SIZE, SPARE, TIME};
@@ -18,7 +18,7 @@ use station_base::{Period, Row, Stamp};
 /// made missing is none of the 37 or has a value. The gate and the number of slots are to be 0, as they are in a slot
 /// that is handed to a log.
 pub fn read_into(slot: &[u8; ROW_SIZE], row: &mut Row) -> bool
-    ensures row { row_in slot.now ≡ then_some result row.new }
+    ensures row { row_in_slot slot.now ≡ then_some result row.new }
     ensures well_formed { (result ≡ true) ↔ IsWellFormed slot.now }
     ensures printable { result ≡ true → All IsPrintable row.new.values }
     ensures limited { result ≡ true → AreMissing row.new.limited row.new.values }
@@ -28,9 +28,9 @@ pub fn read_into(slot: &[u8; ROW_SIZE], row: &mut Row) -> bool
 }
 
 // Reads each part of a slot into the row's, as far as the first that is ill-formed.
-#[tactic(auto, unfolding(crate::specs::Slot::row_in))]
+#[tactic(auto, unfolding(crate::specs::Slot::row_in_slot))]
 fn read_parts(slot: &[u8; ROW_SIZE], row: &mut Row) -> bool
-    ensures { row_in slot.now ≡ then_some result row.new }
+    ensures { row_in_slot slot.now ≡ then_some result row.new }
 {
     if !is_marked(slot) {
         return false;

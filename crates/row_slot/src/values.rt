@@ -2,7 +2,7 @@ ghost use Rattle.std.specs.Prelude.{◌≡◌, ◌+◌, ◌*◌, ◌<◌, drop, 
 ghost use Rattle.std.specs.Bool.{then_some};
 ghost use Rattle.station_base.specs.FieldSet.{are_missing};
 ghost use Rattle.row_slot.specs.Slot.{number_at};
-ghost use Rattle.row_slot.specs.Values.{is_allowed, number_in, numbers_of, presence_of, spelled, values_in};
+ghost use Rattle.row_slot.specs.Values.{is_allowed, signed_number_in, numbers_of, presence_of, spelled_numbers, slot_values_in};
 
 use crate::layout::{LIMITED, PRESENCE, ROW_SIZE, VALUES};
 use byteorder::{ByteOrder, LittleEndian};
@@ -26,7 +26,7 @@ pub fn presence_of(values: &[Option<i32>; FIELD_COUNT]) -> u64
 
 // The number of each field one behind the other, with 0 where a value is missing.
 pub fn spelled(values: &[Option<i32>; FIELD_COUNT]) -> [u8; LIMITED - VALUES]
-    ensures bytes { result ≡ spelled (numbers_of values.now) }
+    ensures bytes { result ≡ spelled_numbers (numbers_of values.now) }
     ensures fields { length values.now ≡ FIELD_COUNT }
 {
     let mut numbers = [0; FIELD_COUNT];
@@ -40,9 +40,9 @@ pub fn spelled(values: &[Option<i32>; FIELD_COUNT]) -> [u8; LIMITED - VALUES]
 
 // Reads the values of the fields into a row's. Whether each is allowed, and no bit is set for further fields; if not, what
 // was read means nothing.
-#[tactic(auto, unfolding(crate::specs::Values::values_in))]
+#[tactic(auto, unfolding(crate::specs::Values::slot_values_in))]
 pub fn read_values(slot: &[u8; ROW_SIZE], values: &mut [Option<i32>; FIELD_COUNT]) -> bool
-    ensures { values_in 37 (number_at 8 12 slot.now) (drop 20 slot.now) ≡ then_some result values.new }
+    ensures { slot_values_in 37 (number_at 8 12 slot.now) (drop 20 slot.now) ≡ then_some result values.new }
 {
     let presence = presence_in(slot);
     for field in 0..FIELD_COUNT {
@@ -86,7 +86,7 @@ fn presence_in(slot: &[u8; ROW_SIZE]) -> u64
 // The number of a field.
 fn number_of(slot: &[u8; ROW_SIZE], field: usize) -> i32
     requires { field < FIELD_COUNT }
-    ensures { result ≡ number_in (drop (20 + 4 * field) slot.now) }
+    ensures { result ≡ signed_number_in (drop (20 + 4 * field) slot.now) }
 {
     LittleEndian::read_i32(&slot[VALUES + NUMBER_SIZE * field..])
 }

@@ -4,7 +4,7 @@ ghost use Rattle.station_base.specs.CivilMinute.{IsCivilMinute};
 ghost use Rattle.station_base.specs.Period.{IsPeriod};
 ghost use Rattle.station_base.specs.FieldSet.{AreMissing};
 ghost use Rattle.station_base.specs.RowLine.{IsPrintable};
-ghost use Rattle.row_slot.specs.Slot.{head_of, row_in, slot_of};
+ghost use Rattle.row_slot.specs.Slot.{head_of, row_in_slot, slot_of};
 
 use crate::layout::{DATE, INTERVAL, KIND, LIMITED, PRESENCE, ROW, ROW_SIZE, TIME, VALUES};
 use crate::values::{presence_of, spelled};
@@ -20,7 +20,7 @@ pub fn write(row: &Row) -> [u8; ROW_SIZE]
     requires values { All IsPrintable row.now.values }
     requires limited { AreMissing row.now.limited row.now.values }
     ensures bytes { result ≡ slot_of row.now }
-    ensures read_back { row_in result ≡ Some row.now }
+    ensures read_back { row_in_slot result ≡ Some row.now }
 {
     let mut slot = whole_slot(&head_of(row), &spelled(&row.values));
     set_limited(&mut slot, row.limited);

@@ -20,12 +20,12 @@ use Rattle.station_io.specs.Sink.{Outlet}
 use Rattle.station_io.specs.declared.files.TextRead.{TextRead}
 use Rattle.station_io.specs.declared.files.TextRead.TheVariants as reading
 use Rattle.run_output.specs.Calls.{attaches, by_call, by_disk, calls}
-use Rattle.run_output.specs.Causes.{Counts, HasCauses, WentWell}
+use Rattle.run_output.specs.Causes.{CountsFault, HasCauses, WentWell}
 use Rattle.run_output.specs.Ended.{EndsBy, Lines, output_of}
 use Rattle.run_output.specs.Output.{Output, no_memory}
 use Rattle.run_output.specs.Outside.{Meanings, over_disk, over_files, over_link, over_out, over_second}
 use Rattle.run_output.specs.Reading.{ReadAs, SaysSettings, reads, settles}
-use Rattle.run_output.specs.Steps.{Behind, Step, then}
+use Rattle.run_output.specs.Steps.{Behind, CommandStep, then}
 use Rattle.run_output.specs.Streams.{streams}
 use Rattle.run_output.specs.declared.outside.Outside.{Outside}
 use Rattle.run_output.specs.declared.status.Status.{Status}
@@ -52,7 +52,7 @@ pub memory_quiet : {A : Type 0} (result : Result A Output) → IfErr result (λ 
 memory_quiet (Ok a) none = record { no_read = λ is. is; no_write = λ is. is; no_link = λ is. is; no_disk = λ is. is }
 memory_quiet (Err output) none = record { no_read = λ is. cc; no_write = λ is. cc; no_link = λ is. cc; no_disk = λ is. cc }
 
-over_behind : {F K L D A B : Type 0} (next : A → Step F B) (old new : Outside F K L D) (mid : F) (answer : Result A Output)
+over_behind : {F K L D A B : Type 0} (next : A → CommandStep F B) (old new : Outside F K L D) (mid : F) (answer : Result A Output)
     (result : Result B Output) → Behind answer next mid result new.files → new ≡ record old { files = new.files }
     → Behind answer (λ a. over_files (next a)) (record old { files = mid }) result new
 over_behind next old new mid (Ok a) result behind alone = (behind, alone)
@@ -60,7 +60,7 @@ over_behind {F} {K} {L} {D} next old new mid (Err output) result behind alone =
     (behind.0, alone ∙ ap (λ (f : F). record old { files = f }) behind.1)
 
 -- two steps over the files are one over the files and then another
-over_then : {F K L D A B : Type 0} (one : Step F A) (next : A → Step F B) (old new : Outside F K L D) (result : Result B Output)
+over_then : {F K L D A B : Type 0} (one : CommandStep F A) (next : A → CommandStep F B) (old new : Outside F K L D) (result : Result B Output)
     → over_files (then one next) old result new → then (over_files one) (λ a. over_files (next a)) old result new
 over_then one next old new result did = record {
   answer = did.0.answer;
@@ -71,7 +71,7 @@ over_then one next old new result did = record {
 
 read_count : {F : Type 0} (shelf : Shelf F) (name : List ℕ) (old new : F) (answer : TextRead) (bytes : List ℕ) (result : Result (Vec ℕ) Output)
     → Loads shelf old name answer bytes new → ReadAs answer bytes result
-    → Counts (shelf.faults old) (shelf.faults new) (EndsBy ReadFault result) (EndsBy WriteFault result)
+    → CountsFault (shelf.faults old) (shelf.faults new) (EndsBy ReadFault result) (EndsBy WriteFault result)
 read_count shelf name old new reading.Done bytes (Ok file) did given = record {
   cause = record { never_falls = did.cause.never_falls; rose = λ no. absurd no };
   still = λ _ _. did.still (λ e. cc);
@@ -131,7 +131,7 @@ pub record DiskCauses {D A : Type 0} (medium : Medium D) (old : D) (result : Res
   pub others : ¬ (EndsBy ReadFault result) × ¬ (EndsBy WriteFault result) × ¬ (EndsBy LinkFault result)
 
 -- a step over a disk that has its causes has causes
-pub by_disk_alone : {F K L D A : Type 0} (m : Meanings F K L D) (step : Step D A)
+pub by_disk_alone : {F K L D A : Type 0} (m : Meanings F K L D) (step : CommandStep D A)
     → ((old new : D) (result : Result A Output) → step old result new → DiskCauses m.medium old result new) → Causes m (over_disk step)
 by_disk_alone {F} {K} {L} {D} {A} m step has old new result did =
     let is = has old.disk new.disk result did.0 in
@@ -148,7 +148,7 @@ by_disk_alone {F} {K} {L} {D} {A} m step has old new result did =
       };
     })
 
-pub by_second_alone : {F K L D A : Type 0} (m : Meanings F K L D) (step : Step D A)
+pub by_second_alone : {F K L D A : Type 0} (m : Meanings F K L D) (step : CommandStep D A)
     → ((old new : D) (result : Result A Output) → step old result new → DiskCauses m.medium old result new) → Causes m (over_second step)
 by_second_alone {F} {K} {L} {D} {A} m step has old new result did =
     let is = has old.second new.second result did.0 in
@@ -196,7 +196,7 @@ pub record LinkCauses {L A : Type 0} (traffic : Traffic L) (old : L) (result : R
   pub others : ¬ (EndsBy ReadFault result) × ¬ (EndsBy WriteFault result) × ¬ (EndsBy DiskFault result)
 
 -- a step over the link that has its causes has causes
-pub by_link : {F K L D A : Type 0} (m : Meanings F K L D) (step : Step L A)
+pub by_link : {F K L D A : Type 0} (m : Meanings F K L D) (step : CommandStep L A)
     → ((old new : L) (result : Result A Output) → step old result new → LinkCauses m.traffic old result new) → Causes m (over_link step)
 by_link {F} {K} {L} {D} {A} m step has old new result did =
     let is = has old.link new.link result did.0 in
@@ -232,7 +232,7 @@ pub record SinkCauses {K A : Type 0} (outlet : Outlet K) (old : K) (result : Res
   pub others : ¬ (EndsBy ReadFault result) × ¬ (EndsBy LinkFault result) × ¬ (EndsBy DiskFault result)
 
 -- a step over the sink that has its causes has causes
-pub by_sink : {F K L D A : Type 0} (m : Meanings F K L D) (step : Step K A)
+pub by_sink : {F K L D A : Type 0} (m : Meanings F K L D) (step : CommandStep K A)
     → ((old new : K) (result : Result A Output) → step old result new → SinkCauses m.outlet old result new) → Causes m (over_out step)
 by_sink {F} {K} {L} {D} {A} m step has old new result did =
     let is = has old.out new.out result did.0 in

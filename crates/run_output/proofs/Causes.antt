@@ -6,22 +6,22 @@ use Rattle.causes.specs.Cause.{Cause, Rose}
 use Rattle.disk_model.specs.Medium.{Medium}
 use Rattle.gated_log.specs.Calls.{any_failed}
 use Rattle.gated_log.proofs.CallsMade.{any_join}
-use Rattle.run_output.specs.Causes.{Counts, CountsDisks, HasCauses, HasCausesBut, WentWell}
+use Rattle.run_output.specs.Causes.{CountsFault, CountsDisks, HasCauses, HasCausesBut, WentWell}
 use Rattle.run_output.specs.Ended.{EndsAmong, EndsBy, IsOneOf}
 use Rattle.run_output.specs.Output.{Output}
 use Rattle.run_output.specs.Outside.{Meanings}
-use Rattle.run_output.specs.Steps.{Behind, Step, then}
+use Rattle.run_output.specs.Steps.{Behind, CommandStep, then}
 use Rattle.run_output.specs.declared.outside.Outside.{Outside}
 use Rattle.run_output.specs.declared.status.Status.{Status}
 use Rattle.run_output.specs.declared.status.Status.TheVariants.{DiskFault, LinkFault, ReadFault, WriteFault}
 
 -- each fault that this step answers has a cause
-abbrev pub Causes : {F K L D A : Type 0} → Meanings F K L D → Step (Outside F K L D) A → Type 0
+abbrev pub Causes : {F K L D A : Type 0} → Meanings F K L D → CommandStep (Outside F K L D) A → Type 0
 Causes {F} {K} {L} {D} {A} m step =
     (old new : Outside F K L D) (result : Result A Output) → step old result new → HasCauses m old result new
 
 -- so has it where this cuts the run off
-abbrev pub CausesBut : {F K L D A : Type 0} → Meanings F K L D → (Result A Output → Type 0) → Step (Outside F K L D) A → Type 0
+abbrev pub CausesBut : {F K L D A : Type 0} → Meanings F K L D → (Result A Output → Type 0) → CommandStep (Outside F K L D) A → Type 0
 CausesBut {F} {K} {L} {D} {A} m Cut step =
     (old new : Outside F K L D) (result : Result A Output) → step old result new → HasCausesBut m (Cut result) old result new
 
@@ -48,7 +48,7 @@ rose_before a b c rose le = omega arith
 pub same_cause : {fault : Type 0} (n : ℕ) → ¬ fault → Cause n n fault
 same_cause n never = record { never_falls = omega arith; rose = λ is. absurd (never is) }
 
-pub same_count : {fault cut : Type 0} (n : ℕ) → ¬ fault → Counts n n fault cut
+pub same_count : {fault cut : Type 0} (n : ℕ) → ¬ fault → CountsFault n n fault cut
 same_count n never = record { cause = same_cause n never; still = λ _ _. refl }
 
 pub same_disks : {D fault cut : Type 0} (medium : Medium D) (disk second : D) → ¬ fault → CountsDisks medium disk second disk second fault cut
@@ -76,7 +76,7 @@ join_causes : {one two : Type 0} (a b c : ℕ) → Cause a b one → Cause b c t
 join_causes a b c before behind =
     record { never_falls = omega (arith, before.never_falls, behind.never_falls); rose = λ is. rose_later a b c before.never_falls (behind.rose is) }
 
-join_counts : {one cut two later : Type 0} (a b c : ℕ) → ¬ one → ¬ cut → Counts a b one cut → Counts b c two later → Counts a c two later
+join_counts : {one cut two later : Type 0} (a b c : ℕ) → ¬ one → ¬ cut → CountsFault a b one cut → CountsFault b c two later → CountsFault a c two later
 join_counts a b c never none before behind = record {
   cause = join_causes a b c before.cause behind.cause;
   still = λ fault write. behind.still fault write ∙ before.still never none;
@@ -121,8 +121,8 @@ joined m old mid new a result one two = record {
   disks = join_disks m.medium _ _ _ _ _ _ (λ no. no) (λ no. no) one.disks two.disks;
 }
 
-module _ {F K L D A B : Type 0} (m : Meanings F K L D) (Cut : Result B Output → Type 0) (one : Step (Outside F K L D) A)
-    (next : A → Step (Outside F K L D) B) (first : Causes m one) (each : (a : A) → CausesBut m Cut (next a))
+module _ {F K L D A B : Type 0} (m : Meanings F K L D) (Cut : Result B Output → Type 0) (one : CommandStep (Outside F K L D) A)
+    (next : A → CommandStep (Outside F K L D) B) (first : Causes m one) (each : (a : A) → CausesBut m Cut (next a))
     (cuts : (output : Output) → EndsBy WriteFault (let r : Result B Output = Err output in r) → Cut (Err output)) where
   behind_causes : (old mid new : Outside F K L D) (answer : Result A Output) (result : Result B Output) → HasCauses m old answer mid
       → Behind answer next mid result new → HasCausesBut m (Cut result) old result new
@@ -136,12 +136,12 @@ module _ {F K L D A B : Type 0} (m : Meanings F K L D) (Cut : Result B Output �
   pub then_causes_but : CausesBut m Cut (then one next)
   then_causes_but old new result both = behind_causes old both.mid new both.answer result (first old both.mid both.answer both.first) both.behind
 
-pub then_causes : {F K L D A B : Type 0} (m : Meanings F K L D) (one : Step (Outside F K L D) A) (next : A → Step (Outside F K L D) B)
+pub then_causes : {F K L D A B : Type 0} (m : Meanings F K L D) (one : CommandStep (Outside F K L D) A) (next : A → CommandStep (Outside F K L D) B)
     → Causes m one → ((a : A) → Causes m (next a)) → Causes m (then one next)
 then_causes m one next first each = then_causes_but m (EndsBy WriteFault) one next first each (λ output is. is)
 
 -- a write that failed is one of these statuses
-pub among : {F K L D A : Type 0} (m : Meanings F K L D) (statuses : List Status) (step : Step (Outside F K L D) A)
+pub among : {F K L D A : Type 0} (m : Meanings F K L D) (statuses : List Status) (step : CommandStep (Outside F K L D) A)
     → IsOneOf statuses WriteFault → Causes m step → CausesBut m (EndsAmong statuses) step
 among {F} {K} {L} {D} {A} m statuses step has causes old new (Ok a) did = wider m old new (let r : Result A Output = Ok a in r) (λ is. is) (causes old new (Ok a) did)
 among {F} {K} {L} {D} {A} m statuses step has causes old new (Err output) did =

@@ -8,13 +8,13 @@ use Rattle.causes.specs.Told.{WhereTold}
 use Rattle.settings_file.specs.Reading.{settings_of}
 use Rattle.settings_file.specs.StationSettings.{StationSettings}
 use Rattle.settings_file.specs.declared.fault.SettingsFault.{SettingsFault}
-use Rattle.station_io.specs.Files.{Gives, Shelf, most_bytes}
+use Rattle.station_io.specs.Files.{ReadingGives, Shelf, most_bytes}
 use Rattle.station_io.specs.declared.files.TextRead.{TextRead}
 use Rattle.station_io.specs.declared.files.TextRead.TheVariants as reading
 use Rattle.run_output.specs.Ended.{Lines, output_of}
 use Rattle.run_output.specs.Output.{Output}
-use Rattle.run_output.specs.Reading.{IsAccepted, ReadAs, SaysSettings, reads, says_settings, settles}
-use Rattle.run_output.specs.Steps.{Behind, Step}
+use Rattle.run_output.specs.Reading.{SettingsAreAccepted, ReadAs, SaysSettings, reads, says_settings, settles}
+use Rattle.run_output.specs.Steps.{Behind, CommandStep}
 use Rattle.run_output.specs.declared.status.Status.{Status}
 use Rattle.run_output.specs.declared.status.Status.TheVariants.{OutOfMemory, ReadFault}
 
@@ -27,7 +27,7 @@ abbrev pub GivesUnlessHindered : {A : Type 0} → (A → Type 0) → Result A Ou
 GivesUnlessHindered Good result = MatchResult result Good (λ output. IsHindrance output.status)
 
 -- where a step was not hindered the run ends as the next one has it
-pub good_behind : {W A : Type 0} (Good : A → Type 0) (Ends : Status → Type 0) (next : A → Step W Lines) (mid new : W) (answer : Result A Output)
+pub good_behind : {W A : Type 0} (Good : A → Type 0) (Ends : Status → Type 0) (next : A → CommandStep W Lines) (mid new : W) (answer : Result A Output)
     (ended : Result Lines Output) → GivesUnlessHindered Good answer → ((a : A) → Good a → next a mid ended new → Ends (output_of ended).status)
     → ((status : Status) → IsHindrance status → Ends status) → Behind answer next mid ended new → Ends (output_of ended).status
 good_behind Good Ends next mid new (Ok a) ended good goes_on hindered behind = goes_on a good behind
@@ -35,7 +35,7 @@ good_behind Good Ends next mid new (Err output) ended hindrance goes_on hindered
     subst (λ (r : Result Lines Output). Ends (output_of r).status) (sym behind.0) (hindered output.status hindrance)
 
 good_read : (Good : List ℕ → Type 0) (file : List ℕ) (answer : TextRead) (bytes : List ℕ) (result : Result (Vec ℕ) Output) → length file ≤ most_bytes
-    → Good file → Gives file answer bytes → ReadAs answer bytes result → GivesUnlessHindered (λ read. Good read.items) result
+    → Good file → ReadingGives file answer bytes → ReadAs answer bytes result → GivesUnlessHindered (λ read. Good read.items) result
 good_read Good file reading.Done bytes (Ok read) short good gives is = subst Good (sym (is ∙ gives.0)) good
 good_read Good file reading.Done bytes (Err output) short good gives is = absurd is
 good_read Good file reading.Failed bytes result short good gives is =
@@ -45,7 +45,7 @@ good_read Good file reading.OutOfMemory bytes result short good gives is =
     subst (λ (r : Result (Vec ℕ) Output). GivesUnlessHindered (λ read. Good read.items) r) (sym is) (inr refl)
 
 told_read : (Good : List ℕ → Type 0) (told : Option (List ℕ)) (answer : TextRead) (bytes : List ℕ) (result : Result (Vec ℕ) Output)
-    → ((file : List ℕ) → Good file → length file ≤ most_bytes) → IsSomeAnd told Good → WhereTold told (λ file. Gives file answer bytes)
+    → ((file : List ℕ) → Good file → length file ≤ most_bytes) → IsSomeAnd told Good → WhereTold told (λ file. ReadingGives file answer bytes)
     → ReadAs answer bytes result → GivesUnlessHindered (λ read. Good read.items) result
 told_read Good None answer bytes result short good gives is = absurd good
 told_read Good (Some file) answer bytes result short good gives is = good_read Good file answer bytes result (short file good) good (gives file refl) is
@@ -86,13 +86,13 @@ some_settings : (result : Result StationSettings SettingsFault) → IsOk result 
 some_settings (Ok settings) is = tt
 some_settings (Err fault) is = absurd (let no : false ≡ true = is in cc)
 
-are_accepted : (told : Option (List ℕ)) → IsSomeAnd told IsAccepted → IsSomeAnd told (HasSettings (λ settings. Unit {0}))
+are_accepted : (told : Option (List ℕ)) → IsSomeAnd told SettingsAreAccepted → IsSomeAnd told (HasSettings (λ settings. Unit {0}))
 are_accepted None is = is
 are_accepted (Some text) is = (is.0, some_settings (settings_of text) is.1)
 
 -- so are accepted ones
 pub accepted-settles : {F : Type 0} (shelf : Shelf F) (name : List ℕ) (old new : F) (result : Result StationSettings Output)
-    → IsSomeAnd (shelf.held old name) IsAccepted → settles shelf name old result new → GivesUnlessHindered (λ settings. Unit {0}) result
+    → IsSomeAnd (shelf.held old name) SettingsAreAccepted → settles shelf name old result new → GivesUnlessHindered (λ settings. Unit {0}) result
 accepted-settles shelf name old new result good did =
     good-settles shelf (λ settings. Unit {0}) name old new result (are_accepted (shelf.held old name) good) did
 

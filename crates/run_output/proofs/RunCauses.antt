@@ -5,7 +5,7 @@ use Rattle.std.specs.declared.result.Result.{Result}
 use Rattle.causes.specs.Cause.{Cause, Rose}
 use Rattle.run_output.specs.Causes.{FaultCauses, HasCausesBut}
 use Rattle.run_output.specs.Ended.{EndsAmong, EndsBy, IsOneOf, Lines, output_of}
-use Rattle.run_output.specs.Output.{Finishes, Output, code}
+use Rattle.run_output.specs.Output.{RunFinishes, Output, code}
 use Rattle.run_output.specs.Outside.{Meanings}
 use Rattle.station_io.specs.Sink.{Outlet}
 use Rattle.run_output.specs.declared.outside.Outside.{Outside}
@@ -55,14 +55,14 @@ is_write ends.WriteFault = inl refl
 is_write other = inr (λ e. cc)
 
 -- a run that ends with another number than that of a write fault ends with the status of its output
-pub same_status : {S : Type 0} (outlet : Outlet S) (old new : S) (output : Output) (status : Status) → Finishes (outlet.taken old) (outlet.taken new) output status
+pub same_status : {S : Type 0} (outlet : Outlet S) (old new : S) (output : Output) (status : Status) → RunFinishes (outlet.taken old) (outlet.taken new) output status
     → code status ≢ 9 → output.status ≡ status
 same_status outlet old new output status (inl whole) other = sym whole.0
 same_status outlet old new output status (inr part) other = absurd (other (ap code part.0))
 
 -- what holds of the number of an output's status, and of that of a write fault, holds of the number that a run ends with
 pub ends_within : {S : Type 0} (outlet : Outlet S) (old new : S) (output : Output) (status : Status) (P : ℕ → Type 0)
-    → Finishes (outlet.taken old) (outlet.taken new) output status → P (code output.status) → P 9 → P (code status)
+    → RunFinishes (outlet.taken old) (outlet.taken new) output status → P (code output.status) → P 9 → P (code status)
 ends_within outlet old new output status P (inl whole) is nine = subst P (ap code (sym whole.0)) is
 ends_within outlet old new output status P (inr part) is nine = subst P (ap code (sym part.0)) nine
 
@@ -79,7 +79,7 @@ among_status statuses (Err output) is = is
 
 module _ {F K L D : Type 0} (m : Meanings F K L D) (old mid new : Outside F K L D) (ended : Result Lines Output) (status : Status)
     (cuts : List Status) (nine : IsOneOf (map code cuts) 9) (has : HasCausesBut m (EndsAmong cuts ended) old ended mid) (alone : new ≡ record mid { out = new.out })
-    (finishes : Finishes (m.outlet.taken mid.out) (m.outlet.taken new.out) (output_of ended) status)
+    (finishes : RunFinishes (m.outlet.taken mid.out) (m.outlet.taken new.out) (output_of ended) status)
     (cause : Cause (m.outlet.faults mid.out) (m.outlet.faults new.out) (status ≢ (output_of ended).status))
     (still : status ≢ ends.WriteFault → m.outlet.faults new.out ≡ m.outlet.faults mid.out) where
   -- the run ended with the number of this status, so the command was ended by it

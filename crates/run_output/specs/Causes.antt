@@ -24,7 +24,7 @@ RoseOnOne medium disk second disk' second' =
 
 -- The count of a part never falls, and rises where the run ends by the fault of that part. Where it does not, nor by a write that
 -- failed behind the fault, the count stays.
-pub record Counts (before after : ℕ) (fault cut : Type 0) : Type 0 where
+pub record CountsFault (before after : ℕ) (fault cut : Type 0) : Type 0 where
   pub cause : Cause before after fault
   pub still : ¬ fault → ¬ cut → after ≡ before
 
@@ -39,8 +39,8 @@ pub record CountsDisks {D : Type 0} (medium : Medium D) (disk second disk' secon
 -- Each of the four faults ends a run only where its own count rose. A call of a disk may have failed in a run that was cut off.
 pub record FaultCauses {F K L D : Type 0} (m : Meanings F K L D) (old new : Outside F K L D)
     (by_read by_write by_link by_disk cut : Type 0) : Type 0 where
-  pub files : Counts (m.shelf.faults old.files) (m.shelf.faults new.files) by_read by_write
-  pub sink : Counts (m.outlet.faults old.out) (m.outlet.faults new.out) by_write by_write
+  pub files : CountsFault (m.shelf.faults old.files) (m.shelf.faults new.files) by_read by_write
+  pub sink : CountsFault (m.outlet.faults old.out) (m.outlet.faults new.out) by_write by_write
   pub link : Cause (m.traffic.faults old.link) (m.traffic.faults new.link) by_link
   pub disks : CountsDisks m.medium old.disk old.second new.disk new.second by_disk cut
 

@@ -41,8 +41,8 @@ abbrev pub write_fault : Output
 write_fault = record { text = []; status = ends.WriteFault }
 
 -- A run wrote it all and ends so, or a write failed after a prefix of it.
-abbrev pub Finishes : Option (List ℕ) → Option (List ℕ) → Output → Status → Type 0
-Finishes old new output status =
+abbrev pub RunFinishes : Option (List ℕ) → Option (List ℕ) → Output → Status → Type 0
+RunFinishes old new output status =
     ((status ≡ output.status) × Appends old new output.text)
     ⊎ ((status ≡ ends.WriteFault) × WritesPart old new output.text)
 
@@ -69,7 +69,7 @@ code ends.NotPrefix = 17
 code ends.BadEntry = 18
 
 -- The run ended with this number, and the sink took the output that it stands for or a prefix of it.
-pub record EndsWith {S : Type 0} (outlet : Outlet S) (output : Output) (old new : S) (result : ℕ) : Type 0 where
+pub record RunEndsWith {S : Type 0} (outlet : Outlet S) (output : Output) (old new : S) (result : ℕ) : Type 0 where
   pub status : Status
   pub coded : code status ≡ result
-  pub ends : Finishes (outlet.taken old) (outlet.taken new) output status
+  pub ends : RunFinishes (outlet.taken old) (outlet.taken new) output status

@@ -11,7 +11,7 @@ use Rattle.station_io.specs.declared.files.TextRead.{TextRead}
 use Rattle.station_io.specs.declared.files.TextRead.TheVariants as reading
 use Rattle.run_output.specs.declared.status.Status.TheVariants as ends
 use Rattle.run_output.specs.Output.{Output, no_memory, read_fault, too_long}
-use Rattle.run_output.specs.Steps.{Step, then}
+use Rattle.run_output.specs.Steps.{CommandStep, then}
 
 -- the answer of a step that reads: the whole file, or the line that says why there is none
 abbrev pub ReadAs : TextRead → List ℕ → Result (Vec ℕ) Output → Type 0
@@ -40,13 +40,13 @@ SaysSettings text (Err output) =
     (output ≡ no_memory) ⊎ ((fault : SettingsFault) × (settings_of text ≡ Err fault) × (output ≡ bad_settings fault))
 
 -- the settings of a text, without a call
-abbrev pub says_settings : {F : Type 0} → List ℕ → Step F StationSettings
+abbrev pub says_settings : {F : Type 0} → List ℕ → CommandStep F StationSettings
 says_settings text old result new = SaysSettings text result × (new ≡ old)
 
 -- a file of settings is read, and its settings are what is given
-abbrev pub settles : {F : Type 0} → Shelf F → List ℕ → Step F StationSettings
+abbrev pub settles : {F : Type 0} → Shelf F → List ℕ → CommandStep F StationSettings
 settles shelf name = then (reads shelf name) (λ text. says_settings text.items)
 
 -- a text of settings that is not too long and is accepted
-abbrev pub IsAccepted : List ℕ → Type 0
-IsAccepted text = (length text ≤ most_bytes) × IsOk (settings_of text)
+abbrev pub SettingsAreAccepted : List ℕ → Type 0
+SettingsAreAccepted text = (length text ≤ most_bytes) × IsOk (settings_of text)

@@ -10,14 +10,14 @@ use Rattle.run_output.specs.Output.{Output, write_fault}
 use Rattle.run_output.specs.declared.status.Status.TheVariants.{WriteFault}
 
 -- Of an output this is left, with the same status.
-pub record IsLeft (old now : Option (List ℕ)) (all left : Output) : Type 0 where
+pub record OutputIsLeft (old now : Option (List ℕ)) (all left : Output) : Type 0 where
   pub text : Leaves old now all.text left.text
   pub status : left.status ≡ all.status
 
 -- a prefix of the output was written, and the rest is given; or a write failed after a prefix of it
 pub record streams {S : Type 0} (outlet : Outlet S) (all : Output) (old : S) (result : Result Lines Output) (new : S)
     : Type 0 where
-  pub written : IsLeft (outlet.taken old) (outlet.taken new) all (output_of result)
+  pub written : OutputIsLeft (outlet.taken old) (outlet.taken new) all (output_of result)
       ⊎ ((result ≡ Err write_fault) × WritesPart (outlet.taken old) (outlet.taken new) all.text)
   pub cause : Cause (outlet.faults old) (outlet.faults new) (EndsBy WriteFault result)
   pub still : ¬ (EndsBy WriteFault result) → outlet.faults new ≡ outlet.faults old

@@ -1,6 +1,6 @@
 ghost use Rattle.std.specs.Prelude.{◌≡◌, ◌≢◌};
 ghost use Rattle.causes.specs.Cause.{Cause};
-ghost use Rattle.run_output.specs.Output.{Finishes};
+ghost use Rattle.run_output.specs.Output.{RunFinishes};
 ghost use Rattle.run_output.specs.Ended.{output_of};
 
 use crate::ending::Ending;
@@ -10,7 +10,7 @@ use station_io::{Put, Sink};
 
 /// Writes the last lines of a command, if there are any, and returns the status with which the program ends.
 pub fn finish<K: Sink>(ended: Result<Text, Ending>, out: &mut K) -> Status
-    ensures ends { Finishes (K.outlet.taken out.old) (K.outlet.taken out.new) (output_of ended) result }
+    ensures ends { RunFinishes (K.outlet.taken out.old) (K.outlet.taken out.new) (output_of ended) result }
     ensures cause { Cause (K.outlet.faults out.old) (K.outlet.faults out.new) (result ≢ (output_of ended).status) }
     ensures still { result ≢ Status.WriteFault → K.outlet.faults out.new ≡ K.outlet.faults out.old }
 {
@@ -22,7 +22,7 @@ pub fn finish<K: Sink>(ended: Result<Text, Ending>, out: &mut K) -> Status
 
 // Writes these lines, if there are any.
 fn write<K: Sink>(text: &[u8], status: Status, out: &mut K) -> Status
-    ensures ends { Finishes (K.outlet.taken out.old) (K.outlet.taken out.new)
+    ensures ends { RunFinishes (K.outlet.taken out.old) (K.outlet.taken out.new)
         (record { text = text.now; status = status }) result }
     ensures cause { Cause (K.outlet.faults out.old) (K.outlet.faults out.new) (result ≢ status) }
     ensures still { result ≢ Status.WriteFault → K.outlet.faults out.new ≡ K.outlet.faults out.old }

@@ -1,6 +1,6 @@
 ghost use Rattle.std.specs.Prelude.{◌≡◌, ◌+◌, ◌*◌, ◌<◌, ◌≤◌, ◌++◌, decimal, false, length};
 ghost use Rattle.arrayvec.specs.ArrayVec.{array_vec_len};
-ghost use Rattle.run_output.specs.MemoryText.{byte_text, bytes_line};
+ghost use Rattle.run_output.specs.MemoryText.{hexadecimal_byte_text, bytes_line};
 ghost use Rattle.std.specs.Fmt.{digit_glyph};
 
 use arrayvec::ArrayVec;
@@ -46,7 +46,7 @@ pub fn push_memory(text: &mut Text, bytes: &[u8])
 // Appends a byte in two hexadecimal digits.
 fn push_byte(text: &mut Text, byte: u8)
     requires { array_vec_len text.old + 2 ≤ ROOM }
-    ensures digits { text.new.items ≡ text.old.items ++ byte_text byte }
+    ensures digits { text.new.items ≡ text.old.items ++ hexadecimal_byte_text byte }
     ensures length { array_vec_len text.new ≡ array_vec_len text.old + 2 }
 {
     text.push(hex_digit(byte / 16));

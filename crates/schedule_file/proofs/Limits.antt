@@ -7,21 +7,21 @@ use Rattle.schedule_file.specs.declared.schedule.form.Form.{Form}
 use Rattle.schedule_file.specs.declared.schedule.form.Form.TheVariants.{Due, Run, Idle, Open, Round, Host, Reply, Late, Mid, Stop}
 use Rattle.schedule_file.specs.declared.schedule.turn.Turn.{Turn}
 use Rattle.schedule_file.specs.declared.schedule.turn.Turn.TheVariants.{Neither, Opening, InRound}
-use Rattle.schedule_file.specs.Steps.{Said, Step, MidRecord, records_within, records_in, turn_steps, steps_said, steps_seen}
-use Rattle.schedule_file.specs.Steps.Step.{DueStep, RunStep, IdleStep}
-use Rattle.schedule_file.specs.Kinds.{Kind, at, kinds, least, told_kinds, count_kinds, is_in_round, is_due, is_below_last}
+use Rattle.schedule_file.specs.Steps.{Said, ScheduleStep, MidRecord, records_within, records_in_steps, turn_steps, steps_said, steps_seen}
+use Rattle.schedule_file.specs.Steps.ScheduleStep.{DueStep, RunStep, IdleStep}
+use Rattle.schedule_file.specs.Kinds.{Kind, kind_if, kinds, first_applying, told_kinds, count_kinds, is_in_round, is_due, is_below_last}
 use Rattle.schedule_file.specs.Steps.{record_told}
 use Rattle.schedule_file.specs.declared.schedule.step.Step as Seen
 use Rattle.schedule_file.specs.Pieces.{lines_of}
-use Rattle.schedule_file.specs.Reading.{after, read_lines, steps_of}
+use Rattle.schedule_file.specs.Reading.{said_with_form, read_lines, said_by_text}
 use Rattle.schedule_file.proofs.Kept.{steps_kept}
 
 -- the kinds behind some, where none of all applies
-least_behind : (ks more : List Kind) → least (ks ++ more) ≡ None → least more ≡ None
+least_behind : (ks more : List Kind) → first_applying (ks ++ more) ≡ None → first_applying more ≡ None
 least_behind [] more none = none
 least_behind (k ∷ ks) more none = go k.applies (least_behind ks more) none
   where
-    go : (b : Bool) → (least (ks ++ more) ≡ None → least more ≡ None) → (if b then Some k.kind else least (ks ++ more)) ≡ None → least more ≡ None
+    go : (b : Bool) → (first_applying (ks ++ more) ≡ None → first_applying more ≡ None) → (if b then Some k.kind else first_applying (ks ++ more)) ≡ None → first_applying more ≡ None
     go true rest h = cc
     go false rest h = rest h
 
@@ -36,7 +36,7 @@ rest_fails true kind rest h = cc
 rest_fails false kind rest h = h
 
 -- an accepted line leaves at most 20,000 records
-few_after : (period : ℕ) (s : Said) (form : Form) → s.records ≤ 20000 → least (kinds period s form) ≡ None → (after period s form).records ≤ 20000
+few_after : (period : ℕ) (s : Said) (form : Form) → s.records ≤ 20000 → first_applying (kinds period s form) ≡ None → (said_with_form period s form).records ≤ 20000
 few_after period s (Due told) few none =
     ltb-false 20000 (s.records + 1) (first_fails (nat_lt 20000 (s.records + 1)) 10 None (least_behind (told_kinds period s told 1) (count_kinds s 1) none))
 few_after period s (Run first count) few none =
@@ -49,31 +49,31 @@ few_after period s (Reply number fate) few none = few
 few_after period s (Late number waits place) few none = few
 few_after period s (Mid number told) few none =
     let misplaced : Bool = not (is_in_round s.turn) || list_any is_due s.since in
-    let behind : List Kind = at 13 (is_below_last s.details.mids number) ∷ at 14 (nat_le 64 (length s.details.mids)) ∷ [] in
-    let more = least_behind (told_kinds period s told 1) (at 8 misplaced ∷ at 10 (nat_lt 20000 (s.records + 1)) ∷ behind) none in
-    let rest = rest_fails misplaced 8 (least (at 10 (nat_lt 20000 (s.records + 1)) ∷ behind)) more in
-    ltb-false 20000 (s.records + 1) (first_fails (nat_lt 20000 (s.records + 1)) 10 (least behind) rest)
+    let behind : List Kind = kind_if 13 (is_below_last s.details.mids number) ∷ kind_if 14 (nat_le 64 (length s.details.mids)) ∷ [] in
+    let more = least_behind (told_kinds period s told 1) (kind_if 8 misplaced ∷ kind_if 10 (nat_lt 20000 (s.records + 1)) ∷ behind) none in
+    let rest = rest_fails misplaced 8 (first_applying (kind_if 10 (nat_lt 20000 (s.records + 1)) ∷ behind)) more in
+    ltb-false 20000 (s.records + 1) (first_fails (nat_lt 20000 (s.records + 1)) 10 (first_applying behind) rest)
 few_after period s (Stop stop) few none = few
 
 -- an accepted schedule has at most 20,000 records
-pub few_records : (bytes : List ℕ) (period : ℕ) (said : Said) → steps_of bytes period ≡ Ok said → said.records ≤ 20000
+pub few_records : (bytes : List ℕ) (period : ℕ) (said : Said) → said_by_text bytes period ≡ Ok said → said.records ≤ 20000
 few_records bytes period said read =
     steps_kept period (λ (s : Said). s.records ≤ 20000) (λ words form is s few none. few_after period s form few none) bytes said (lit≤ tt) read
 
-records_join : (xs ys : List Step) → records_in (xs ++ ys) ≡ records_in xs + records_in ys
+records_join : (xs ys : List ScheduleStep) → records_in_steps (xs ++ ys) ≡ records_in_steps xs + records_in_steps ys
 records_join [] ys = omega arith
 records_join (x ∷ xs) ys = omega (arith, records_join xs ys)
 
-of_turn : (t : Turn) (s : Said) → records_in (turn_steps t s.details s.stop) ≡ records_within t (length s.details.mids)
+of_turn : (t : Turn) (s : Said) → records_in_steps (turn_steps t s.details s.stop) ≡ records_within t (length s.details.mids)
 of_turn Neither s = refl
 of_turn Opening s = refl
 of_turn InRound s = omega arith
 
 -- the records are those of the steps before, of the last `open` or `round`, and of the steps after it
 Counted : Said → Type 0
-Counted s = s.records ≡ records_in s.before + records_within s.turn (length s.details.mids) + records_in s.since
+Counted s = s.records ≡ records_in_steps s.before + records_within s.turn (length s.details.mids) + records_in_steps s.since
 
-all_counted : (s : Said) → records_in (steps_said s) ≡ records_in s.before + records_within s.turn (length s.details.mids) + records_in s.since
+all_counted : (s : Said) → records_in_steps (steps_said s) ≡ records_in_steps s.before + records_within s.turn (length s.details.mids) + records_in_steps s.since
 all_counted s =
     let front = s.before ++ turn_steps s.turn s.details s.stop in
     omega (arith, records_join front s.since, records_join s.before (turn_steps s.turn s.details s.stop), of_turn s.turn s)
@@ -87,7 +87,7 @@ in_round : (a b : Bool) → (not a || b) ≡ false → a ≡ true
 in_round true b none = refl
 in_round false b none = cc
 
-counted_after : (period : ℕ) (s : Said) (form : Form) → Counted s → least (kinds period s form) ≡ None → Counted (after period s form)
+counted_after : (period : ℕ) (s : Said) (form : Form) → Counted s → first_applying (kinds period s form) ≡ None → Counted (said_with_form period s form)
 unfolding Counted
 counted_after period s (Due told) c none = omega (arith, c, records_join s.since (DueStep (record_told period told) ∷ []))
 counted_after period s (Run first count) c none = omega (arith, c, records_join s.since (RunStep (record_told period first) count ∷ []))
@@ -99,10 +99,10 @@ counted_after period s (Reply number fate) c none = c
 counted_after period s (Late number waits place) c none = c
 counted_after period s (Mid number told) c none =
     let misplaced : Bool = not (is_in_round s.turn) || list_any is_due s.since in
-    let behind : List Kind = at 13 (is_below_last s.details.mids number) ∷ at 14 (nat_le 64 (length s.details.mids)) ∷ [] in
-    let more = least_behind (told_kinds period s told 1) (at 8 misplaced ∷ at 10 (nat_lt 20000 (s.records + 1)) ∷ behind) none in
+    let behind : List Kind = kind_if 13 (is_below_last s.details.mids number) ∷ kind_if 14 (nat_le 64 (length s.details.mids)) ∷ [] in
+    let more = least_behind (told_kinds period s told 1) (kind_if 8 misplaced ∷ kind_if 10 (nat_lt 20000 (s.records + 1)) ∷ behind) none in
     let within = in_round (is_in_round s.turn) (list_any is_due s.since)
-    (first_fails misplaced 8 (least (at 10 (nat_lt 20000 (s.records + 1)) ∷ behind)) more) in
+    (first_fails misplaced 8 (first_applying (kind_if 10 (nat_lt 20000 (s.records + 1)) ∷ behind)) more) in
     let x : MidRecord = record { number = number; record_read = record_told period told } in
     let grown : records_within s.turn (length (s.details.mids ++ x ∷ [])) ≡ records_within s.turn (length s.details.mids) + 1 =
     ap (records_within s.turn) (length-append s.details.mids (x ∷ [])) ∙ one_within s.turn (length s.details.mids) within in
@@ -110,7 +110,7 @@ counted_after period s (Mid number told) c none =
 counted_after period s (Stop stop) c none = c
 
 -- an accepted schedule has just the records of its steps
-pub counts_records : (bytes : List ℕ) (period : ℕ) (said : Said) → steps_of bytes period ≡ Ok said → said.records ≡ records_in (steps_said said)
+pub counts_records : (bytes : List ℕ) (period : ℕ) (said : Said) → said_by_text bytes period ≡ Ok said → said.records ≡ records_in_steps (steps_said said)
 unfolding Counted
 counts_records bytes period said read =
     steps_kept period Counted (λ words form is s counted none. counted_after period s form counted none) bytes said refl read ∙ sym (all_counted said)
@@ -121,8 +121,8 @@ empty_is (x ∷ xs) none = absurd (let wrong : length (x ∷ xs) ≡ 0 = grind (
 
 -- so has a schedule that was read to its end
 pub counted_steps : (bytes rest : List ℕ) (period number kept : ℕ) (said : Said) (steps : List Seen.Step)
-    → steps_of bytes period ≡ read_lines period number (lines_of rest) said → (length rest == 0) ≡ true
-    → kept ≡ period → steps_seen kept steps ≡ steps_said said → said.records ≡ records_in (steps_seen period steps)
+    → said_by_text bytes period ≡ read_lines period number (lines_of rest) said → (length rest == 0) ≡ true
+    → kept ≡ period → steps_seen kept steps ≡ steps_said said → said.records ≡ records_in_steps (steps_seen period steps)
 counted_steps bytes rest period number kept said steps read none same seen =
-    let whole : steps_of bytes period ≡ Ok said = read ∙ ap (λ (r : List ℕ). read_lines period number (lines_of r) said) (empty_is rest none) in
-    counts_records bytes period said whole ∙ ap records_in (sym seen) ∙ ap (λ (n : ℕ). records_in (steps_seen n steps)) same
+    let whole : said_by_text bytes period ≡ Ok said = read ∙ ap (λ (r : List ℕ). read_lines period number (lines_of r) said) (empty_is rest none) in
+    counts_records bytes period said whole ∙ ap records_in_steps (sym seen) ∙ ap (λ (n : ℕ). records_in_steps (steps_seen n steps)) same

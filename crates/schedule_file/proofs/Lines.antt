@@ -10,16 +10,16 @@ use Rattle.schedule_file.specs.declared.schedule.form.Told.{Told}
 use Rattle.schedule_file.specs.declared.schedule.form.Form.TheVariants as form
 use Rattle.schedule_file.specs.declared.fates.Mid.{Mid}
 use Rattle.schedule_file.specs.Steps.{Said, Details, MidRecord, mid_seen, details_seen}
-use Rattle.schedule_file.specs.Kinds.{is_below_last, is_in_round, is_due, Kind, at, least, told_kinds}
-use Rattle.schedule_file.specs.Reading.{read_line, read_lines, accept, after, said_or}
+use Rattle.schedule_file.specs.Kinds.{is_below_last, is_in_round, is_due, Kind, kind_if, first_applying, told_kinds}
+use Rattle.schedule_file.specs.Reading.{read_schedule_line, read_lines, accept, said_with_form, said_or}
 
 -- a line that was read
-pub line_more : (period n : ℕ) (line : List ℕ) (lines : List (List ℕ)) (s t : Said) → read_line period n line s ≡ Ok t
+pub line_more : (period n : ℕ) (line : List ℕ) (lines : List (List ℕ)) (s t : Said) → read_schedule_line period n line s ≡ Ok t
     → read_lines period n (line ∷ lines) s ≡ read_lines period (n + 1) lines t
 line_more period n line lines s t read = rw read refl
 
 -- a line that has a fault
-pub line_fault : (period n kind : ℕ) (line : List ℕ) (lines : List (List ℕ)) (s : Said) → read_line period n line s ≡ Err kind
+pub line_fault : (period n kind : ℕ) (line : List ℕ) (lines : List (List ℕ)) (s : Said) → read_schedule_line period n line s ≡ Err kind
     → read_lines period n (line ∷ lines) s ≡ Err (record { line = n; kind = kind })
 line_fault period n kind line lines s read = rw read refl
 
@@ -40,9 +40,9 @@ least_step true kind front all more rest none = cc
 least_step false kind front all more rest none = rest none
 
 -- kinds that do not apply, and more
-pub least_more : (ks more : List Kind) → least ks ≡ None → least (ks ++ more) ≡ least more
+pub least_more : (ks more : List Kind) → first_applying ks ≡ None → first_applying (ks ++ more) ≡ first_applying more
 least_more [] more none = refl
-least_more (k ∷ ks) more none = least_step k.applies k.kind (least ks) (least (ks ++ more)) (least more) (least_more ks more) none
+least_more (k ∷ ks) more none = least_step k.applies k.kind (first_applying ks) (first_applying (ks ++ more)) (first_applying more) (least_more ks more) none
 
 -- what an answer that is no error ensures
 pub on_ok : {A E P : Type 0} (r : Result A E) → is_err r ≡ false → OnOk r P → P
@@ -64,14 +64,14 @@ not_from m n lt = go (nat_le m n) refl
     go false e = refl
 
 -- a record that falls due in a round
-pub mid_accepted : (period number : ℕ) (s : Said) (told : Told) → least (told_kinds period s told 1) ≡ None → is_in_round s.turn ≡ true
+pub mid_accepted : (period number : ℕ) (s : Said) (told : Told) → first_applying (told_kinds period s told 1) ≡ None → is_in_round s.turn ≡ true
     → list_any is_due s.since ≡ false → s.records + 1 ≤ 20000 → is_below_last s.details.mids number ≡ false → length s.details.mids < 64
-    → accept period s (form.Mid number told) ≡ Ok (after period s (form.Mid number told))
+    → accept period s (form.Mid number told) ≡ Ok (said_with_form period s (form.Mid number told))
 mid_accepted period number s told none in_round no_due few not_below room =
-    let more : List Kind = at 8 (not (is_in_round s.turn) || list_any is_due s.since) ∷ at 10 (nat_lt 20000 (s.records + 1))
-    ∷ at 13 (is_below_last s.details.mids number) ∷ at 14 (nat_le 64 (length s.details.mids)) ∷ [] in
-    let rest : least more ≡ None = rw (in_round, no_due, not_above 20000 (s.records + 1) few, not_below, not_from 64 (length s.details.mids) room) refl in
-    ap (λ k. said_or k (after period s (form.Mid number told))) (least_more (told_kinds period s told 1) more none ∙ rest)
+    let more : List Kind = kind_if 8 (not (is_in_round s.turn) || list_any is_due s.since) ∷ kind_if 10 (nat_lt 20000 (s.records + 1))
+    ∷ kind_if 13 (is_below_last s.details.mids number) ∷ kind_if 14 (nat_le 64 (length s.details.mids)) ∷ [] in
+    let rest : first_applying more ≡ None = rw (in_round, no_due, not_above 20000 (s.records + 1) few, not_below, not_from 64 (length s.details.mids) room) refl in
+    ap (λ k. said_or k (said_with_form period s (form.Mid number told))) (least_more (told_kinds period s told 1) more none ∙ rest)
 
 -- fates with other mids
 pub details_with : (period : ℕ) (f g : Fates) (mids : List MidRecord) → g.host.entries ≡ f.host.entries → g.replies.entries ≡ f.replies.entries

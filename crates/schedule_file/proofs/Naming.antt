@@ -4,7 +4,7 @@ use Rattle.std.specs.Prelude.{slice_index_or, slice_set, if◌then◌else◌}
 use Rattle.station_base.specs.Fields.{field_named}
 use Rattle.numerals.specs.Then.{◌>>=◌}
 use Rattle.schedule_file.specs.Words.{Named, named_in}
-use Rattle.schedule_file.specs.Forms.{with_named, all_named, values_in, none_taken, no_values}
+use Rattle.schedule_file.specs.Forms.{with_named, all_named, named_values_in, none_taken, no_values}
 use Rattle.schedule_file.specs.Naming.{named_on, values_on}
 use Rattle.schedule_file.specs.declared.schedule.naming.Naming.{Naming}
 
@@ -51,8 +51,8 @@ word_none before word words none = rw none refl
 
 -- at the start
 pub words_start : (words : List (List ℕ)) (naming : Naming) → naming.known ≡ true → naming.taken ≡ none_taken → naming.values ≡ no_values
-    → values_in words ≡ values_on naming words
-unfolding values_in
+    → named_values_in words ≡ values_on naming words
+unfolding named_values_in
 words_start words naming known taken values = go (all_named words)
   where
     go : (all : Option (List Named)) → (all >>= (λ (named : List Named). Some (with_named named none_taken no_values))) ≡ (all >>= (λ (named : List Named). Some (named_on naming named)))

@@ -1,14 +1,14 @@
 -- The minute that two words spell.
 use Rattle.std.proofs.Common.{◌≡◌, ℕ, ◌+◌, ◌-◌, ◌*◌, ◌≤◌, arith, refl, ◌/◌, ◌%◌, if◌then◌else◌, Option, Some, None, ap}
 use Rattle.station_base.specs.CivilMinute.{CivilMinute, is_civil_minute}
-use Rattle.station_base.specs.Stamp.{spelled, stamp_of_words}
+use Rattle.station_base.specs.Stamp.{spelled_stamp, stamp_of_words}
 use Rattle.schedule_file.specs.declared.schedule.stamps.Date.{Date}
 use Rattle.schedule_file.specs.declared.schedule.stamps.Clock.{Clock}
 use Rattle.schedule_file.specs.Words.{minute_at}
 
 -- words made of a minute's parts spell it
 spelled_back : (year month day hour minute : ℕ) → 2000 ≤ year → month ≤ 12 → day ≤ 31 → minute ≤ 59
-    → spelled (day + 32 * month + 512 * (year - 2000)) (100 * hour + minute)
+    → spelled_stamp (day + 32 * month + 512 * (year - 2000)) (100 * hour + minute)
     ≡ record { year = year; month = month; day = day; hour = hour; minute = minute }
 spelled_back year month day hour minute from m d n =
     let y : 2000 + (day + 32 * month + 512 * (year - 2000)) / 512 ≡ year = omega arith in

@@ -12,7 +12,7 @@ pub record HasSteps (schedule : Schedule) (said : Said) : Type 0 where
   pub records : schedule.records ≡ said.records
 
 -- it is the schedule that was said, or the fault; want of memory may come at any time
-abbrev pub ReadsAs : Result Said LineFault → Result Schedule ScheduleFault → Type 0
-ReadsAs outcome (Ok schedule) = (said : Said) × (outcome ≡ Ok said) × HasSteps schedule said
-ReadsAs outcome (Err (Line line kind)) = outcome ≡ Err (record { line = line; kind = kind })
-ReadsAs outcome (Err OutOfMemory) = Unit {0}
+abbrev pub ScheduleReadsAs : Result Said LineFault → Result Schedule ScheduleFault → Type 0
+ScheduleReadsAs outcome (Ok schedule) = (said : Said) × (outcome ≡ Ok said) × HasSteps schedule said
+ScheduleReadsAs outcome (Err (Line line kind)) = outcome ≡ Err (record { line = line; kind = kind })
+ScheduleReadsAs outcome (Err OutOfMemory) = Unit {0}

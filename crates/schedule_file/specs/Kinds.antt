@@ -13,7 +13,7 @@ use Rattle.schedule_file.specs.declared.schedule.form.Told.{Told}
 use Rattle.schedule_file.specs.declared.schedule.turn.Turn.{Turn}
 use Rattle.schedule_file.specs.declared.schedule.turn.Turn.TheVariants.{Neither, InRound}
 use Rattle.schedule_file.specs.Lists.{entry_of}
-use Rattle.schedule_file.specs.Steps.{MidRecord, Step, DueStep, RunStep, Said}
+use Rattle.schedule_file.specs.Steps.{MidRecord, ScheduleStep, DueStep, RunStep, Said}
 
 -- kind 5: the stamp, or that of the last of so many records, is no stamp
 abbrev pub is_no_stamp : ℕ → Option CivilMinute → ℕ → Bool
@@ -41,7 +41,7 @@ is_neither Neither = true
 is_neither other = false
 
 -- the step has a record that falls due
-abbrev pub is_due : Step → Bool
+abbrev pub is_due : ScheduleStep → Bool
 is_due (DueStep r) = true
 is_due (RunStep r count) = true
 is_due other = false
@@ -62,22 +62,22 @@ pub record Kind : Type 0 where
   pub applies : Bool
 
 -- a kind of fault of this number, and whether it applies
-abbrev pub at : ℕ → Bool → Kind
-at kind applies = record { kind = kind; applies = applies }
+abbrev pub kind_if : ℕ → Bool → Kind
+kind_if kind applies = record { kind = kind; applies = applies }
 
 -- of so many records: their stamps, their order, and their values
 abbrev pub told_kinds : ℕ → Said → Told → ℕ → List Kind
 told_kinds period s told count =
-    at 5 (is_no_stamp period told.stamp count) ∷ at 6 (is_not_later s.newest told.stamp)
-    ∷ at 7 (has_no_record told.values) ∷ []
+    kind_if 5 (is_no_stamp period told.stamp count) ∷ kind_if 6 (is_not_later s.newest told.stamp)
+    ∷ kind_if 7 (has_no_record told.values) ∷ []
 
 -- too many records
 abbrev pub count_kinds : Said → ℕ → List Kind
-count_kinds s count = at 10 (nat_lt 20000 (s.records + count)) ∷ []
+count_kinds s count = kind_if 10 (nat_lt 20000 (s.records + count)) ∷ []
 
 -- too many `open` and `round`
 abbrev pub turn_kinds : Said → List Kind
-turn_kinds s = at 11 (nat_lt 200 (s.turns + 1)) ∷ []
+turn_kinds s = kind_if 11 (nat_lt 200 (s.turns + 1)) ∷ []
 
 -- the kinds from 5 to 14 that a line of this form can have, in their order
 abbrev pub kinds : ℕ → Said → Form → List Kind
@@ -86,20 +86,20 @@ kinds period s (Run first count) = told_kinds period s first count ++ count_kind
 kinds period s (Idle ticks) = []
 kinds period s Open = turn_kinds s
 kinds period s Round = turn_kinds s
-kinds period s (Host number fate) = at 8 (not (is_in_round s.turn)) ∷ at 9 (is_listed s.details.host number) ∷ []
-kinds period s (Reply number fate) = at 8 (not (is_in_round s.turn)) ∷ at 9 (is_listed s.details.replies number) ∷ []
+kinds period s (Host number fate) = kind_if 8 (not (is_in_round s.turn)) ∷ kind_if 9 (is_listed s.details.host number) ∷ []
+kinds period s (Reply number fate) = kind_if 8 (not (is_in_round s.turn)) ∷ kind_if 9 (is_listed s.details.replies number) ∷ []
 kinds period s (Late number waits place) =
-    at 8 (not (is_in_round s.turn)) ∷ at 9 (is_listed s.details.lates number) ∷ at 12 (nat_lt 2 waits) ∷ []
+    kind_if 8 (not (is_in_round s.turn)) ∷ kind_if 9 (is_listed s.details.lates number) ∷ kind_if 12 (nat_lt 2 waits) ∷ []
 kinds period s (Mid number told) =
     told_kinds period s told 1
-    ++ at 8 (not (is_in_round s.turn) || list_any is_due s.since)
-    ∷ at 10 (nat_lt 20000 (s.records + 1))
-    ∷ at 13 (is_below_last s.details.mids number)
-    ∷ at 14 (nat_le 64 (length s.details.mids))
+    ++ kind_if 8 (not (is_in_round s.turn) || list_any is_due s.since)
+    ∷ kind_if 10 (nat_lt 20000 (s.records + 1))
+    ∷ kind_if 13 (is_below_last s.details.mids number)
+    ∷ kind_if 14 (nat_le 64 (length s.details.mids))
     ∷ []
-kinds period s (Stop stop) = at 8 (is_neither s.turn) ∷ at 9 (is_some s.stop) ∷ []
+kinds period s (Stop stop) = kind_if 8 (is_neither s.turn) ∷ kind_if 9 (is_some s.stop) ∷ []
 
 -- the first that applies
-abbrev pub least : List Kind → Option ℕ
-least [] = None
-least (k ∷ ks) = if k.applies then Some k.kind else least ks
+abbrev pub first_applying : List Kind → Option ℕ
+first_applying [] = None
+first_applying (k ∷ ks) = if k.applies then Some k.kind else first_applying ks

@@ -36,9 +36,9 @@ mids_in [] n = []
 mids_in (x ∷ xs) n = if x.number == n then x.rec ∷ mids_in xs n else mids_in xs n
 
 -- the records of messages with a greater number
-abbrev pub left_in : List Mid → ℕ → List (List ℕ)
-left_in [] n = []
-left_in (x ∷ xs) n = if nat_lt n x.number then x.rec ∷ left_in xs n else left_in xs n
+abbrev pub records_left_in : List Mid → ℕ → List (List ℕ)
+records_left_in [] n = []
+records_left_in (x ∷ xs) n = if nat_lt n x.number then x.rec ∷ records_left_in xs n else records_left_in xs n
 
 -- what the lists of a round's fates say
 abbrev pub fates_of : lists.Fates → Fates

@@ -19,7 +19,7 @@ said_by r = record {
 }
 
 -- a reader that says this afterwards answered so; want of memory may come at any time
-abbrev pub Answers : {A : Type 0} → Result Said ℕ → Result A Refusal → Said → Type 0
-Answers outcome (Ok x) said = outcome ≡ Ok said
-Answers outcome (Err (Kind kind)) said = outcome ≡ Err kind
-Answers outcome (Err OutOfMemory) said = Unit {0}
+abbrev pub ReaderAnswers : {A : Type 0} → Result Said ℕ → Result A Refusal → Said → Type 0
+ReaderAnswers outcome (Ok x) said = outcome ≡ Ok said
+ReaderAnswers outcome (Err (Kind kind)) said = outcome ≡ Err kind
+ReaderAnswers outcome (Err OutOfMemory) said = Unit {0}

@@ -35,21 +35,21 @@ abbrev pub no_details : Details
 no_details = record { host = []; replies = []; lates = []; mids = [] }
 
 -- A step of a schedule. A record is told by what its bytes read as.
-pub data Step : Type 0 where
-  DueStep : RecordRead → Step
-  RunStep : RecordRead → ℕ → Step
-  IdleStep : ℕ → Step
-  OpenStep : Option Stop → Step
-  RoundStep : Details → Option Stop → Step
+pub data ScheduleStep : Type 0 where
+  DueStep : RecordRead → ScheduleStep
+  RunStep : RecordRead → ℕ → ScheduleStep
+  IdleStep : ℕ → ScheduleStep
+  OpenStep : Option Stop → ScheduleStep
+  RoundStep : Details → Option Stop → ScheduleStep
 
 -- What the lines so far have said: the steps before the last `open` or `round`, which of the two that was, what belongs
 -- to it, and the steps after it; the minute of the last record, or 0; the number of records, and that of these turns.
 pub record Said : Type 0 where
-  pub before : List Step
+  pub before : List ScheduleStep
   pub turn : Turn
   pub details : Details
   pub stop : Option Stop
-  pub since : List Step
+  pub since : List ScheduleStep
   pub newest : ℕ
   pub records : ℕ
   pub turns : ℕ
@@ -61,16 +61,16 @@ records_within Opening count = 0
 records_within InRound count = count
 
 -- how many records fall due in a step
-abbrev pub records_in_step : Step → ℕ
+abbrev pub records_in_step : ScheduleStep → ℕ
 records_in_step (DueStep r) = 1
 records_in_step (RunStep first count) = count
 records_in_step (RoundStep details stop) = length details.mids
 records_in_step other = 0
 
 -- how many records fall due in all steps
-abbrev pub records_in : List Step → ℕ
-records_in [] = 0
-records_in (s ∷ ss) = records_in_step s + records_in ss
+abbrev pub records_in_steps : List ScheduleStep → ℕ
+records_in_steps [] = 0
+records_in_steps (s ∷ ss) = records_in_step s + records_in_steps ss
 
 -- nothing was said yet
 abbrev pub nothing_said : Said
@@ -86,13 +86,13 @@ nothing_said = record {
 }
 
 -- the last `open` or `round` with what belongs to it
-abbrev pub turn_steps : Turn → Details → Option Stop → List Step
+abbrev pub turn_steps : Turn → Details → Option Stop → List ScheduleStep
 turn_steps Neither details stop = []
 turn_steps Opening details stop = OpenStep stop ∷ []
 turn_steps InRound details stop = RoundStep details stop ∷ []
 
 -- all steps said
-abbrev pub steps_said : Said → List Step
+abbrev pub steps_said : Said → List ScheduleStep
 steps_said s = (s.before ++ turn_steps s.turn s.details s.stop) ++ s.since
 
 -- what the bytes of the record of this stamp and these values read as
@@ -129,7 +129,7 @@ details_seen period f = record {
 }
 
 -- the same of the code's steps, of a schedule of this period
-abbrev pub step_seen : ℕ → code_step.Step → Step
+abbrev pub step_seen : ℕ → code_step.Step → ScheduleStep
 step_seen period (code.Due r) = DueStep (reading r period)
 step_seen period (code.Run first count) = RunStep (reading first period) count
 step_seen period (code.Idle ticks) = IdleStep ticks
@@ -137,5 +137,5 @@ step_seen period (code.Open stop) = OpenStep stop
 step_seen period (code.Round fates stop) = RoundStep (details_seen period fates) stop
 
 -- all of the code's steps, of a schedule of this period
-abbrev pub steps_seen : ℕ → List code_step.Step → List Step
+abbrev pub steps_seen : ℕ → List code_step.Step → List ScheduleStep
 steps_seen period steps = map (step_seen period) steps

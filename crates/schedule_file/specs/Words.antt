@@ -13,26 +13,26 @@ use Rattle.schedule_file.specs.declared.schedule.stamps.Clock.{Clock}
 use Rattle.schedule_file.specs.declared.fate.Fate.TheVariants.{Lost, Cut, Dropped, Flipped}
 
 -- one to seven decimal digits
-abbrev pub number_of : List ℕ → Option ℕ
-number_of word = number_in 10 7 word
+abbrev pub number_in_word : List ℕ → Option ℕ
+number_in_word word = number_in 10 7 word
 
 -- the same in a range
-abbrev pub number_within : ℕ → ℕ → List ℕ → Option ℕ
-number_within least greatest word = decimal_within 7 least greatest word
+abbrev pub schedule_number_within : ℕ → ℕ → List ℕ → Option ℕ
+schedule_number_within least greatest word = decimal_within 7 least greatest word
 
 -- a number that is at least 1
-abbrev pub count_of : List ℕ → Option ℕ
-count_of word = number_within 1 9999999 word
+abbrev pub count_in_word : List ℕ → Option ℕ
+count_in_word word = schedule_number_within 1 9999999 word
 
 -- the word begins with `-`
 abbrev pub is_negative : List ℕ → Bool
 is_negative word = slice_index word 0 == 45
 
 -- a field's value, with `-` before it where it is negative; `-0` is none
-unfoldable pub value_of : List ℕ → Option ℤ
-value_of word =
-    if is_negative word then option_map (λ n. neg_ℤ (pos n)) (count_of (drop 1 word))
-    else option_map pos (number_of word)
+unfoldable pub value_in_word : List ℕ → Option ℤ
+value_in_word word =
+    if is_negative word then option_map (λ n. neg_ℤ (pos n)) (count_in_word (drop 1 word))
+    else option_map pos (number_in_word word)
 
 -- A field's name and its value.
 pub record Named : Type 0 where
@@ -43,24 +43,24 @@ pub record Named : Type 0 where
 unfoldable pub named_in : List ℕ → Option Named
 named_in word = do
   equals ← position (λ byte. byte == 61) word
-  value ← value_of (drop (equals + 1) word)
+  value ← value_in_word (drop (equals + 1) word)
   Some (record { name = take equals word; value = value })
 
 -- YYYY-MM-DD, whether the calendar has it or not: digits, but for `-` at the fifth and the eighth place
-unfoldable pub date_of : List ℕ → Option Date
-date_of word = do
+unfoldable pub date_in_word : List ℕ → Option Date
+date_in_word word = do
   text ← only_if (length word == 10 && slice_index word 4 == 45 && slice_index word 7 == 45) word
-  year ← number_of (take 4 text)
-  month ← number_of (take 2 (drop 5 text))
-  day ← number_of (drop 8 text)
+  year ← number_in_word (take 4 text)
+  month ← number_in_word (take 2 (drop 5 text))
+  day ← number_in_word (drop 8 text)
   Some (record { year = year; month = month; day = day })
 
 -- HH:MM, whether a day has it or not: the byte at the third place is `:`, and the others are digits
 unfoldable pub clock_of : List ℕ → Option Clock
 clock_of word = do
   text ← only_if (length word == 5 && slice_index word 2 == 58) word
-  hour ← number_of (take 2 text)
-  minute ← number_of (drop 3 text)
+  hour ← number_in_word (take 2 text)
+  minute ← number_in_word (drop 3 text)
   Some (record { hour = hour; minute = minute })
 
 -- the minute at that time of that date, where it is one that a stamp can name
@@ -87,22 +87,22 @@ lost_in (word ∷ words) = None
 -- `cut N`
 abbrev pub cut_in : List (List ℕ) → Option Fate
 cut_in (count ∷ []) = do
-  n ← number_of count
+  n ← number_in_word count
   Some (Cut n)
 cut_in words = None
 
 -- `drop P N`
 abbrev pub drop_in : List (List ℕ) → Option Fate
 drop_in (place ∷ count ∷ []) = do
-  p ← number_of place
-  n ← number_of count
+  p ← number_in_word place
+  n ← number_in_word count
   Some (Dropped p n)
 drop_in words = None
 
 -- `flip P HEX`
 abbrev pub flip_in : List (List ℕ) → Option Fate
 flip_in (place ∷ hex ∷ []) = do
-  p ← number_of place
+  p ← number_in_word place
   masks ← masks_of hex
   Some (Flipped p (record { items = masks }))
 flip_in words = None

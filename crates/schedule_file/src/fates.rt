@@ -1,7 +1,7 @@
 ghost use Rattle.std.specs.Prelude.{◌≡◌, ◌≤◌, true, vec_len};
 ghost use Rattle.archive_record.specs.Record.{IsRecord};
 ghost use Rattle.schedule_file.specs.InOrder.{is_in_order};
-ghost use Rattle.schedule_file.specs.Rows.{reads};
+ghost use Rattle.schedule_file.specs.Rows.{reads_as_row};
 
 use crate::fate::Fate;
 use archive_record::Rec52;
@@ -27,7 +27,7 @@ pub struct Mid {
     pub number: u32,
     pub rec: Rec52,
     ghost size: { IsRecord rec },
-    ghost row: { reads rec ≡ true },
+    ghost row: { reads_as_row rec ≡ true },
 }
 
 /// What becomes of the messages of one round, and which records fall due in it. Messages of the host, and replies, are

@@ -73,7 +73,8 @@ impl Fates {
         requires few { vec_len self.old.mids < MOST_MIDS }
         requires behind { last_number (λ m. m.number) 0 self.old.mids.items ≤ number }
         ensures ok { (period : ℕ) → OnOk result (map (mid_seen period) self.new.mids.items
-            ≡ map (mid_seen period) self.old.mids.items ++ record { number = number; record_read = reading rec period } ∷ []) }
+            ≡ map (mid_seen period) self.old.mids.items
+            ++ record { number = number; record_read = reading rec period } ∷ []) }
         ensures err { OnErr result (self.new.mids.items ≡ self.old.mids.items) }
         ensures count { OnOk result (vec_len self.new.mids ≡ vec_len self.old.mids + 1) }
         ensures last { OnOk result (last_number (λ m. m.number) 0 self.new.mids.items ≡ number) }

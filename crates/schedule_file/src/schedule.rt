@@ -1,6 +1,6 @@
 ghost use Rattle.std.specs.Prelude.{◌≡◌, IfOk};
-ghost use Rattle.schedule_file.specs.Reading.{steps_of};
-ghost use Rattle.schedule_file.specs.Steps.{records_in, steps_seen};
+ghost use Rattle.schedule_file.specs.Reading.{said_by_text};
+ghost use Rattle.schedule_file.specs.Steps.{records_in_steps, steps_seen};
 
 mod entries;
 mod fates;
@@ -39,15 +39,15 @@ pub struct Schedule {
     steps: Vec<Step>,
     records: u32,
     period: Period,
-    ghost counted: { records ≡ records_in (steps_seen period steps.items) },
+    ghost counted: { records ≡ records_in_steps (steps_seen period steps.items) },
 }
 
 impl Schedule {
-    ghost use Rattle.schedule_file.specs.Answer.{ReadsAs};
+    ghost use Rattle.schedule_file.specs.Answer.{ScheduleReadsAs};
 
     /// Reads a schedule for a console that writes records at this period.
     pub fn read(alloc: Global, bytes: &[u8], period: Period) -> Result<Schedule, ScheduleFault>
-        ensures said { ReadsAs (steps_of bytes.now period) result }
+        ensures said { ScheduleReadsAs (said_by_text bytes.now period) result }
         ensures period { IfOk result (λ schedule. schedule.period ≡ period) }
     {
         let mut reader = Reader::new(alloc, period);
@@ -83,7 +83,7 @@ impl Schedule {
 
     /// How many records fall due, those of a run and of a round included.
     pub fn records(&self) -> u32
-        ensures { result ≡ records_in (steps_seen self.now.period self.now.steps.items) }
+        ensures { result ≡ records_in_steps (steps_seen self.now.period self.now.steps.items) }
     {
         self.records
     }

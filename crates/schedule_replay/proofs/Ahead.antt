@@ -10,15 +10,15 @@ use Rattle.schedule_file.specs.declared.schedule.step.Stop as code_stop
 use Rattle.station_sim.specs.declared.sim.Sim.{Sim}
 use Rattle.station_sim.specs.declared.unseen.Unseen.{Unseen}
 use Rattle.schedule_file.specs.Fates.{Fates}
-use Rattle.station_replay.specs.Replay.{IsBroken, Item, Stage, first, opened}
+use Rattle.station_replay.specs.Replay.{IsBroken, Item, Stage, opening_if_closed, opened}
 use Rattle.station_replay.specs.Schedule.{Stop}
 use Rattle.schedule_replay.specs.declared.cut.Cut.{Cut}
 use Rattle.round_play.specs.declared.playing.Played.{Played}
 use Rattle.schedule_replay.specs.declared.run.Run.{Run}
 use Rattle.schedule_replay.specs.Left.{left_to_open}
-use Rattle.round_play.specs.Opening.{limits_of}
-use Rattle.round_play.specs.Played.{Host, IsPlayedOut}
-use Rattle.round_play.specs.Resting.{GoesOn}
+use Rattle.round_play.specs.Opening.{stopping_limits}
+use Rattle.round_play.specs.Played.{PlayedHost, IsPlayedOut}
+use Rattle.round_play.specs.Resting.{SessionGoesOn}
 use Rattle.schedule_replay.specs.Running.{After}
 use Rattle.schedule_replay.specs.Standing.{HasSaid, HasSession, HoldsAt, LineAt, Readies, round_step}
 use Rattle.schedule_replay.specs.Telling.{Telling}
@@ -49,16 +49,16 @@ pub holds_ready : (openings : ℕ) (settings : StationSettings) (s : Stage) (run
     → HoldsAt (openings + 1) settings (opened s.is_open s) (record { session = Some session; rounds = run.rounds; written = run.written }) disk
 holds_ready openings settings s run session disk r = record {
   rests = r.rests;
-  session = subst (λ (t : Bool). HasSession t settings (opened s.is_open s).archive.rows (Some session) disk) (sym (is_opened s)) (subst (λ (z : List Row). GoesOn settings z session disk) (sym (opened_rows s.is_open s)) r.goes_on);
+  session = subst (λ (t : Bool). HasSession t settings (opened s.is_open s).archive.rows (Some session) disk) (sym (is_opened s)) (subst (λ (z : List Row). SessionGoesOn settings z session disk) (sym (opened_rows s.is_open s)) r.goes_on);
   rounds = r.rounds ∙ sym (opened_rounds s.is_open s);
   written = r.written;
 }
 
 -- an open archive is opened at once, with nothing told
-pub none_first : {T : Type 0} (telling : Telling T) (s : Stage) (a : T) → s.is_open ≡ true → telling.tells a (first s.is_open s) a
-none_first telling s a is = subst (λ (z : List Item). telling.tells a z a) (ap (λ (t : Bool). first t s) (sym is)) (telling.tells_none a)
+pub none_first : {T : Type 0} (telling : Telling T) (s : Stage) (a : T) → s.is_open ≡ true → telling.tells a (opening_if_closed s.is_open s) a
+none_first telling s a is = subst (λ (z : List Item). telling.tells a z a) (ap (λ (t : Bool). opening_if_closed t s) (sym is)) (telling.tells_none a)
 
-pub played_opened : (settings : StationSettings) (f : Fates) (left : ℕ → List (List ℕ)) (stop : Option Stop) (openings : ℕ) (s : Stage) (old : Host) (played : Played) (new : Host) → s.is_open ≡ true
+pub played_opened : (settings : StationSettings) (f : Fates) (left : ℕ → List (List ℕ)) (stop : Option Stop) (openings : ℕ) (s : Stage) (old : PlayedHost) (played : Played) (new : PlayedHost) → s.is_open ≡ true
     → IsPlayedOut settings f left stop openings s old played new → IsPlayedOut settings f left stop openings (opened s.is_open s) old played new
 played_opened settings f left stop openings s old played new is o = subst (λ (u : Stage). IsPlayedOut settings f left stop openings u old played new) (ap (λ (t : Bool). opened t s) (sym is)) o
 
@@ -66,7 +66,7 @@ pub broken_opened : (settings : StationSettings) (f : Fates) (stop : Option Stop
     → IsBroken settings f stop s (Item.Unsaid (s.rounds + 1) which) → IsBroken settings f stop (opened s.is_open s) (Item.Unsaid ((opened s.is_open s).rounds + 1) which)
 broken_opened settings f stop s which is b = subst (λ (u : Stage). IsBroken settings f stop u (Item.Unsaid (u.rounds + 1) which)) (ap (λ (t : Bool). opened t s) (sym is)) b
 
-pub with_limits : {T : Type 0} (telling : Telling T) (openings : ℕ) (settings : StationSettings) (fates : code_fates.Fates) (stop : Option code_stop.Stop) (s : Stage) (before line : Sim) (made disk : Stopping MemDisk) (run : Run) (a b : T) → limits_of disk ≡ limits_of made
+pub with_limits : {T : Type 0} (telling : Telling T) (openings : ℕ) (settings : StationSettings) (fates : code_fates.Fates) (stop : Option code_stop.Stop) (s : Stage) (before line : Sim) (made disk : Stopping MemDisk) (run : Run) (a b : T) → stopping_limits disk ≡ stopping_limits made
     → After telling false settings (round_step fates stop) s (λ is u. HoldsAt openings settings u run disk × LineAt u line × HasSaid is before line) a b
-    → After telling false settings (round_step fates stop) s (λ is u. (HoldsAt openings settings u run disk × LineAt u line × HasSaid is before line) × (limits_of disk ≡ limits_of made)) a b
+    → After telling false settings (round_step fates stop) s (λ is u. (HoldsAt openings settings u run disk × LineAt u line × HasSaid is before line) × (stopping_limits disk ≡ stopping_limits made)) a b
 with_limits telling openings settings fates stop s before line made disk run a b limits (is, u, does, holds, told) = (is, u, does, (holds, limits), told)

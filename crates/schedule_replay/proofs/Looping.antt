@@ -15,9 +15,9 @@ use Rattle.schedule_file.specs.Fates.{Fates}
 use Rattle.gated_log.specs.Layout.{slot_size}
 use Rattle.station_session.specs.Attempts.{all_said}
 use Rattle.station_session.specs.declared.session.Session.{Session}
-use Rattle.station_replay.specs.Replay.{Does, IsBegun, IsBroken, IsReplay, IsRound, IsUnseen, IsWhole, Item, Opens, OpensNext, Runs, Stage, closing, first, is_stop, left_by_round, opened, start, stops_opening}
-use Rattle.station_replay.specs.Room.{line_of, lines}
-use Rattle.station_replay.specs.Schedule.{IsSchedule, Step, Stop, records}
+use Rattle.station_replay.specs.Replay.{Does, RunIsBegun, IsBroken, IsReplay, IsRound, IsUnseen, IsWhole, Item, Opens, OpensNext, Runs, Stage, closing_items, opening_if_closed, is_stop, left_by_round, opened, start, stops_opening}
+use Rattle.station_replay.specs.Room.{step_lines, lines}
+use Rattle.station_replay.specs.Schedule.{IsSchedule, ReplayStep, Stop, records}
 use Rattle.station_replay.specs.Stopped.{IsStop}
 use Rattle.station_replay.specs.Round.{tried_of}
 use Rattle.station_replay.proofs.Leaving.{total_few}
@@ -26,9 +26,9 @@ use Rattle.station_replay.proofs.Running.{begun_law, schedules_law}
 use Rattle.station_replay.proofs.Stops.{slots_is}
 use Rattle.schedule_replay.specs.declared.run.Run.{Run}
 use Rattle.schedule_steps.specs.Accepted.{AreAccepted, IsInRange}
-use Rattle.round_play.specs.Opening.{limits_of}
+use Rattle.round_play.specs.Opening.{stopping_limits}
 use Rattle.round_play.specs.Resting.{AtRest, IsRoomFor}
-use Rattle.schedule_replay.specs.Running.{BreaksAt, IsCut}
+use Rattle.schedule_replay.specs.Running.{BreaksAt, StepIsCut}
 use Rattle.schedule_replay.specs.SoFar.{SoFar}
 use Rattle.schedule_replay.specs.Standing.{HasRunRoom, HasSaid, HasSession, HoldsAt, LineAt, MayTake, StandsThere, said_in}
 use Rattle.schedule_steps.specs.Steps.{step_of, steps_for}
@@ -37,7 +37,7 @@ use Rattle.schedule_replay.specs.Turns.{BreaksRun, CutsRun, EndsRun}
 use Rattle.schedule_replay.proofs.Ahead.{is_opened}
 use Rattle.schedule_replay.proofs.RoundLaws.{after_rounds, front_whole, opened_rounds, opened_rows, said_first}
 
-pub runs_more : (settings : StationSettings) (xs : List Step) (x : Step) (s u v : Stage) (is now : List Item) → Runs settings xs s is u → Does settings x u now v → Runs settings (xs ++ x ∷ []) s (is ++ now) v
+pub runs_more : (settings : StationSettings) (xs : List ReplayStep) (x : ReplayStep) (s u v : Stage) (is now : List Item) → Runs settings xs s is u → Does settings x u now v → Runs settings (xs ++ x ∷ []) s (is ++ now) v
 runs_more settings [] x s u v is now (none, same) h = (v, now, [], ap (λ z. z ++ now) none ∙ sym (append-nil now), subst (λ (z : Stage). Does settings x z now v) same h, (refl, refl))
 runs_more settings (y ∷ xs) x s u v is now (mid, some, rest, split, does, again) h =
     (mid, some, rest ++ now, ap (λ z. z ++ now) split ∙ append_assoc some rest now, does, runs_more settings xs x mid u v rest now again h)
@@ -53,7 +53,7 @@ said_join (Item.Ended rows ∷ o) ys = said_join o ys
 pub said_more : (before line now : Sim) (items is : List Item) → HasSaid items before line → HasSaid is line now → HasSaid (items ++ is) before now
 said_more before line now items is first later = later ∙ ap (λ z. z ++ said_in is) first ∙ append_assoc before.talk.items (said_in items) (said_in is) ∙ ap (λ z. before.talk.items ++ z) (sym (said_join items is))
 
-lines_join : (xs ys : List Step) → lines (xs ++ ys) ≡ lines xs + lines ys
+lines_join : (xs ys : List ReplayStep) → lines (xs ++ ys) ≡ lines xs + lines ys
 lines_join [] ys = omega arith
 lines_join (x ∷ xs) ys = let e = lines_join xs ys in omega (arith, e)
 
@@ -62,17 +62,17 @@ opens_rounds : (t : Bool) (k : Stop) (s : Stage) (is : List Item) (u : Stage) �
 opens_rounds true k s is u (i, e) = ap (λ (v : Stage). v.rounds) e
 opens_rounds false k s is u (i, e) = ap (λ (v : Stage). v.rounds) e
 
-does_rounds : (settings : StationSettings) (x : Step) (s : Stage) (is : List Item) (u : Stage) → Does settings x s is u → u.rounds ≤ s.rounds + line_of x
-does_rounds settings (Step.Due rs) s is u (i, e) = let same : u.rounds ≡ s.rounds = ap (λ (v : Stage). v.rounds) e in omega (arith, same)
-does_rounds settings (Step.Idle n) s is u (i, e) = let same : u.rounds ≡ s.rounds = ap (λ (v : Stage). v.rounds) e in omega (arith, same)
-does_rounds settings (Step.Open None) s is u (i, e) = let same : u.rounds ≡ s.rounds = ap (λ (v : Stage). v.rounds) e in omega (arith, same)
-does_rounds settings (Step.Open (Some k)) s is u h = let same = opens_rounds (stops_opening k.change s.archive.size) k s is u h in omega (arith, same)
-does_rounds settings (Step.Round f left stop) s is u (r, made, i) =
+does_rounds : (settings : StationSettings) (x : ReplayStep) (s : Stage) (is : List Item) (u : Stage) → Does settings x s is u → u.rounds ≤ s.rounds + step_lines x
+does_rounds settings (ReplayStep.Due rs) s is u (i, e) = let same : u.rounds ≡ s.rounds = ap (λ (v : Stage). v.rounds) e in omega (arith, same)
+does_rounds settings (ReplayStep.Idle n) s is u (i, e) = let same : u.rounds ≡ s.rounds = ap (λ (v : Stage). v.rounds) e in omega (arith, same)
+does_rounds settings (ReplayStep.Open None) s is u (i, e) = let same : u.rounds ≡ s.rounds = ap (λ (v : Stage). v.rounds) e in omega (arith, same)
+does_rounds settings (ReplayStep.Open (Some k)) s is u h = let same = opens_rounds (stops_opening k.change s.archive.size) k s is u h in omega (arith, same)
+does_rounds settings (ReplayStep.Round f left stop) s is u (r, made, i) =
     let same : u.rounds ≡ (opened s.is_open s).rounds + 1 = ap (λ (v : Stage). v.rounds) made.next ∙ after_rounds (is_stop r.end) (opened s.is_open s) (left_by_round settings stop (opened s.is_open s) made.made) _ in
     let before = opened_rounds s.is_open s in
     omega (arith, same, before)
 
-pub rounds_few : (settings : StationSettings) (xs : List Step) (s : Stage) (is : List Item) (u : Stage) → Runs settings xs s is u → u.rounds ≤ s.rounds + lines xs
+pub rounds_few : (settings : StationSettings) (xs : List ReplayStep) (s : Stage) (is : List Item) (u : Stage) → Runs settings xs s is u → u.rounds ≤ s.rounds + lines xs
 rounds_few settings [] s is u (none, same) = let e : u.rounds ≡ s.rounds = ap (λ (v : Stage). v.rounds) same in omega (arith, e)
 rounds_few settings (x ∷ xs) s is u (mid, now, rest, split, does, again) =
     let one = does_rounds settings x s now mid does in
@@ -80,13 +80,13 @@ rounds_few settings (x ∷ xs) s is u (mid, now, rest, split, does, again) =
     omega (arith, one, more)
 
 -- one more step was taken
-pub so_far_more : (settings : StationSettings) (from : Stage) (xs : List Step) (x : Step) (items is : List Item) (s u : Stage) (openings : ℕ) (before line now : Sim) (made next : Stopping MemDisk) (after : Run)
-    → Runs settings xs from items s → openings ≤ lines xs → HasSaid items before line → Does settings x s is u → HoldsAt (openings + line_of x) settings u after next → LineAt u now → HasSaid is line now
-    → limits_of next ≡ limits_of made → SoFar settings from (xs ++ x ∷ []) (items ++ is) before now made next after
+pub so_far_more : (settings : StationSettings) (from : Stage) (xs : List ReplayStep) (x : ReplayStep) (items is : List Item) (s u : Stage) (openings : ℕ) (before line now : Sim) (made next : Stopping MemDisk) (after : Run)
+    → Runs settings xs from items s → openings ≤ lines xs → HasSaid items before line → Does settings x s is u → HoldsAt (openings + step_lines x) settings u after next → LineAt u now → HasSaid is line now
+    → stopping_limits next ≡ stopping_limits made → SoFar settings from (xs ++ x ∷ []) (items ++ is) before now made next after
 so_far_more settings from xs x items is s u openings before line now made next after runs few before_said does holds at said limits = record {
   stage = u;
   runs = runs_more settings xs x from s u items is runs does;
-  openings = openings + line_of x;
+  openings = openings + step_lines x;
   few = let e = lines_join xs (x ∷ []) in omega (arith, few, e);
   holds = holds;
   at = at;
@@ -95,11 +95,11 @@ so_far_more settings from xs x items is s u openings before line now made next a
 }
 
 -- a step's stop comes within a change, the first of which is change 1
-abbrev pub MayStop : Step → Type 0
-MayStop (Step.Due rs) = Unit {0}
-MayStop (Step.Idle n) = Unit {0}
-MayStop (Step.Open stop) = IsStop stop
-MayStop (Step.Round f left stop) = IsStop stop
+abbrev pub MayStop : ReplayStep → Type 0
+MayStop (ReplayStep.Due rs) = Unit {0}
+MayStop (ReplayStep.Idle n) = Unit {0}
+MayStop (ReplayStep.Open stop) = IsStop stop
+MayStop (ReplayStep.Round f left stop) = IsStop stop
 
 pub stop_in : (period : ℕ) (x : code_step.Step) → IsInRange period x → MayStop (step_of period x)
 stop_in period (code.Due rec) h = tt
@@ -108,18 +108,18 @@ stop_in period (code.Idle ticks) h = tt
 stop_in period (code.Open stop) h = h
 stop_in period (code.Round fates stop) h = h
 
-may_take : (settings : StationSettings) (eeprom : List ℕ) (packet : LoopPacket) (xs ys : List Step) (x : Step) (is : List Item) (s : Stage) → IsSchedule (xs ++ x ∷ ys) → Runs settings xs (start eeprom packet) is s → MayStop x
+may_take : (settings : StationSettings) (eeprom : List ℕ) (packet : LoopPacket) (xs ys : List ReplayStep) (x : ReplayStep) (is : List Item) (s : Stage) → IsSchedule (xs ++ x ∷ ys) → Runs settings xs (start eeprom packet) is s → MayStop x
     → lines (xs ++ x ∷ ys) ≤ 200 → s.archive.changes ≤ 4 * length s.archive.rows + 7 * lines xs → MayTake (length (records (xs ++ x ∷ ys))) settings x s
-may_take settings eeprom packet xs ys (Step.Due rs) is s ok runs stop few changes = tt
-may_take settings eeprom packet xs ys (Step.Idle n) is s ok runs stop few changes = tt
-may_take settings eeprom packet xs ys (Step.Open k) is s ok runs stop few changes = stop
-may_take settings eeprom packet xs ys (Step.Round f left k) is s ok runs stop few changes =
-    let e = lines_join xs (Step.Round f left k ∷ ys) in
+may_take settings eeprom packet xs ys (ReplayStep.Due rs) is s ok runs stop few changes = tt
+may_take settings eeprom packet xs ys (ReplayStep.Idle n) is s ok runs stop few changes = tt
+may_take settings eeprom packet xs ys (ReplayStep.Open k) is s ok runs stop few changes = stop
+may_take settings eeprom packet xs ys (ReplayStep.Round f left k) is s ok runs stop few changes =
+    let e = lines_join xs (ReplayStep.Round f left k ∷ ys) in
     (stop, round_in_run settings eeprom packet xs ys f left k ok is s runs, omega (arith, few, changes, e))
 
 -- a run of a schedule may take its next step
-pub stands_there : (settings : StationSettings) (eeprom : List ℕ) (packet : LoopPacket) (xs ys : List Step) (x : Step) (is : List Item) (s : Stage) (openings : ℕ) (disk : Stopping MemDisk) → IsSchedule (xs ++ x ∷ ys) → lines (xs ++ x ∷ ys) ≤ 200
-    → length (records (xs ++ x ∷ ys)) ≤ 20000 → MayStop x → IsRoomFor (length (records (xs ++ x ∷ ys))) (limits_of disk) → Runs settings xs (start eeprom packet) is s → openings ≤ lines xs
+pub stands_there : (settings : StationSettings) (eeprom : List ℕ) (packet : LoopPacket) (xs ys : List ReplayStep) (x : ReplayStep) (is : List Item) (s : Stage) (openings : ℕ) (disk : Stopping MemDisk) → IsSchedule (xs ++ x ∷ ys) → lines (xs ++ x ∷ ys) ≤ 200
+    → length (records (xs ++ x ∷ ys)) ≤ 20000 → MayStop x → IsRoomFor (length (records (xs ++ x ∷ ys))) (stopping_limits disk) → Runs settings xs (start eeprom packet) is s → openings ≤ lines xs
     → StandsThere (length (records (xs ++ x ∷ ys))) openings settings x s disk
 stands_there settings eeprom packet xs ys x is s openings disk ok few records_few stop room runs openings_few =
     let n = length (records (xs ++ x ∷ ys)) in
@@ -136,17 +136,17 @@ stands_there settings eeprom packet xs ys x is s openings disk ok few records_fe
     )
 
 -- all steps were taken, the archive is open, and the end was told
-pub all_done : {T : Type 0} (telling : Telling T) (settings : StationSettings) (eeprom : List ℕ) (packet : LoopPacket) (xs : List Step) (given : List Item) (s : Stage) (b c : T) (before line : Sim) (next : Stopping MemDisk) → IsSchedule xs
+pub all_done : {T : Type 0} (telling : Telling T) (settings : StationSettings) (eeprom : List ℕ) (packet : LoopPacket) (xs : List ReplayStep) (given : List Item) (s : Stage) (b c : T) (before line : Sim) (next : Stopping MemDisk) → IsSchedule xs
     → Runs settings xs (start eeprom packet) given s → LineAt s line → HasSaid given before line → (openings : ℕ) → AtRest openings (opened s.is_open s).archive next → telling.tells b (Item.Ended s.archive.rows ∷ []) c
-    → EndsRun telling settings (start eeprom packet) xs (given ++ first s.is_open s) before line next b c
+    → EndsRun telling settings (start eeprom packet) xs (given ++ opening_if_closed s.is_open s) before line next b c
 all_done telling settings eeprom packet xs given s b c before line next ok runs at said openings rest told =
-    let whole : (given ++ first s.is_open s) ++ Item.Ended s.archive.rows ∷ [] ≡ given ++ closing s = append_assoc given (first s.is_open s) (Item.Ended s.archive.rows ∷ []) in
-    let k : IsWhole settings (start eeprom packet) xs ((given ++ first s.is_open s) ++ Item.Ended s.archive.rows ∷ []) = (given, s, runs, whole) in
-    let ended : said_in (closing s) ≡ [] = said_first s.is_open s (Item.Ended s.archive.rows ∷ []) in
-    let heard : said_in ((given ++ first s.is_open s) ++ Item.Ended s.archive.rows ∷ []) ≡ said_in given = ap said_in whole ∙ said_join given (closing s) ∙ ap (λ z. said_in given ++ z) ended ∙ append-nil (said_in given) in
+    let whole : (given ++ opening_if_closed s.is_open s) ++ Item.Ended s.archive.rows ∷ [] ≡ given ++ closing_items s = append_assoc given (opening_if_closed s.is_open s) (Item.Ended s.archive.rows ∷ []) in
+    let k : IsWhole settings (start eeprom packet) xs ((given ++ opening_if_closed s.is_open s) ++ Item.Ended s.archive.rows ∷ []) = (given, s, runs, whole) in
+    let ended : said_in (closing_items s) ≡ [] = said_first s.is_open s (Item.Ended s.archive.rows ∷ []) in
+    let heard : said_in ((given ++ opening_if_closed s.is_open s) ++ Item.Ended s.archive.rows ∷ []) ≡ said_in given = ap said_in whole ∙ said_join given (closing_items s) ∙ ap (λ z. said_in given ++ z) ended ∙ append-nil (said_in given) in
     record {
       given = Item.Ended s.archive.rows ∷ [];
-      kept = schedules_law settings eeprom packet xs ok ((given ++ first s.is_open s) ++ Item.Ended s.archive.rows ∷ []) (inl k);
+      kept = schedules_law settings eeprom packet xs ok ((given ++ opening_if_closed s.is_open s) ++ Item.Ended s.archive.rows ∷ []) (inl k);
       told = told;
       took_part = record {
         ran = given;
@@ -163,54 +163,54 @@ all_done telling settings eeprom packet xs given s b c before line next ok runs 
       };
     }
 
-pub end_cut : {T : Type 0} (telling : Telling T) (settings : StationSettings) (eeprom : List ℕ) (packet : LoopPacket) (xs : List Step) (given : List Item) (s : Stage) (b c : T) → IsSchedule xs → Runs settings xs (start eeprom packet) given s → telling.breaks_off b (Item.Ended s.archive.rows ∷ []) c
-    → CutsRun telling settings (start eeprom packet) xs (given ++ first s.is_open s) b c
+pub end_cut : {T : Type 0} (telling : Telling T) (settings : StationSettings) (eeprom : List ℕ) (packet : LoopPacket) (xs : List ReplayStep) (given : List Item) (s : Stage) (b c : T) → IsSchedule xs → Runs settings xs (start eeprom packet) given s → telling.breaks_off b (Item.Ended s.archive.rows ∷ []) c
+    → CutsRun telling settings (start eeprom packet) xs (given ++ opening_if_closed s.is_open s) b c
 end_cut telling settings eeprom packet xs given s b c ok runs told =
-    let whole : (given ++ first s.is_open s) ++ Item.Ended s.archive.rows ∷ [] ≡ given ++ closing s = append_assoc given (first s.is_open s) (Item.Ended s.archive.rows ∷ []) in
-    let k : IsReplay settings (start eeprom packet) xs ((given ++ first s.is_open s) ++ Item.Ended s.archive.rows ∷ []) = inl (given, s, runs, whole) in
-    record { given = Item.Ended s.archive.rows ∷ []; is_begun = inr k; kept = schedules_law settings eeprom packet xs ok ((given ++ first s.is_open s) ++ Item.Ended s.archive.rows ∷ []) k; told = told }
+    let whole : (given ++ opening_if_closed s.is_open s) ++ Item.Ended s.archive.rows ∷ [] ≡ given ++ closing_items s = append_assoc given (opening_if_closed s.is_open s) (Item.Ended s.archive.rows ∷ []) in
+    let k : IsReplay settings (start eeprom packet) xs ((given ++ opening_if_closed s.is_open s) ++ Item.Ended s.archive.rows ∷ []) = inl (given, s, runs, whole) in
+    record { given = Item.Ended s.archive.rows ∷ []; is_begun = inr k; kept = schedules_law settings eeprom packet xs ok ((given ++ opening_if_closed s.is_open s) ++ Item.Ended s.archive.rows ∷ []) k; told = told }
 
 -- a delivery was unseen in the next step
-unseen_in : (settings : StationSettings) (from : Stage) (xs ys : List Step) (x : Step) (is now : List Item) (u : Stage) → Runs settings xs from is u → BreaksAt settings x u now → IsUnseen settings from (xs ++ x ∷ ys) (is ++ now)
-unseen_in settings from xs ys x is now u runs b = (xs, ys, b.0, b.1, b.2, is, u, b.3, ap (λ (z : Step). xs ++ z ∷ ys) b.4, runs, b.5, ap (λ z. is ++ z) b.6)
+unseen_in : (settings : StationSettings) (from : Stage) (xs ys : List ReplayStep) (x : ReplayStep) (is now : List Item) (u : Stage) → Runs settings xs from is u → BreaksAt settings x u now → IsUnseen settings from (xs ++ x ∷ ys) (is ++ now)
+unseen_in settings from xs ys x is now u runs b = (xs, ys, b.0, b.1, b.2, is, u, b.3, ap (λ (z : ReplayStep). xs ++ z ∷ ys) b.4, runs, b.5, ap (λ z. is ++ z) b.6)
 
 -- a round from an open stage is one from where the archive was closed, behind its opening
-does_opened : (settings : StationSettings) (f : Fates) (left : ℕ → List (List ℕ)) (stop : Option Stop) (s u : Stage) (is : List Item) → Does settings (Step.Round f left stop) (opened s.is_open s) is u → Does settings (Step.Round f left stop) s (first s.is_open s ++ is) u
+does_opened : (settings : StationSettings) (f : Fates) (left : ℕ → List (List ℕ)) (stop : Option Stop) (s u : Stage) (is : List Item) → Does settings (ReplayStep.Round f left stop) (opened s.is_open s) is u → Does settings (ReplayStep.Round f left stop) s (opening_if_closed s.is_open s ++ is) u
 does_opened settings f left stop s u is (r, made, i) =
     let t = opened s.is_open s in
     let same : opened t.is_open t ≡ t = ap (λ (b : Bool). opened b t) (is_opened s) in
-    let none : first t.is_open t ≡ [] = ap (λ (b : Bool). first b t) (is_opened s) in
-    (r, subst (λ (z : Stage). IsRound settings f left stop z r u) same made, ap (λ z. first s.is_open s ++ z) (i ∙ ap (λ z. z ++ Item.Ran r ∷ []) none))
+    let none : opening_if_closed t.is_open t ≡ [] = ap (λ (b : Bool). opening_if_closed b t) (is_opened s) in
+    (r, subst (λ (z : Stage). IsRound settings f left stop z r u) same made, ap (λ z. opening_if_closed s.is_open s ++ z) (i ∙ ap (λ z. z ++ Item.Ran r ∷ []) none))
 
-breaks_opened : (settings : StationSettings) (x : Step) (s : Stage) (is : List Item) → BreaksAt settings x (opened s.is_open s) is → BreaksAt settings x s (first s.is_open s ++ is)
+breaks_opened : (settings : StationSettings) (x : ReplayStep) (s : Stage) (is : List Item) → BreaksAt settings x (opened s.is_open s) is → BreaksAt settings x s (opening_if_closed s.is_open s ++ is)
 breaks_opened settings x s is (f, left, stop, i, round, broken, e) =
     let t = opened s.is_open s in
     let same : opened t.is_open t ≡ t = ap (λ (b : Bool). opened b t) (is_opened s) in
-    let none : first t.is_open t ≡ [] = ap (λ (b : Bool). first b t) (is_opened s) in
-    (f, left, stop, i, round, subst (λ (z : Stage). IsBroken settings f stop z i) same broken, ap (λ z. first s.is_open s ++ z) (e ∙ ap (λ z. z ++ i ∷ []) none))
+    let none : opening_if_closed t.is_open t ≡ [] = ap (λ (b : Bool). opening_if_closed b t) (is_opened s) in
+    (f, left, stop, i, round, subst (λ (z : Stage). IsBroken settings f stop z i) same broken, ap (λ z. opening_if_closed s.is_open s ++ z) (e ∙ ap (λ z. z ++ i ∷ []) none))
 
 -- a round behind its opening was taken
-pub round_more : (settings : StationSettings) (from : Stage) (xs : List Step) (f : Fates) (left : ℕ → List (List ℕ)) (stop : Option Stop) (given is : List Item) (s u : Stage) (openings : ℕ) (before line now : Sim) (made next : Stopping MemDisk) (after : Run)
-    → Runs settings xs from given s → openings ≤ lines xs → HasSaid given before line → Does settings (Step.Round f left stop) (opened s.is_open s) is u → HoldsAt (openings + 1) settings u after next → LineAt u now → HasSaid is line now
-    → limits_of next ≡ limits_of made → SoFar settings from (xs ++ Step.Round f left stop ∷ []) ((given ++ first s.is_open s) ++ is) before now made next after
+pub round_more : (settings : StationSettings) (from : Stage) (xs : List ReplayStep) (f : Fates) (left : ℕ → List (List ℕ)) (stop : Option Stop) (given is : List Item) (s u : Stage) (openings : ℕ) (before line now : Sim) (made next : Stopping MemDisk) (after : Run)
+    → Runs settings xs from given s → openings ≤ lines xs → HasSaid given before line → Does settings (ReplayStep.Round f left stop) (opened s.is_open s) is u → HoldsAt (openings + 1) settings u after next → LineAt u now → HasSaid is line now
+    → stopping_limits next ≡ stopping_limits made → SoFar settings from (xs ++ ReplayStep.Round f left stop ∷ []) ((given ++ opening_if_closed s.is_open s) ++ is) before now made next after
 round_more settings from xs f left stop given is s u openings before line now made next after runs few before_said does holds at said limits =
-    subst (λ (z : List Item). SoFar settings from (xs ++ Step.Round f left stop ∷ []) z before now made next after) (sym (append_assoc given (first s.is_open s) is))
-    (so_far_more settings from xs (Step.Round f left stop) given (first s.is_open s ++ is) s u openings before line now made next after runs few before_said (does_opened settings f left stop s u is does) holds at
+    subst (λ (z : List Item). SoFar settings from (xs ++ ReplayStep.Round f left stop ∷ []) z before now made next after) (sym (append_assoc given (opening_if_closed s.is_open s) is))
+    (so_far_more settings from xs (ReplayStep.Round f left stop) given (opening_if_closed s.is_open s ++ is) s u openings before line now made next after runs few before_said (does_opened settings f left stop s u is does) holds at
     (said ∙ ap (λ z. line.talk.items ++ z) (sym (said_first s.is_open s is))) limits)
 
 -- a delivery was unseen in a round behind its opening
-pub round_broken : {T : Type 0} (telling : Telling T) (settings : StationSettings) (eeprom : List ℕ) (packet : LoopPacket) (xs ys : List Step) (x : Step) (b c : T) (given now : List Item) (s : Stage) → IsSchedule (xs ++ x ∷ ys) → Runs settings xs (start eeprom packet) given s
-    → BreaksAt settings x (opened s.is_open s) now → telling.tells b now c → BreaksRun telling settings (start eeprom packet) (xs ++ x ∷ ys) (given ++ first s.is_open s) b c
+pub round_broken : {T : Type 0} (telling : Telling T) (settings : StationSettings) (eeprom : List ℕ) (packet : LoopPacket) (xs ys : List ReplayStep) (x : ReplayStep) (b c : T) (given now : List Item) (s : Stage) → IsSchedule (xs ++ x ∷ ys) → Runs settings xs (start eeprom packet) given s
+    → BreaksAt settings x (opened s.is_open s) now → telling.tells b now c → BreaksRun telling settings (start eeprom packet) (xs ++ x ∷ ys) (given ++ opening_if_closed s.is_open s) b c
 round_broken telling settings eeprom packet xs ys x b c given now s ok runs broken told =
-    let k = subst (λ (z : List Item). IsUnseen settings (start eeprom packet) (xs ++ x ∷ ys) z) (sym (append_assoc given (first s.is_open s) now))
-    (unseen_in settings (start eeprom packet) xs ys x given (first s.is_open s ++ now) s runs (breaks_opened settings x s now broken)) in
-    record { given = now; is_unseen = k; kept = schedules_law settings eeprom packet (xs ++ x ∷ ys) ok ((given ++ first s.is_open s) ++ now) (inr k); told = told }
+    let k = subst (λ (z : List Item). IsUnseen settings (start eeprom packet) (xs ++ x ∷ ys) z) (sym (append_assoc given (opening_if_closed s.is_open s) now))
+    (unseen_in settings (start eeprom packet) xs ys x given (opening_if_closed s.is_open s ++ now) s runs (breaks_opened settings x s now broken)) in
+    record { given = now; is_unseen = k; kept = schedules_law settings eeprom packet (xs ++ x ∷ ys) ok ((given ++ opening_if_closed s.is_open s) ++ now) (inr k); told = told }
 
-pub begun_too : {T : Type 0} (telling : Telling T) (settings : StationSettings) (eeprom : List ℕ) (packet : LoopPacket) (xs : List Step) (b c : T) (is now : List Item) → IsSchedule xs → IsBegun settings (start eeprom packet) xs (is ++ now) → telling.breaks_off b now c → CutsRun telling settings (start eeprom packet) xs is b c
+pub begun_too : {T : Type 0} (telling : Telling T) (settings : StationSettings) (eeprom : List ℕ) (packet : LoopPacket) (xs : List ReplayStep) (b c : T) (is now : List Item) → IsSchedule xs → RunIsBegun settings (start eeprom packet) xs (is ++ now) → telling.breaks_off b now c → CutsRun telling settings (start eeprom packet) xs is b c
 begun_too telling settings eeprom packet xs b c is now ok begun told = record { given = now; is_begun = inl begun; kept = begun_law settings eeprom packet xs ok (is ++ now) begun; told = told }
 
-pub step_cut : {T : Type 0} (telling : Telling T) (settings : StationSettings) (eeprom : List ℕ) (packet : LoopPacket) (xs ys : List Step) (x : Step) (b c : T) (is : List Item) (u : Stage) → IsSchedule (xs ++ x ∷ ys) → Runs settings xs (start eeprom packet) is u
-    → IsCut telling settings x u b c → CutsRun telling settings (start eeprom packet) (xs ++ x ∷ ys) is b c
+pub step_cut : {T : Type 0} (telling : Telling T) (settings : StationSettings) (eeprom : List ℕ) (packet : LoopPacket) (xs ys : List ReplayStep) (x : ReplayStep) (b c : T) (is : List Item) (u : Stage) → IsSchedule (xs ++ x ∷ ys) → Runs settings xs (start eeprom packet) is u
+    → StepIsCut telling settings x u b c → CutsRun telling settings (start eeprom packet) (xs ++ x ∷ ys) is b c
 step_cut telling settings eeprom packet xs ys x b c is u ok runs (inl (now, v, does, w)) =
     begun_too telling settings eeprom packet (xs ++ x ∷ ys) b c is now ok
     (xs ++ x ∷ [], ys, is ++ now, v, sym (append_assoc xs (x ∷ []) ys), runs_more settings xs x (start eeprom packet) u v is now runs does, inl refl) w
@@ -218,32 +218,32 @@ step_cut telling settings eeprom packet xs ys x b c is u ok runs (inr (inl (now,
     let k : IsReplay settings (start eeprom packet) (xs ++ x ∷ ys) (is ++ now) = inr (unseen_in settings (start eeprom packet) xs ys x is now u runs broken) in
     record { given = now; is_begun = inr k; kept = schedules_law settings eeprom packet (xs ++ x ∷ ys) ok (is ++ now) k; told = w }
 step_cut telling settings eeprom packet xs ys x b c is u ok runs (inr (inr (inl (f, left, stop, round, w)))) =
-    begun_too telling settings eeprom packet (xs ++ x ∷ ys) b c is (first u.is_open u) ok
-    (xs, x ∷ ys, is, u, refl, runs, inr (subst (λ (z : Step). OpensNext (z ∷ ys)) (sym round) tt, refl)) w
+    begun_too telling settings eeprom packet (xs ++ x ∷ ys) b c is (opening_if_closed u.is_open u) ok
+    (xs, x ∷ ys, is, u, refl, runs, inr (subst (λ (z : ReplayStep). OpensNext (z ∷ ys)) (sym round) tt, refl)) w
 step_cut telling settings eeprom packet xs ys x b c is u ok runs (inr (inr (inr w))) =
     begun_too telling settings eeprom packet (xs ++ x ∷ ys) b c is [] ok (xs, x ∷ ys, is, u, refl, runs, inl (append-nil is)) (front_whole telling b c [] w)
 
 -- a round behind its opening was cut off
-pub round_cut : {T : Type 0} (telling : Telling T) (settings : StationSettings) (eeprom : List ℕ) (packet : LoopPacket) (xs ys : List Step) (f : Fates) (left : ℕ → List (List ℕ)) (stop : Option Stop) (b c : T) (given : List Item) (s : Stage) → IsSchedule (xs ++ Step.Round f left stop ∷ ys)
-    → Runs settings xs (start eeprom packet) given s → IsCut telling settings (Step.Round f left stop) (opened s.is_open s) b c → CutsRun telling settings (start eeprom packet) (xs ++ Step.Round f left stop ∷ ys) (given ++ first s.is_open s) b c
+pub round_cut : {T : Type 0} (telling : Telling T) (settings : StationSettings) (eeprom : List ℕ) (packet : LoopPacket) (xs ys : List ReplayStep) (f : Fates) (left : ℕ → List (List ℕ)) (stop : Option Stop) (b c : T) (given : List Item) (s : Stage) → IsSchedule (xs ++ ReplayStep.Round f left stop ∷ ys)
+    → Runs settings xs (start eeprom packet) given s → StepIsCut telling settings (ReplayStep.Round f left stop) (opened s.is_open s) b c → CutsRun telling settings (start eeprom packet) (xs ++ ReplayStep.Round f left stop ∷ ys) (given ++ opening_if_closed s.is_open s) b c
 round_cut telling settings eeprom packet xs ys f left stop b c given s ok runs (inl (now, v, does, w)) =
-    let x = Step.Round f left stop in
-    begun_too telling settings eeprom packet (xs ++ x ∷ ys) b c (given ++ first s.is_open s) now ok
-    (subst (λ (z : List Item). IsBegun settings (start eeprom packet) (xs ++ x ∷ ys) z) (sym (append_assoc given (first s.is_open s) now))
-    (xs ++ x ∷ [], ys, given ++ (first s.is_open s ++ now), v, sym (append_assoc xs (x ∷ []) ys), runs_more settings xs x (start eeprom packet) s v given (first s.is_open s ++ now) runs (does_opened settings f left stop s v now does), inl refl)) w
+    let x = ReplayStep.Round f left stop in
+    begun_too telling settings eeprom packet (xs ++ x ∷ ys) b c (given ++ opening_if_closed s.is_open s) now ok
+    (subst (λ (z : List Item). RunIsBegun settings (start eeprom packet) (xs ++ x ∷ ys) z) (sym (append_assoc given (opening_if_closed s.is_open s) now))
+    (xs ++ x ∷ [], ys, given ++ (opening_if_closed s.is_open s ++ now), v, sym (append_assoc xs (x ∷ []) ys), runs_more settings xs x (start eeprom packet) s v given (opening_if_closed s.is_open s ++ now) runs (does_opened settings f left stop s v now does), inl refl)) w
 round_cut telling settings eeprom packet xs ys f left stop b c given s ok runs (inr (inl (now, broken, w))) =
-    let x = Step.Round f left stop in
-    let k : IsReplay settings (start eeprom packet) (xs ++ x ∷ ys) ((given ++ first s.is_open s) ++ now) = inr (subst (λ (z : List Item). IsUnseen settings (start eeprom packet) (xs ++ x ∷ ys) z) (sym (append_assoc given (first s.is_open s) now))
-    (unseen_in settings (start eeprom packet) xs ys x given (first s.is_open s ++ now) s runs (breaks_opened settings x s now broken))) in
-    record { given = now; is_begun = inr k; kept = schedules_law settings eeprom packet (xs ++ x ∷ ys) ok ((given ++ first s.is_open s) ++ now) k; told = w }
+    let x = ReplayStep.Round f left stop in
+    let k : IsReplay settings (start eeprom packet) (xs ++ x ∷ ys) ((given ++ opening_if_closed s.is_open s) ++ now) = inr (subst (λ (z : List Item). IsUnseen settings (start eeprom packet) (xs ++ x ∷ ys) z) (sym (append_assoc given (opening_if_closed s.is_open s) now))
+    (unseen_in settings (start eeprom packet) xs ys x given (opening_if_closed s.is_open s ++ now) s runs (breaks_opened settings x s now broken))) in
+    record { given = now; is_begun = inr k; kept = schedules_law settings eeprom packet (xs ++ x ∷ ys) ok ((given ++ opening_if_closed s.is_open s) ++ now) k; told = w }
 round_cut telling settings eeprom packet xs ys f left stop b c given s ok runs (inr (inr (inl (g, late, k, round, w)))) =
     let t = opened s.is_open s in
-    let none : first t.is_open t ≡ [] = ap (λ (z : Bool). first z t) (is_opened s) in
-    begun_too telling settings eeprom packet (xs ++ Step.Round f left stop ∷ ys) b c (given ++ first s.is_open s) [] ok
-    (xs, Step.Round f left stop ∷ ys, given, s, refl, runs, inr (tt, append-nil (given ++ first s.is_open s))) (subst (λ (z : List Item). telling.breaks_off b z c) none w)
+    let none : opening_if_closed t.is_open t ≡ [] = ap (λ (z : Bool). opening_if_closed z t) (is_opened s) in
+    begun_too telling settings eeprom packet (xs ++ ReplayStep.Round f left stop ∷ ys) b c (given ++ opening_if_closed s.is_open s) [] ok
+    (xs, ReplayStep.Round f left stop ∷ ys, given, s, refl, runs, inr (tt, append-nil (given ++ opening_if_closed s.is_open s))) (subst (λ (z : List Item). telling.breaks_off b z c) none w)
 round_cut telling settings eeprom packet xs ys f left stop b c given s ok runs (inr (inr (inr w))) =
-    begun_too telling settings eeprom packet (xs ++ Step.Round f left stop ∷ ys) b c (given ++ first s.is_open s) [] ok
-    (xs, Step.Round f left stop ∷ ys, given, s, refl, runs, inr (tt, append-nil (given ++ first s.is_open s))) (front_whole telling b c [] w)
+    begun_too telling settings eeprom packet (xs ++ ReplayStep.Round f left stop ∷ ys) b c (given ++ opening_if_closed s.is_open s) [] ok
+    (xs, ReplayStep.Round f left stop ∷ ys, given, s, refl, runs, inr (tt, append-nil (given ++ opening_if_closed s.is_open s))) (front_whole telling b c [] w)
 
 -- the steps of a schedule are those so far, the next, and those to come
 pub steps_split : (period : ℕ) (xs : List code_step.Step) (i : ℕ) (d : code_step.Step) → i < length xs → steps_for period (take i xs) ++ step_of period (get_or xs i d) ∷ steps_for period (drop (suc i) xs) ≡ steps_for period xs
@@ -263,9 +263,9 @@ pub record IsReady (settings : StationSettings) (xs : List code_step.Step) (disk
   pub few_lines : lines (steps_for settings.period xs) ≤ 200
   pub few_records : length (records (steps_for settings.period xs)) ≤ 20000
   pub ranges : AllByRecursion (IsInRange settings.period) xs
-  pub room : IsRoomFor (length (records (steps_for settings.period xs))) (limits_of disk)
+  pub room : IsRoomFor (length (records (steps_for settings.period xs))) (stopping_limits disk)
 
-pub ready : (settings : StationSettings) (xs : List code_step.Step) (disk : Stopping MemDisk) → AreAccepted settings.period xs → IsRoomFor (length (records (steps_for settings.period xs))) (limits_of disk) → IsReady settings xs disk
+pub ready : (settings : StationSettings) (xs : List code_step.Step) (disk : Stopping MemDisk) → AreAccepted settings.period xs → IsRoomFor (length (records (steps_for settings.period xs))) (stopping_limits disk) → IsReady settings xs disk
 ready settings xs disk accepted room = record {
   ok = accepted.rules;
   few_lines = accepted.few_lines;
@@ -289,16 +289,16 @@ lines_part period xs i =
     omega (arith, e, all)
 
 module _ (settings : StationSettings) (eeprom : List ℕ) (packet : LoopPacket) (xs : List code_step.Step) (i : ℕ) (made disk : Stopping MemDisk) (given : List Item) (s : Stage) (openings : ℕ) (r : IsReady settings xs made)
-    (runs : Runs settings (steps_for settings.period (take i xs)) (start eeprom packet) given s) (few : openings ≤ lines (steps_for settings.period (take i xs))) (limits : limits_of disk ≡ limits_of made) where
+    (runs : Runs settings (steps_for settings.period (take i xs)) (start eeprom packet) given s) (few : openings ≤ lines (steps_for settings.period (take i xs))) (limits : stopping_limits disk ≡ stopping_limits made) where
   pub may_take_next : (d : code_step.Step) → i < length xs → StandsThere (length (records (steps_for settings.period xs))) openings settings (step_of settings.period (get_or xs i d)) s disk
   may_take_next d less =
       let p = settings.period in
       let e = steps_split p xs i d less in
-      subst (λ (z : List Step). StandsThere (length (records z)) openings settings (step_of p (get_or xs i d)) s disk) e
+      subst (λ (z : List ReplayStep). StandsThere (length (records z)) openings settings (step_of p (get_or xs i d)) s disk) e
       (stands_there settings eeprom packet (steps_for p (take i xs)) (steps_for p (drop (suc i) xs)) (step_of p (get_or xs i d)) given s openings disk
-      (subst IsSchedule (sym e) r.ok) (subst (λ (z : List Step). lines z ≤ 200) (sym e) r.few_lines) (subst (λ (z : List Step). length (records z) ≤ 20000) (sym e) r.few_records)
+      (subst IsSchedule (sym e) r.ok) (subst (λ (z : List ReplayStep). lines z ≤ 200) (sym e) r.few_lines) (subst (λ (z : List ReplayStep). length (records z) ≤ 20000) (sym e) r.few_records)
       (stop_in p (get_or xs i d) (in_range_at p xs i d less r.ranges))
-      (subst (λ (z : List Step). IsRoomFor (length (records z)) (limits_of disk)) (sym e) (subst (IsRoomFor (length (records (steps_for p xs)))) (sym limits) r.room)) runs few)
+      (subst (λ (z : List ReplayStep). IsRoomFor (length (records z)) (stopping_limits disk)) (sym e) (subst (IsRoomFor (length (records (steps_for p xs)))) (sym limits) r.room)) runs few)
 
   pub few_rounds : s.rounds < 1000
   few_rounds =
@@ -314,7 +314,7 @@ module _ (settings : StationSettings) (eeprom : List ℕ) (packet : LoopPacket) 
       let n = length (records (steps_for q xs)) in
       let m = length (records (z ++ w)) in
       let fits = room_law settings eeprom packet z w (subst IsSchedule (sym all) r.ok) (slot_size * (14 * m + 1) + 1) (λ (rows : List Row) less. let a = total_few rows in let t = slots_is rows in omega (arith, a, t, less)) given s runs in
-      let same : m ≡ n = ap (λ (y : List Step). length (records y)) all in
+      let same : m ≡ n = ap (λ (y : List ReplayStep). length (records y)) all in
       let l = lines_part q xs i in
       record {
         room = subst (IsRoomFor n) (sym limits) r.room;
@@ -336,7 +336,7 @@ pub so_far_first : (settings : StationSettings) (eeprom : List ℕ) (packet : Lo
     → LineAt (start eeprom packet) line → AtRest 0 (start eeprom packet).archive disk → SoFar settings (start eeprom packet) (steps_for settings.period (take 0 xs)) [] line line disk disk run
 so_far_first settings eeprom packet xs line disk run closed rounds written at rests = record {
   stage = start eeprom packet;
-  runs = subst (λ (z : List Step). Runs settings z (start eeprom packet) [] (start eeprom packet)) (sym (none_taken settings.period xs)) (refl, refl);
+  runs = subst (λ (z : List ReplayStep). Runs settings z (start eeprom packet) [] (start eeprom packet)) (sym (none_taken settings.period xs)) (refl, refl);
   openings = 0;
   few = omega arith;
   holds = record { rests = rests; session = no_session settings [] run.session disk closed; rounds = rounds; written = written };

@@ -2,7 +2,7 @@
 use Rattle.std.proofs.Common.{◌≡◌, ◌↔◌, ℕ, false, List, [], Some, refl, sym, ◌∙◌, ap, subst, arith}
 use Rattle.disk_model.specs.Disk.{IsDurable, LeavesJust}
 use Rattle.disk_model.specs.DiskState.{DiskState, Limits, new_state}
-use Rattle.disk_model.specs.MemDisk.{mem_medium, state_of}
+use Rattle.disk_model.specs.MemDisk.{mem_medium, disk_state_of}
 use Rattle.disk_model.specs.Stopping.{stopping_medium, stopping_state_of}
 use Rattle.disk_model.specs.StoppingState.{StoppingState}
 use Rattle.disk_model.specs.declared.mem_disk.MemDisk.{MemDisk}
@@ -60,8 +60,8 @@ new_at_rest limits d state seen synced just moment =
     }
 
 -- a new disk, around a disk in memory that was made with these limits
-pub begins_disk : (records : ℕ) (limits : Limits) (inner : MemDisk) (disk : Stopping MemDisk) (eeprom : List ℕ) (packet : LoopPacket) → state_of inner ≡ new_state limits → mem_medium.seen inner ≡ Some [] → mem_medium.synced inner ≡ Some []
-    → LeavesJust (mem_medium.left inner) [] → mem_medium.moment inner ≡ 0 → stopping_state_of disk ≡ record { inner = state_of inner; armed = 0; pick = 0; stopped = false }
+pub begins_disk : (records : ℕ) (limits : Limits) (inner : MemDisk) (disk : Stopping MemDisk) (eeprom : List ℕ) (packet : LoopPacket) → disk_state_of inner ≡ new_state limits → mem_medium.seen inner ≡ Some [] → mem_medium.synced inner ≡ Some []
+    → LeavesJust (mem_medium.left inner) [] → mem_medium.moment inner ≡ 0 → stopping_state_of disk ≡ record { inner = disk_state_of inner; armed = 0; pick = 0; stopped = false }
     → stopping_medium.seen disk ≡ mem_medium.seen inner → stopping_medium.synced disk ≡ mem_medium.synced inner → ((t : ℕ) (c : List ℕ) → stopping_medium.left disk t c ↔ mem_medium.left inner t c)
     → stopping_medium.moment disk ≡ mem_medium.moment inner → IsRoomFor records limits → IsNewDisk records eeprom packet disk
 begins_disk records limits inner disk eeprom packet made seen synced just moment around sees syncs leaves moments room =

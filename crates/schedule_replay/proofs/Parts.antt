@@ -9,10 +9,10 @@ use Rattle.causes.proofs.Writing.{leaves_all, leaves_less, leaves_none, part_of_
 use Rattle.station_io.specs.declared.sink.Put.TheVariants.{Done, Failed}
 use Rattle.station_io.specs.Sink.{Emits, Outlet}
 use Rattle.weather_reports.specs.declared.end.ReportEnd.TheVariants as ReportEnd
-use Rattle.weather_reports.specs.Reported.{IsReport, Reports, text_of as lines_text}
+use Rattle.weather_reports.specs.Reported.{IsReport, Reports, text_of_lines}
 use Rattle.schedule_replay.specs.declared.cut.Cut.{Cut}
 use Rattle.schedule_replay.specs.declared.cut.Cut.TheVariants.{WriteFault, OutOfMemory}
-use Rattle.schedule_replay.specs.Writing.{IsFrontWritten, IsWritten, Writes}
+use Rattle.schedule_replay.specs.Writing.{IsFrontWritten, IsWritten, WritesText}
 
 -- the first text was written, and of both the second is left
 second_left : (old now : Option (List ℕ)) (one two : List ℕ) → Appends old now one → Leaves old now (one ++ two) two
@@ -20,7 +20,7 @@ second_left old now one two first = leaves_less old old now (one ++ two) one two
 
 -- the first text was written, and then the second one as was told
 pub writes_second : {K : Type 0} (outlet : Outlet K) (old now new : K) (one two : List ℕ) (result : Result (Unit {0}) Cut)
-    → IsWritten outlet old now one → Writes outlet now new two result → Writes outlet old new (one ++ two) result
+    → IsWritten outlet old now one → WritesText outlet now new two result → WritesText outlet old new (one ++ two) result
 writes_second outlet old now new one two (Ok done) first second =
     let all = one ++ two in
     let left : Leaves (outlet.taken old) (outlet.taken now) all (two ++ []) =
@@ -42,7 +42,7 @@ writes_second outlet old now new one two (Err OutOfMemory) first second = absurd
 
 -- the first text was not written whole
 pub writes_first : {K : Type 0} (outlet : Outlet K) (old new : K) (one two : List ℕ) (cut : Cut)
-    → Writes outlet old new one (Err cut) → Writes outlet old new (one ++ two) (Err cut)
+    → WritesText outlet old new one (Err cut) → WritesText outlet old new (one ++ two) (Err cut)
 writes_first outlet old new one two WriteFault first = record {
   part = part_of_front (outlet.taken old) (outlet.taken new) one two first.part;
   written = first.written;
@@ -71,7 +71,7 @@ put_failed outlet old new text emits = record {
 -- a report of the disk's rows, by its end
 pub report_done : {K : Type 0} (outlet : Outlet K) (old new : K) (lines : List (List ℕ)) (written : List ℕ)
     → Reports (outlet.taken old) (outlet.taken new) lines ReportEnd.Done → outlet.wrote old written new
-    → IsReport lines ReportEnd.Done written → IsWritten outlet old new (lines_text lines)
+    → IsReport lines ReportEnd.Done written → IsWritten outlet old new (text_of_lines lines)
 report_done outlet old new lines written reports wrote is = record {
   appended = reports;
   wrote = subst (λ (t : List ℕ). outlet.wrote old t new) is wrote;
@@ -79,7 +79,7 @@ report_done outlet old new lines written reports wrote is = record {
 
 pub report_failed : {K : Type 0} (outlet : Outlet K) (old new : K) (lines : List (List ℕ)) (written : List ℕ)
     → Reports (outlet.taken old) (outlet.taken new) lines ReportEnd.WriteFault → outlet.wrote old written new
-    → IsReport lines ReportEnd.WriteFault written → IsFrontWritten outlet old new (lines_text lines)
+    → IsReport lines ReportEnd.WriteFault written → IsFrontWritten outlet old new (text_of_lines lines)
 report_failed outlet old new lines written reports wrote is = record {
   part = reports;
   written = written;

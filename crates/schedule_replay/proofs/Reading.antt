@@ -17,7 +17,7 @@ use Rattle.station_base.specs.declared.row.Row.{Row}
 use Rattle.settings_file.specs.StationSettings.{StationSettings}
 use Rattle.gated_log.specs.Layout.{slot_size}
 use Rattle.weather_book.specs.declared.book.Book.{Book}
-use Rattle.weather_book.specs.Book.{StandsFor}
+use Rattle.weather_book.specs.Book.{BookStandsFor}
 use Rattle.packed_rows.specs.Rows.{rows_from, slot_total}
 use Rattle.weather_book.specs.Stands.{StandsOn, StandsToReadOn}
 use Rattle.packed_rows.proofs.Versions.{read_second}
@@ -26,7 +26,7 @@ use Rattle.weather_reports.specs.declared.end.ReportEnd.{ReportEnd}
 use Rattle.station_session.specs.declared.session.Session.{Session}
 use Rattle.station_session.specs.Session.{book_of}
 use Rattle.station_replay.specs.Keeping.{Archive}
-use Rattle.round_play.specs.Resting.{AtRest, GoesOn, HasLeft}
+use Rattle.round_play.specs.Resting.{AtRest, SessionGoesOn, HasLeft}
 use Rattle.round_play.proofs.Changing.{by_changes, fails_by_changes}
 use Rattle.round_play.proofs.Opened.{stands_stays, synced_seen}
 use Rattle.schedule_replay.specs.Writing.{IsOnlyRead, IsReadable}
@@ -95,14 +95,14 @@ module _ (old new : Stopping MemDisk) (state : stopping_state_of new ≡ stoppin
   }
 
 -- the slots of the rows stand within the length
-room_to_read : (disk : Stopping MemDisk) (session : Session) (settings : StationSettings) (rows : List Row) (openings : ℕ) (a : Archive) → AtRest openings a disk → GoesOn settings rows session disk
+room_to_read : (disk : Stopping MemDisk) (session : Session) (settings : StationSettings) (rows : List Row) (openings : ℕ) (a : Archive) → AtRest openings a disk → SessionGoesOn settings rows session disk
     → slot_size * (slot_total rows + 1) ≤ (stopping_state_of disk).inner.size
 room_to_read disk session settings rows openings a at goes =
     let log = goes.stands.log in let closed = log.rests.reads at.image at.seen in
     omega (arith, at.rests.size, at.length_is, log.count_is, gate_place log.before goes.stands.slots log.chain, ap length closed.1, length-append log.before (0 ∷ closed.0))
 
 -- reads of its rows alone leave a disk at rest as it is, and none fails
-reads_at_rest : (old new : Stopping MemDisk) (session : Session) (settings : StationSettings) (rows : List Row) (openings : ℕ) (a : Archive) (failed : Bool) → AtRest openings a old → GoesOn settings rows session old
+reads_at_rest : (old new : Stopping MemDisk) (session : Session) (settings : StationSettings) (rows : List Row) (openings : ℕ) (a : Archive) (failed : Bool) → AtRest openings a old → SessionGoesOn settings rows session old
     → Stays stopping_medium old new → Looked stopping_medium (slot_size * (slot_total rows + 1)) failed old new → (failed ≡ false) × IsOnlyRead old new
 reads_at_rest old new session settings rows openings a failed at goes stays looked =
     let room = room_to_read old session settings rows openings a at goes in
@@ -111,14 +111,14 @@ reads_at_rest old new session settings rows openings a failed at goes stays look
 
 -- the same of the reads of a report, which meets no fault of the disk
 pub report_reads : (old new : Stopping MemDisk) (session : Session) (book : Book) (end : ReportEnd) → IsReadable session old → book ≡ book_of session → Stays stopping_medium old new
-    → ((rows : List Row) → StandsFor book rows → ReadsOver stopping_medium rows end old new) → IsOnlyRead old new × (end ≢ ReportEnd.DiskFault)
+    → ((rows : List Row) → BookStandsFor book rows → ReadsOver stopping_medium rows end old new) → IsOnlyRead old new × (end ≢ ReportEnd.DiskFault)
 report_reads old new session book end readable is stays went =
-    let reads = went readable.rows (subst (λ (b : Book). StandsFor b readable.rows) (sym is) readable.goes_on.stands.stands_for) in
+    let reads = went readable.rows (subst (λ (b : Book). BookStandsFor b readable.rows) (sym is) readable.goes_on.stands.stands_for) in
     let done = reads_at_rest old new session readable.settings readable.rows readable.openings readable.archive reads.failed readable.rests readable.goes_on stays reads.looked in
     (done.1, λ fault. let failed : reads.failed ≡ true = subst (λ (e : ReportEnd). AsFailed e reads.failed) fault reads.by_end in let not_so = done.0 in cc)
 
 -- the rows of a session that goes on can be read of the book
-pub rows_readable : (disk : Stopping MemDisk) (session : Session) (book : Book) (settings : StationSettings) (rows : List Row) → book ≡ book_of session → GoesOn settings rows session disk
+pub rows_readable : (disk : Stopping MemDisk) (session : Session) (book : Book) (settings : StationSettings) (rows : List Row) → book ≡ book_of session → SessionGoesOn settings rows session disk
     → StandsToReadOn stopping_medium book disk rows
 rows_readable disk session book settings rows is goes =
     subst (λ (b : Book). StandsToReadOn stopping_medium b disk rows) (sym is) (can_be_read stopping_medium (book_of session) disk rows goes.stands)

@@ -13,23 +13,23 @@ use Rattle.schedule_file.specs.declared.schedule.step.Stop as code_stop
 use Rattle.station_sim.specs.declared.sim.Sim.{Sim}
 use Rattle.station_sim.specs.declared.unseen.Unseen.{Unseen}
 use Rattle.schedule_file.specs.Fates.{Fates}
-use Rattle.schedule_file.specs.Lists.{fates_of, left_in}
-use Rattle.station_sim.specs.Standing.{StandsFor}
+use Rattle.schedule_file.specs.Lists.{fates_of, records_left_in}
+use Rattle.station_sim.specs.Standing.{SimStandsFor}
 use Rattle.gated_log.specs.Layout.{empty_size}
 use Rattle.station_replay.specs.Keeping.{Archive}
-use Rattle.station_replay.specs.Replay.{IsBroken, Item, Stage, after_round, first, is_stop, left_by_round, opened}
-use Rattle.station_replay.specs.Schedule.{Step, Stop, no_fates}
+use Rattle.station_replay.specs.Replay.{IsBroken, Item, Stage, after_round, opening_if_closed, is_stop, left_by_round, opened}
+use Rattle.station_replay.specs.Schedule.{ReplayStep, Stop, no_fates}
 use Rattle.station_replay.specs.Round.{tried_of}
 use Rattle.station_session.specs.Attempts.{all_said}
 use Rattle.station_replay.proofs.Leaving.{total_few}
 use Rattle.station_replay.proofs.Stops.{slots_is}
 use Rattle.round_play.specs.declared.playing.Played.{Played}
 use Rattle.schedule_replay.specs.declared.run.Run.{Run}
-use Rattle.round_play.specs.Opening.{CanOpen, limits_of}
-use Rattle.round_play.specs.Played.{Host, IsCounted, IsPlayedOut, IsToldOf, MayPlay, PlaysBy}
-use Rattle.round_play.specs.Resting.{GoesOn, IsRoomFor}
-use Rattle.schedule_replay.specs.Running.{After, IsCut}
-use Rattle.schedule_replay.specs.Standing.{HasRunRoom, HasSaid, HasSession, HoldsAt, IsTold, LineAt, MayOpen, MayRun, Readies, StandsThere, round_step, said_in}
+use Rattle.round_play.specs.Opening.{CanOpen, stopping_limits}
+use Rattle.round_play.specs.Played.{PlayedHost, RoundIsCounted, IsPlayedOut, IsToldOf, MayPlay, PlaysBy}
+use Rattle.round_play.specs.Resting.{SessionGoesOn, IsRoomFor}
+use Rattle.schedule_replay.specs.Running.{After, StepIsCut}
+use Rattle.schedule_replay.specs.Standing.{HasRunRoom, HasSaid, HasSession, HoldsAt, RoundIsTold, LineAt, MayOpen, MayRun, Readies, StandsThere, round_step, said_in}
 use Rattle.schedule_steps.specs.Stops.{stop_set}
 use Rattle.schedule_replay.specs.Telling.{Telling}
 
@@ -53,7 +53,7 @@ opened_changes : (t : Bool) (s : Stage) → (opened t s).archive.changes ≤ s.a
 opened_changes true s = omega arith
 opened_changes false s = let n = one_or_three (Rattle.std.specs.Prelude.nat_lt empty_size s.archive.size) in omega (arith, n)
 
-opened_counted : (t : Bool) (records : ℕ) (settings : StationSettings) (f : Fates) (s : Stage) → IsCounted records settings f s → IsCounted records settings f (opened t s)
+opened_counted : (t : Bool) (records : ℕ) (settings : StationSettings) (f : Fates) (s : Stage) → RoundIsCounted records settings f s → RoundIsCounted records settings f (opened t s)
 opened_counted true records settings f s c = c
 opened_counted false records settings f s c = c
 
@@ -69,18 +69,18 @@ can_open records openings settings s run disk h r =
       moments = omega (arith, h.rests.rests.changes_are, r.changes, r.rows, r.records_are);
     }
 
-pub may_open : (settings : StationSettings) (x : Step) (run : Run) (line : Sim) (disk : Stopping MemDisk) → MayRun settings x run line disk → MayOpen settings run disk
+pub may_open : (settings : StationSettings) (x : ReplayStep) (run : Run) (line : Sim) (disk : Stopping MemDisk) → MayRun settings x run line disk → MayOpen settings run disk
 may_open settings x run line disk (records, openings, s, h, l, (room, may), few) = (openings, s, h, can_open records openings settings s run disk h room)
 
 -- behind its opening it may play the round
 pub may_play : (records openings : ℕ) (settings : StationSettings) (fates : code.Fates) (stop : Option code_stop.Stop) (s : Stage) (run : Run) (session : Session) (line : Sim) (disk now : Stopping MemDisk) → LineAt s line
-    → StandsThere records openings settings (round_step fates stop) s disk → Readies openings settings s run session now → limits_of now ≡ limits_of disk → MayPlay records settings (fates_of fates) (openings + 1) (opened s.is_open s) (round_host session line now)
+    → StandsThere records openings settings (round_step fates stop) s disk → Readies openings settings s run session now → stopping_limits now ≡ stopping_limits disk → MayPlay records settings (fates_of fates) (openings + 1) (opened s.is_open s) (round_host session line now)
 may_play records openings settings fates stop s run session line disk now l (room, (is_stop_, counted, few)) r limits =
     let rows = opened_rows s.is_open s in
     record {
-      line = subst (StandsFor line) (sym (opened_line s.is_open s)) l.stands;
+      line = subst (SimStandsFor line) (sym (opened_line s.is_open s)) l.stands;
       disk = r.rests;
-      session = subst (λ z. GoesOn settings z session now) (sym rows) r.goes_on;
+      session = subst (λ z. SessionGoesOn settings z session now) (sym rows) r.goes_on;
       room = subst (IsRoomFor records) (sym limits) room.room;
       counted = opened_counted s.is_open records settings (fates_of fates) s counted;
       changes = omega (arith, opened_changes s.is_open s, few, ap length rows);
@@ -95,15 +95,15 @@ archive_of true s a w = refl
 archive_of false s a w = refl
 
 -- what was played is told
-pub told_of : (settings : StationSettings) (f : Fates) (left : ℕ → List (List ℕ)) (stop : Option Stop) (openings : ℕ) (s : Stage) (old : Host) (played : Played) (session : Session) (line : Sim) (disk : Stopping MemDisk)
+pub told_of : (settings : StationSettings) (f : Fates) (left : ℕ → List (List ℕ)) (stop : Option Stop) (openings : ℕ) (s : Stage) (old : PlayedHost) (played : Played) (session : Session) (line : Sim) (disk : Stopping MemDisk)
     → (o : IsPlayedOut settings f left stop openings s old played (round_host session line disk)) → IsToldOf settings openings stop session played disk o.round o.next.archive
 told_of settings f left stop openings s old played session line disk o =
     let arc : o.next.archive ≡ left_by_round settings stop s o.is_round.made = ap (λ u. u.archive) o.is_round.next ∙ archive_of (is_stop o.round.end) s (left_by_round settings stop s o.is_round.made) _ in
     let rows : o.round.rows ≡ (left_by_round settings stop s o.is_round.made).rows = ap (λ r. r.rows) o.is_round.is in
     let same : o.next.archive.rows ≡ o.round.rows = ap (λ a. a.rows) arc ∙ sym rows in
-    record { tells = o.tells; rests = o.disk; rows = same; goes_on = λ still. subst (λ z. GoesOn settings z session disk) same (o.session still) }
+    record { tells = o.tells; rests = o.disk; rows = same; goes_on = λ still. subst (λ z. SessionGoesOn settings z session disk) same (o.session still) }
 
-pub number_of : (settings : StationSettings) (f : Fates) (left : ℕ → List (List ℕ)) (stop : Option Stop) (openings : ℕ) (s : Stage) (old : Host) (played : Played) (new : Host)
+pub number_of : (settings : StationSettings) (f : Fates) (left : ℕ → List (List ℕ)) (stop : Option Stop) (openings : ℕ) (s : Stage) (old : PlayedHost) (played : Played) (new : PlayedHost)
     → (o : IsPlayedOut settings f left stop openings s old played new) → o.round.number ≡ s.rounds + 1
 number_of settings f left stop openings s old played new o = ap (λ r. r.number) o.is_round.is
 
@@ -120,15 +120,15 @@ after_written true s a w = refl
 after_written false s a w = refl
 
 -- an opening before a round says nothing
-pub said_first : (t : Bool) (s : Stage) (xs : List Item) → said_in (first t s ++ xs) ≡ said_in xs
+pub said_first : (t : Bool) (s : Stage) (xs : List Item) → said_in (opening_if_closed t s ++ xs) ≡ said_in xs
 said_first true s xs = refl
 said_first false s xs = refl
 
 -- a round that was told leads where it leaves the run
-pub told_after : {T : Type 0} (telling : Telling T) (openings : ℕ) (settings : StationSettings) (fates : code.Fates) (stop : Option code_stop.Stop) (s : Stage) (old : Host) (played : Played) (session : Session) (line : Sim) (disk now : Stopping MemDisk) (run : Run) (before : ℕ) (a b c : T)
-    → (o : IsPlayedOut settings (fates_of fates) (left_in fates.mids.items) (stop_set stop) openings (opened s.is_open s) old played (round_host session line disk)) → fates_of line.fates ≡ no_fates
-    → IsTold settings openings o.round o.next.archive before run now → run.rounds ≡ s.rounds + 1 → before ≡ (opened s.is_open s).written
-    → telling.tells a (first s.is_open s) b → telling.tells b (Item.Ran o.round ∷ []) c
+pub told_after : {T : Type 0} (telling : Telling T) (openings : ℕ) (settings : StationSettings) (fates : code.Fates) (stop : Option code_stop.Stop) (s : Stage) (old : PlayedHost) (played : Played) (session : Session) (line : Sim) (disk now : Stopping MemDisk) (run : Run) (before : ℕ) (a b c : T)
+    → (o : IsPlayedOut settings (fates_of fates) (records_left_in fates.mids.items) (stop_set stop) openings (opened s.is_open s) old played (round_host session line disk)) → fates_of line.fates ≡ no_fates
+    → RoundIsTold settings openings o.round o.next.archive before run now → run.rounds ≡ s.rounds + 1 → before ≡ (opened s.is_open s).written
+    → telling.tells a (opening_if_closed s.is_open s) b → telling.tells b (Item.Ran o.round ∷ []) c
     → After telling false settings (round_step fates stop) s (λ is u. HoldsAt openings settings u run now × LineAt u line × HasSaid is old.link line) a c
 told_after telling openings settings fates stop s old played session line disk now run before a b c o none told rounds written one two =
     let t = is_stop o.round.end in
@@ -137,7 +137,7 @@ told_after telling openings settings fates stop s old played session line disk n
     let open_is : o.next.is_open ≡ not t = ap (λ u. u.is_open) n ∙ after_open t (opened s.is_open s) (left_by_round settings (stop_set stop) (opened s.is_open s) o.is_round.made) _ in
     let rounds_are : o.next.rounds ≡ (opened s.is_open s).rounds + 1 = ap (λ u. u.rounds) n ∙ after_rounds t (opened s.is_open s) (left_by_round settings (stop_set stop) (opened s.is_open s) o.is_round.made) _ in
     let written_is : o.next.written ≡ (if t then (opened s.is_open s).written else length (left_by_round settings (stop_set stop) (opened s.is_open s) o.is_round.made).rows) = ap (λ u. u.written) n ∙ after_written t (opened s.is_open s) (left_by_round settings (stop_set stop) (opened s.is_open s) o.is_round.made) _ in (
-      first s.is_open s ++ Item.Ran o.round ∷ [],
+      opening_if_closed s.is_open s ++ Item.Ran o.round ∷ [],
       o.next,
       (o.round, o.is_round, refl),
       (
@@ -150,50 +150,50 @@ told_after telling openings settings fates stop s old played session line disk n
         record { stands = o.line; fates = none },
         o.said ∙ ap (λ l. old.link.talk.items ++ l) (sym (append-nil (all_said (tried_of o.round.tried)))) ∙ ap (λ l. old.link.talk.items ++ l) (sym (said_first s.is_open s (Item.Ran o.round ∷ []))),
       ),
-      telling.tells_joins a b c (first s.is_open s) (Item.Ran o.round ∷ []) one two,
+      telling.tells_joins a b c (opening_if_closed s.is_open s) (Item.Ran o.round ∷ []) one two,
     )
 
-pub told_cut : {T : Type 0} (telling : Telling T) (settings : StationSettings) (openings : ℕ) (fates : code.Fates) (stop : Option code_stop.Stop) (s : Stage) (old : Host) (played : Played) (new : Host) (a b c : T)
-    → (o : IsPlayedOut settings (fates_of fates) (left_in fates.mids.items) (stop_set stop) openings (opened s.is_open s) old played new)
-    → telling.tells a (first s.is_open s) b → telling.breaks_off b (Item.Ran o.round ∷ []) c → IsCut telling settings (round_step fates stop) s a c
+pub told_cut : {T : Type 0} (telling : Telling T) (settings : StationSettings) (openings : ℕ) (fates : code.Fates) (stop : Option code_stop.Stop) (s : Stage) (old : PlayedHost) (played : Played) (new : PlayedHost) (a b c : T)
+    → (o : IsPlayedOut settings (fates_of fates) (records_left_in fates.mids.items) (stop_set stop) openings (opened s.is_open s) old played new)
+    → telling.tells a (opening_if_closed s.is_open s) b → telling.breaks_off b (Item.Ran o.round ∷ []) c → StepIsCut telling settings (round_step fates stop) s a c
 told_cut telling settings openings fates stop s old played new a b c o one two =
-    inl (first s.is_open s ++ Item.Ran o.round ∷ [], o.next, (o.round, o.is_round, refl), telling.breaks_later a b c (first s.is_open s) (Item.Ran o.round ∷ []) one two)
+    inl (opening_if_closed s.is_open s ++ Item.Ran o.round ∷ [], o.next, (o.round, o.is_round, refl), telling.breaks_later a b c (opening_if_closed s.is_open s) (Item.Ran o.round ∷ []) one two)
 
 pub unseen_after : {T : Type 0} (telling : Telling T) (settings : StationSettings) (fates : code.Fates) (stop : Option code_stop.Stop) (s : Stage) (P : List Item → Stage → Type 0) (number : ℕ) (which : Unseen) (a b c : T)
     → IsBroken settings (fates_of fates) (stop_set stop) (opened s.is_open s) (Item.Unsaid ((opened s.is_open s).rounds + 1) which) → number ≡ s.rounds + 1
-    → telling.tells a (first s.is_open s) b → telling.tells b (Item.Unsaid number which ∷ []) c → After telling true settings (round_step fates stop) s P a c
+    → telling.tells a (opening_if_closed s.is_open s) b → telling.tells b (Item.Unsaid number which ∷ []) c → After telling true settings (round_step fates stop) s P a c
 unseen_after telling settings fates stop s P number which a b c broken is one two =
     let same : number ≡ (opened s.is_open s).rounds + 1 = is ∙ ap (λ (k : ℕ). k + 1) (sym (opened_rounds s.is_open s)) in
     let i = Item.Unsaid ((opened s.is_open s).rounds + 1) which in (
-      first s.is_open s ++ i ∷ [],
-      (fates_of fates, left_in fates.mids.items, stop_set stop, i, refl, broken, refl),
-      telling.tells_joins a b c (first s.is_open s) (i ∷ []) one (subst (λ (k : ℕ). telling.tells b (Item.Unsaid k which ∷ []) c) same two),
+      opening_if_closed s.is_open s ++ i ∷ [],
+      (fates_of fates, records_left_in fates.mids.items, stop_set stop, i, refl, broken, refl),
+      telling.tells_joins a b c (opening_if_closed s.is_open s) (i ∷ []) one (subst (λ (k : ℕ). telling.tells b (Item.Unsaid k which ∷ []) c) same two),
     )
 
 pub unseen_cut : {T : Type 0} (telling : Telling T) (settings : StationSettings) (fates : code.Fates) (stop : Option code_stop.Stop) (s : Stage) (number : ℕ) (which : Unseen) (a b c : T)
     → IsBroken settings (fates_of fates) (stop_set stop) (opened s.is_open s) (Item.Unsaid ((opened s.is_open s).rounds + 1) which) → number ≡ s.rounds + 1
-    → telling.tells a (first s.is_open s) b → telling.breaks_off b (Item.Unsaid number which ∷ []) c → IsCut telling settings (round_step fates stop) s a c
+    → telling.tells a (opening_if_closed s.is_open s) b → telling.breaks_off b (Item.Unsaid number which ∷ []) c → StepIsCut telling settings (round_step fates stop) s a c
 unseen_cut telling settings fates stop s number which a b c broken is one two =
     let same : number ≡ (opened s.is_open s).rounds + 1 = is ∙ ap (λ (k : ℕ). k + 1) (sym (opened_rounds s.is_open s)) in
     let i = Item.Unsaid ((opened s.is_open s).rounds + 1) which in
     inr (inl (
-      first s.is_open s ++ i ∷ [],
-      (fates_of fates, left_in fates.mids.items, stop_set stop, i, refl, broken, refl),
-      telling.breaks_later a b c (first s.is_open s) (i ∷ []) one (subst (λ (k : ℕ). telling.breaks_off b (Item.Unsaid k which ∷ []) c) same two),
+      opening_if_closed s.is_open s ++ i ∷ [],
+      (fates_of fates, records_left_in fates.mids.items, stop_set stop, i, refl, broken, refl),
+      telling.breaks_later a b c (opening_if_closed s.is_open s) (i ∷ []) one (subst (λ (k : ℕ). telling.breaks_off b (Item.Unsaid k which ∷ []) c) same two),
     ))
 
 pub front_whole : {T : Type 0} (telling : Telling T) (a b : T) (is : List Item) → telling.tells a is b → telling.breaks_off a is b
 front_whole telling a b is told = subst (λ (z : List Item). telling.breaks_off a z b) (append-nil is) (telling.breaks_later a b b is [] told (telling.breaks_none b []))
 
-pub written_of : (settings : StationSettings) (f : Fates) (left : ℕ → List (List ℕ)) (stop : Option Stop) (openings : ℕ) (s : Stage) (old : Host) (played : Played) (new : Host)
+pub written_of : (settings : StationSettings) (f : Fates) (left : ℕ → List (List ℕ)) (stop : Option Stop) (openings : ℕ) (s : Stage) (old : PlayedHost) (played : Played) (new : PlayedHost)
     → (o : IsPlayedOut settings f left stop openings s old played new) → o.round.written ≡ s.written
 written_of settings f left stop openings s old played new o = ap (λ r. r.written) o.is_round.is
 
 -- what was played, by whether a delivery was unseen
-pub played_seen : (u : Option Unseen) (settings : StationSettings) (f : Fates) (left : ℕ → List (List ℕ)) (stop : Option Stop) (openings : ℕ) (s : Stage) (old : Host) (played : Played) (new : Host)
+pub played_seen : (u : Option Unseen) (settings : StationSettings) (f : Fates) (left : ℕ → List (List ℕ)) (stop : Option Stop) (openings : ℕ) (s : Stage) (old : PlayedHost) (played : Played) (new : PlayedHost)
     → u ≡ None → PlaysBy u settings f left stop openings s old played new → IsPlayedOut settings f left stop openings s old played new
 played_seen u settings f left stop openings s old played new is p = subst (λ (o : Option Unseen). PlaysBy o settings f left stop openings s old played new) is p
 
-pub played_unseen : (u : Option Unseen) (which : Unseen) (settings : StationSettings) (f : Fates) (left : ℕ → List (List ℕ)) (stop : Option Stop) (openings : ℕ) (s : Stage) (old : Host) (played : Played) (new : Host)
+pub played_unseen : (u : Option Unseen) (which : Unseen) (settings : StationSettings) (f : Fates) (left : ℕ → List (List ℕ)) (stop : Option Stop) (openings : ℕ) (s : Stage) (old : PlayedHost) (played : Played) (new : PlayedHost)
     → u ≡ Some which → PlaysBy u settings f left stop openings s old played new → IsBroken settings f stop s (Item.Unsaid (s.rounds + 1) which)
 played_unseen u which settings f left stop openings s old played new is p = subst (λ (o : Option Unseen). PlaysBy o settings f left stop openings s old played new) is p

@@ -10,19 +10,19 @@ use Rattle.station_replay.specs.Keeping.{Archive}
 use Rattle.station_replay.specs.Round.{Ending}
 use Rattle.schedule_file.specs.declared.schedule.step.Stop as code_stop
 use Rattle.station_replay.specs.Schedule.{Stop}
-use Rattle.station_replay.specs.Replay.{Does, Item, Opens, Stage, cut_archive, cut_short, first, made_ready, opened, opening, recovered, stops_opening, is_stop, Rounded}
+use Rattle.station_replay.specs.Replay.{Does, Item, Opens, Stage, cut_archive, cut_short, opening_if_closed, archive_made_ready, opened, opening, recovered, stops_opening, is_stop, Rounded}
 use Rattle.schedule_replay.specs.declared.cut.Cut.{Cut}
 use Rattle.schedule_replay.specs.declared.cut.Cut.TheVariants.{WriteFault, OutOfMemory}
 use Rattle.round_play.specs.declared.playing.Played.{Played}
 use Rattle.schedule_replay.specs.declared.round_line.RoundLine.{RoundLine}
 use Rattle.schedule_replay.specs.declared.run.Run.{Run}
-use Rattle.round_play.specs.Played.{IsToldOf, Tells}
-use Rattle.schedule_replay.specs.RoundLine.{ending_of, Tells as TellsLine}
+use Rattle.round_play.specs.Played.{IsToldOf, PlayedTells}
+use Rattle.schedule_replay.specs.RoundLine.{ending_of, RoundLineTells}
 use Rattle.round_play.specs.Opening.{IsOpened, OpensBy}
-use Rattle.schedule_replay.specs.Running.{IsCut}
+use Rattle.schedule_replay.specs.Running.{StepIsCut}
 use Rattle.schedule_steps.specs.Stops.{stop_of}
-use Rattle.round_play.specs.Resting.{AtRest, GoesOn}
-use Rattle.schedule_replay.specs.Standing.{HasSession, HoldsAt, IsTold, MayOpen, Readies, open_step}
+use Rattle.round_play.specs.Resting.{AtRest, SessionGoesOn}
+use Rattle.schedule_replay.specs.Standing.{HasSession, HoldsAt, RoundIsTold, MayOpen, Readies, open_step}
 use Rattle.schedule_replay.specs.Telling.{Telling, TellsAll}
 use Rattle.schedule_replay.specs.Writing.{IsOnlyRead, IsReadable}
 
@@ -37,9 +37,9 @@ closed_by true settings rows None disk h is = absurd h
 closed_by true settings rows (Some x) disk h is = absurd cc
 closed_by false settings rows o disk h is = refl
 
-pub open_by : (t : Bool) (settings : StationSettings) (rows : List Row) (o : Option Session) (session : Session) (disk : Stopping MemDisk) → HasSession t settings rows o disk → o ≡ Some session → (t ≡ true) × GoesOn settings rows session disk
+pub open_by : (t : Bool) (settings : StationSettings) (rows : List Row) (o : Option Session) (session : Session) (disk : Stopping MemDisk) → HasSession t settings rows o disk → o ≡ Some session → (t ≡ true) × SessionGoesOn settings rows session disk
 open_by true settings rows None session disk h is = absurd h
-open_by true settings rows (Some x) session disk h is = (refl, subst (λ (z : Session). GoesOn settings rows z disk) (let e : x ≡ session = cc in e) h)
+open_by true settings rows (Some x) session disk h is = (refl, subst (λ (z : Session). SessionGoesOn settings rows z disk) (let e : x ≡ session = cc in e) h)
 open_by false settings rows None session disk h is = absurd cc
 open_by false settings rows (Some x) session disk h is = absurd h
 
@@ -66,20 +66,20 @@ pub may_tell : (settings : StationSettings) (run : Run) (disk now : Stopping Mem
     → ((openings : ℕ) (a : Archive) → AtRest openings a disk → IsOpened settings openings a session now) → IsReadable session now
 may_tell settings run disk now session (n, s, holds, can) opens =
     let x = opens n s.archive holds.rests in
-    record { openings = n + 1; archive = made_ready s.archive; settings = settings; rows = s.archive.rows; rests = x.0; goes_on = x.1 }
+    record { openings = n + 1; archive = archive_made_ready s.archive; settings = settings; rows = s.archive.rows; rests = x.0; goes_on = x.1 }
 
 -- what an opening of a closed run tells
-pub opens_told : {T : Type 0} (telling : Telling T) (s : Stage) (old new : T) → s.is_open ≡ false → telling.tells old (opening s ∷ []) new → telling.tells old (first s.is_open s) new
-opens_told telling s old new closed told = subst (λ (t : Bool). telling.tells old (first t s) new) (sym closed) told
+pub opens_told : {T : Type 0} (telling : Telling T) (s : Stage) (old new : T) → s.is_open ≡ false → telling.tells old (opening s ∷ []) new → telling.tells old (opening_if_closed s.is_open s) new
+opens_told telling s old new closed told = subst (λ (t : Bool). telling.tells old (opening_if_closed t s) new) (sym closed) told
 
-pub opens_front : {T : Type 0} (telling : Telling T) (s : Stage) (old new : T) → s.is_open ≡ false → telling.breaks_off old (opening s ∷ []) new → telling.breaks_off old (first s.is_open s) new
-opens_front telling s old new closed told = subst (λ (t : Bool). telling.breaks_off old (first t s) new) (sym closed) told
+pub opens_front : {T : Type 0} (telling : Telling T) (s : Stage) (old new : T) → s.is_open ≡ false → telling.breaks_off old (opening s ∷ []) new → telling.breaks_off old (opening_if_closed s.is_open s) new
+opens_front telling s old new closed told = subst (λ (t : Bool). telling.breaks_off old (opening_if_closed t s) new) (sym closed) told
 
 stage_closed : (s : Stage) → s.is_open ≡ false → opened s.is_open s ≡ recovered s
 stage_closed s closed = ap (λ (t : Bool). opened t s) closed
 
 -- a closed run is ready behind its opening
-pub readies_closed : (openings : ℕ) (settings : StationSettings) (s : Stage) (run : Run) (session : Session) (disk : Stopping MemDisk) → s.is_open ≡ false → AtRest (openings + 1) (made_ready s.archive) disk → GoesOn settings s.archive.rows session disk
+pub readies_closed : (openings : ℕ) (settings : StationSettings) (s : Stage) (run : Run) (session : Session) (disk : Stopping MemDisk) → s.is_open ≡ false → AtRest (openings + 1) (archive_made_ready s.archive) disk → SessionGoesOn settings s.archive.rows session disk
     → run.rounds ≡ s.rounds → run.written ≡ length s.archive.rows → run.session ≡ None → Readies openings settings s run session disk
 readies_closed openings settings s run session disk closed rests goes rounds written none =
     let e = stage_closed s closed in
@@ -92,7 +92,7 @@ readies_closed openings settings s run session disk closed rests goes rounds wri
     }
 
 -- and an open one at once
-pub readies_open : (openings : ℕ) (settings : StationSettings) (s : Stage) (run : Run) (session : Session) (disk : Stopping MemDisk) → s.is_open ≡ true → AtRest openings s.archive disk → GoesOn settings s.archive.rows session disk
+pub readies_open : (openings : ℕ) (settings : StationSettings) (s : Stage) (run : Run) (session : Session) (disk : Stopping MemDisk) → s.is_open ≡ true → AtRest openings s.archive disk → SessionGoesOn settings s.archive.rows session disk
     → run.rounds ≡ s.rounds → run.written ≡ s.written → run.session ≡ None → Readies openings settings s run session disk
 readies_open openings settings s run session disk is rests goes rounds written none =
     let e : opened s.is_open s ≡ s = ap (λ (t : Bool). opened t s) is in
@@ -158,12 +158,12 @@ does_stop settings s (Some x) k is t =
     (subst (λ (z : Bool). Opens z (stop_of k) s (Item.OpenStopped k.change s.archive.rows ∷ []) (cut_short (stop_of k) s)) (sym t) (refl, refl))
 
 -- an opening whose telling failed
-pub open_cut : {T : Type 0} (telling : Telling T) (settings : StationSettings) (s u : Stage) (stop : Option code_stop.Stop) (i : Item) (old new : T) → Does settings (open_step stop) s (i ∷ []) u → telling.breaks_off old (i ∷ []) new → IsCut telling settings (open_step stop) s old new
+pub open_cut : {T : Type 0} (telling : Telling T) (settings : StationSettings) (s u : Stage) (stop : Option code_stop.Stop) (i : Item) (old new : T) → Does settings (open_step stop) s (i ∷ []) u → telling.breaks_off old (i ∷ []) new → StepIsCut telling settings (open_step stop) s old new
 open_cut telling settings s u stop i old new does told = inl (i ∷ [], u, does, told)
 
 -- what is told of a round in its line
-pub line_tells : (stop : Option Stop) (played : Played) (line : RoundLine) (r : Rounded) (known : Ending) → ending_of line.end ≡ known → Tells stop played r → r.end ≡ known → r.number ≡ line.number → played.report.attempts ≡ line.attempts → played.report.tally.pages ≡ line.pages → played.report.tally.skipped ≡ line.skipped
-    → played.harmed ≡ line.harmed → acked played.report ≡ line.acked → (is_stop r.end ≡ false → length r.rows ≡ line.rows) → (written : ℕ) → r.written ≡ written → TellsLine line written r
+pub line_tells : (stop : Option Stop) (played : Played) (line : RoundLine) (r : Rounded) (known : Ending) → ending_of line.end ≡ known → PlayedTells stop played r → r.end ≡ known → r.number ≡ line.number → played.report.attempts ≡ line.attempts → played.report.tally.pages ≡ line.pages → played.report.tally.skipped ≡ line.skipped
+    → played.harmed ≡ line.harmed → acked played.report ≡ line.acked → (is_stop r.end ≡ false → length r.rows ≡ line.rows) → (written : ℕ) → r.written ≡ written → RoundLineTells line written r
 line_tells stop played line r known ending tells end number attempts pages skipped harmed acked_is rows written written_is = record {
   number = number;
   end = end ∙ sym ending;
@@ -178,9 +178,9 @@ line_tells stop played line r known ending tells end number attempts pages skipp
 
 -- an unstopped round that was told
 pub told_on : (settings : StationSettings) (openings : ℕ) (stop : Option Stop) (session : Session) (played : Played) (disk now : Stopping MemDisk) (r : Rounded) (a : Archive) (before rounds written : ℕ) → IsToldOf settings openings stop session played disk r a → IsOnlyRead disk now → is_stop r.end ≡ false
-    → written ≡ length a.rows → IsTold settings openings r a before (record { session = Some session; rounds = rounds; written = written }) now
+    → written ≡ length a.rows → RoundIsTold settings openings r a before (record { session = Some session; rounds = rounds; written = written }) now
 told_on settings openings stop session played disk now r a before rounds written told read still is = record {
   rests = read.rests openings a told.rests;
-  session = subst (λ (t : Bool). HasSession (not t) settings a.rows (Some session) now) (sym still) (read.goes_on settings a.rows session (subst (λ (z : List Row). GoesOn settings z session disk) (sym told.rows) (told.goes_on still)));
+  session = subst (λ (t : Bool). HasSession (not t) settings a.rows (Some session) now) (sym still) (read.goes_on settings a.rows session (subst (λ (z : List Row). SessionGoesOn settings z session disk) (sym told.rows) (told.goes_on still)));
   written = is ∙ ap (λ (t : Bool). if t then before else length a.rows) (sym still);
 }

@@ -9,11 +9,11 @@ use Rattle.schedule_file.specs.declared.schedule.step.Step.TheVariants as code
 use Rattle.schedule_file.specs.declared.schedule.step.Stop as code_stop
 use Rattle.station_sim.specs.declared.sim.Sim.{Sim}
 use Rattle.schedule_file.specs.Lists.{fates_of}
-use Rattle.station_sim.specs.Standing.{StandsFor}
+use Rattle.station_sim.specs.Standing.{SimStandsFor}
 use Rattle.station_replay.specs.Replay.{Does, Item, Opens, Stage, on_line, stops_opening}
-use Rattle.station_replay.specs.Schedule.{Step, Stop}
+use Rattle.station_replay.specs.Schedule.{ReplayStep, Stop}
 use Rattle.schedule_replay.specs.declared.run.Run.{Run}
-use Rattle.schedule_replay.specs.Running.{After, IsCut}
+use Rattle.schedule_replay.specs.Running.{After, StepIsCut}
 use Rattle.schedule_replay.specs.Standing.{HasSaid, HoldsAt, LeadsTo, LineAt, open_step, said_in}
 use Rattle.schedule_steps.specs.Steps.{passed, step_of}
 use Rattle.schedule_steps.specs.Stops.{stop_of}
@@ -36,7 +36,7 @@ pub open_after : {T : Type 0} (telling : Telling T) (openings : ℕ) (settings :
     → After telling false settings (open_step stop) s (λ is u. HoldsAt openings settings u run disk × LineAt u line × HasSaid is line line) old new
 open_after telling openings settings stop s run line disk old new l (is, u, does, holds, w) =
     let e = open_still settings stop s is u does in
-    (is, u, does, (holds, record { stands = subst (StandsFor line) (sym e.0) l.stands; fates = l.fates }, said_none line line is refl e.1), w)
+    (is, u, does, (holds, record { stands = subst (SimStandsFor line) (sym e.0) l.stands; fates = l.fates }, said_none line line is refl e.1), w)
 
 -- a step that neither opens a session nor makes a round
 abbrev pub waits : code_step.Step → Bool
@@ -54,7 +54,7 @@ passes settings period (code.Open stop) s is = absurd cc
 passes settings period (code.Round fates stop) s is = absurd cc
 
 pub wait_after : {T : Type 0} (telling : Telling T) (openings k : ℕ) (settings : StationSettings) (period : ℕ) (x : code_step.Step) (s : Stage) (run : Run) (line now : Sim) (disk : Stopping MemDisk) (old : T) → waits x ≡ true → HoldsAt openings settings s run disk → LineAt s line
-    → StandsFor now (passed (step_of period x) s.line) → fates_of now.fates ≡ fates_of line.fates → now.talk.items ≡ line.talk.items
+    → SimStandsFor now (passed (step_of period x) s.line) → fates_of now.fates ≡ fates_of line.fates → now.talk.items ≡ line.talk.items
     → After telling false settings (step_of period x) s (λ is u. HoldsAt (openings + k) settings u run disk × LineAt u now × HasSaid is line now) old old
 wait_after telling openings k settings period x s run line now disk old is h l stands fates talk = (
   [],
@@ -68,7 +68,7 @@ wait_after telling openings k settings period x s run line now disk old is h l s
   telling.tells_none old,
 )
 
-pub wait_cut : {T : Type 0} (telling : Telling T) (settings : StationSettings) (x : Step) (s : Stage) (old : T) → IsCut telling settings x s old old
+pub wait_cut : {T : Type 0} (telling : Telling T) (settings : StationSettings) (x : ReplayStep) (s : Stage) (old : T) → StepIsCut telling settings x s old old
 wait_cut telling settings x s old = inr (inr (inr (telling.tells_none old)))
 
 pub waiting : (x : code_step.Step) → ((rec : Rec52) × (x ≡ code.Due rec)) ⊎ (((first : Rec52) × (count : ℕ) × (x ≡ code.Run first count)) ⊎ ((ticks : ℕ) × (x ≡ code.Idle ticks))) → waits x ≡ true

@@ -31,15 +31,15 @@ with_item (Item.Unsaid number which) c = c
 with_item (Item.Ended rows) c = record c { rows = length rows; days = length (days_of rows) }
 
 -- the counts after these items
-abbrev pub counted : Counts → List Item → Counts
-counted c [] = c
-counted c (i ∷ is) = counted (with_item i c) is
+abbrev pub counts_after : Counts → List Item → Counts
+counts_after c [] = c
+counts_after c (i ∷ is) = counts_after (with_item i c) is
 
 -- nothing is counted yet
 abbrev pub no_counts : Counts
 no_counts = record { rounds = 0; ok = 0; gave_up = 0; full = 0; stopped = 0; harmed = 0; rows = 0; days = 0 }
 
-pub counted_join : (c : Counts) (xs ys : List Item) → counted (counted c xs) ys ≡ counted c (xs ++ ys)
+pub counted_join : (c : Counts) (xs ys : List Item) → counts_after (counts_after c xs) ys ≡ counts_after c (xs ++ ys)
 counted_join c [] ys = refl
 counted_join c (x ∷ xs) ys = counted_join (with_item x c) xs ys
 
@@ -48,16 +48,16 @@ pub record CountsFront (old : Counts) (items : List Item) (new : Counts) : Type 
   pub front : List Item
   pub left : List Item
   pub whole : front ++ left ≡ items
-  pub counts : new ≡ counted old front
+  pub counts : new ≡ counts_after old front
 
 -- what counts are told is counted
 abbrev pub count_telling : Telling Counts
 count_telling = record {
-  tells = λ a items b. b ≡ counted a items;
+  tells = λ a items b. b ≡ counts_after a items;
   breaks_off = CountsFront;
   faults = λ a. 0;
   tells_none = λ a. refl;
-  tells_joins = λ a b c xs ys one two. two ∙ ap (λ z. counted z ys) one ∙ counted_join a xs ys;
+  tells_joins = λ a b c xs ys one two. two ∙ ap (λ z. counts_after z ys) one ∙ counted_join a xs ys;
   breaks_none = λ a items. record { front = []; left = items; whole = refl; counts = refl };
   breaks_first = λ a b xs ys one. record {
     front = one.front;
@@ -69,6 +69,6 @@ count_telling = record {
     front = xs ++ two.front;
     left = two.left;
     whole = append_assoc xs two.front two.left ∙ ap (λ z. xs ++ z) two.whole;
-    counts = two.counts ∙ ap (λ z. counted z two.front) one ∙ counted_join a xs two.front;
+    counts = two.counts ∙ ap (λ z. counts_after z two.front) one ∙ counted_join a xs two.front;
   };
 }

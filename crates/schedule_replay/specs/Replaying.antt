@@ -9,16 +9,16 @@ use Rattle.schedule_file.specs.declared.fates.Fates as code_fates
 use Rattle.schedule_file.specs.declared.schedule.step.Step as code_step
 use Rattle.station_sim.specs.declared.sim.Sim.{Sim}
 use Rattle.station_replay.specs.Room.{lines}
-use Rattle.station_replay.specs.Schedule.{Step, records}
-use Rattle.station_replay.specs.Replay.{Item, OpensNext, Runs, Stage, first, opened, start}
+use Rattle.station_replay.specs.Schedule.{ReplayStep, records}
+use Rattle.station_replay.specs.Replay.{Item, OpensNext, Runs, Stage, opening_if_closed, opened, start}
 use Rattle.round_play.specs.declared.playing.Playing.{Playing}
 use Rattle.schedule_replay.specs.declared.run.Run.{Run}
 use Rattle.schedule_replay.specs.declared.turns.ReplayRun.{ReplayRun}
 use Rattle.schedule_steps.specs.Accepted.{AreAccepted}
-use Rattle.schedule_replay.specs.Left.{left_by}
-use Rattle.round_play.specs.Opening.{limits_of}
-use Rattle.round_play.specs.Played.{Host}
-use Rattle.round_play.specs.Playing.{IsUnderWay, MayGoOn}
+use Rattle.schedule_replay.specs.Left.{turns_left_by}
+use Rattle.round_play.specs.Opening.{stopping_limits}
+use Rattle.round_play.specs.Played.{PlayedHost}
+use Rattle.round_play.specs.Playing.{RoundIsUnderWay, MayGoOn}
 use Rattle.round_play.specs.Resting.{IsRoomFor}
 use Rattle.schedule_replay.specs.SoFar.{SoFar}
 use Rattle.schedule_replay.specs.Standing.{HasSaid, HoldsAt, LineAt, WasBegun, round_step}
@@ -35,38 +35,38 @@ pub record Course : Type 0 where
   pub made : Stopping MemDisk
 
 -- The steps lead to a stage. There the archive is open, opened if need be ahead of the next step, a round or the end.
-pub record OpenedAhead (settings : StationSettings) (from : Stage) (behind to_come : List Step) (items : List Item)
+pub record OpenedAhead (settings : StationSettings) (from : Stage) (behind to_come : List ReplayStep) (items : List Item)
     (before line : Sim) (first_disk disk : Stopping MemDisk) (run : Run) : Type 0 where
   pub given : List Item
   pub stage : Stage
   pub runs : Runs settings behind from given stage
-  pub items_are : items ≡ given ++ first stage.is_open stage
+  pub items_are : items ≡ given ++ opening_if_closed stage.is_open stage
   pub next : OpensNext to_come
   pub openings : ℕ
   pub few : openings ≤ lines behind
   pub holds : HoldsAt (openings + 1) settings (opened stage.is_open stage) run disk
   pub at : LineAt stage line
   pub said : HasSaid given before line
-  pub limits : limits_of disk ≡ limits_of first_disk
+  pub limits : stopping_limits disk ≡ stopping_limits first_disk
 
 -- The steps lead to a stage. There the round of the next step was begun, and is under way.
-pub record WithinRound (records : ℕ) (settings : StationSettings) (from : Stage) (behind : List Step) (step : Step)
+pub record WithinRound (records : ℕ) (settings : StationSettings) (from : Stage) (behind : List ReplayStep) (step : ReplayStep)
     (items : List Item) (before line : Sim) (first_disk disk : Stopping MemDisk) (run : Run) (playing : Playing)
     : Type 0 where
   pub given : List Item
   pub stage : Stage
   pub runs : Runs settings behind from given stage
-  pub items_are : items ≡ given ++ first stage.is_open stage
+  pub items_are : items ≡ given ++ opening_if_closed stage.is_open stage
   pub openings : ℕ
   pub few : openings ≤ lines behind
   pub fates : code_fates.Fates
   pub is_round : step ≡ round_step fates playing.stop
-  pub old : Host
+  pub old : PlayedHost
   pub begun : WasBegun records (openings + 1) settings (opened stage.is_open stage) fates old run
-  pub way : IsUnderWay fates (stop_set playing.stop) old playing line disk
+  pub way : RoundIsUnderWay fates (stop_set playing.stop) old playing line disk
   pub may : MayGoOn playing disk
   pub said : HasSaid given before old.link
-  pub limits : limits_of old.disk ≡ limits_of first_disk
+  pub limits : stopping_limits old.disk ≡ stopping_limits first_disk
 
 -- the step is the next one of a run that took so many
 pub record IsNext (steps : List code_step.Step) (taken : ℕ) (step : code_step.Step) : Type 0 where
@@ -92,8 +92,8 @@ StandsBy (Some playing) c settings taken items run line disk = (step : code_step
 pub record StandsAt (playing : Option Playing) (c : Course) (settings : StationSettings) (taken turns : ℕ)
     (items : List Item) (run : Run) (line : Sim) (disk : Stopping MemDisk) : Type 0 where
   pub accepted : AreAccepted settings.period c.steps
-  pub room : IsRoomFor (length (records (steps_for settings.period c.steps))) (limits_of c.made)
-  pub few : turns + left_by playing settings.period c.steps taken run.session ≤ length c.steps + 2 ^ 41
+  pub room : IsRoomFor (length (records (steps_for settings.period c.steps))) (stopping_limits c.made)
+  pub few : turns + turns_left_by playing settings.period c.steps taken run.session ≤ length c.steps + 2 ^ 41
   pub stands : StandsBy playing c settings taken items run line disk
 
 -- the same of a run whose round under way is this one
@@ -113,12 +113,12 @@ MayTurn steps line disk run = (eeprom : List ℕ) × (packet : LoopPacket) × (i
     × (made : Stopping MemDisk) × Replaying eeprom packet steps items before line made disk run
 
 -- a turn gave items, which are told, and the run stands behind them
-abbrev pub TakesTurn : {T : Type 0} → Telling T → List ℕ → LoopPacket → List code_step.Step → List Item → Sim → Sim
+abbrev pub RunTakesTurn : {T : Type 0} → Telling T → List ℕ → LoopPacket → List code_step.Step → List Item → Sim → Sim
     → Stopping MemDisk → Stopping MemDisk → ReplayRun → T → T → Type 0
-TakesTurn telling eeprom packet steps items before line made disk run old new =
+RunTakesTurn telling eeprom packet steps items before line made disk run old new =
     (given : List Item) × telling.tells old given new
     × Replaying eeprom packet steps (items ++ given) before line made disk run
 
 -- so many turns are left at most of a run of these steps
-abbrev pub left_of : List code_step.Step → ReplayRun → ℕ
-left_of steps run = left_by run.playing run.settings.period steps run.taken run.run.session
+abbrev pub run_turns_left : List code_step.Step → ReplayRun → ℕ
+run_turns_left steps run = turns_left_by run.playing run.settings.period steps run.taken run.run.session

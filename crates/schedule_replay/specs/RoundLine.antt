@@ -3,7 +3,7 @@ use Rattle.std.specs.Prelude.{ℕ, ◌≡◌, false, List, ◌++◌, length, cod
 use Rattle.station_session.specs.Attempts.{page_count, skip_count}
 use Rattle.station_replay.specs.Round.{Ending, tried_of}
 use Rattle.station_replay.specs.Replay.{Rounded, is_stop}
-use Rattle.station_replay.specs.Texts.{counted, ending_text, rows_counted}
+use Rattle.station_replay.specs.Texts.{named_number, ending_text, rows_counted}
 use Rattle.schedule_replay.specs.declared.round_line.RoundEnding.{RoundEnding}
 use Rattle.schedule_replay.specs.declared.round_line.RoundEnding.TheVariants.{Done, GaveUp, Full, Stopped}
 use Rattle.schedule_replay.specs.declared.round_line.RoundLine.{RoundLine}
@@ -16,15 +16,15 @@ ending_of Full = Ending.Full
 ending_of (Stopped change) = Ending.Stopped change
 
 -- the line as it is written
-abbrev pub line_of : RoundLine → List ℕ
-line_of line =
-    counted (codes "round ") line.number ++ codes " " ++ ending_text (ending_of line.end)
-    ++ counted (codes " attempts ") line.attempts ++ counted (codes " pages ") line.pages
-    ++ counted (codes " skipped ") line.skipped ++ counted (codes " harmed ") line.harmed
-    ++ counted (codes " acked ") line.acked ++ rows_counted (ending_of line.end) line.rows ++ codes "\n"
+abbrev pub round_line_text : RoundLine → List ℕ
+round_line_text line =
+    named_number (codes "round ") line.number ++ codes " " ++ ending_text (ending_of line.end)
+    ++ named_number (codes " attempts ") line.attempts ++ named_number (codes " pages ") line.pages
+    ++ named_number (codes " skipped ") line.skipped ++ named_number (codes " harmed ") line.harmed
+    ++ named_number (codes " acked ") line.acked ++ rows_counted (ending_of line.end) line.rows ++ codes "\n"
 
 -- It tells of this round, of which so many rows had been written before. How many rows a stop left need not be known.
-pub record Tells (line : RoundLine) (written : ℕ) (x : Rounded) : Type 0 where
+pub record RoundLineTells (line : RoundLine) (written : ℕ) (x : Rounded) : Type 0 where
   pub number : x.number ≡ line.number
   pub end : x.end ≡ ending_of line.end
   pub attempts : length x.tried ≡ line.attempts

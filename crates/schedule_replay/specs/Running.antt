@@ -3,28 +3,28 @@ use Rattle.std.specs.Prelude.{◌≡◌, ℕ, ◌⊎◌, Bool, true, false, List
 use Rattle.std.specs.declared.option.Option.{Option}
 use Rattle.settings_file.specs.StationSettings.{StationSettings}
 use Rattle.schedule_file.specs.Fates.{Fates}
-use Rattle.station_replay.specs.Schedule.{Step, Stop}
-use Rattle.station_replay.specs.Replay.{Does, IsBroken, Item, Stage, first, opened}
+use Rattle.station_replay.specs.Schedule.{ReplayStep, Stop}
+use Rattle.station_replay.specs.Replay.{Does, IsBroken, Item, Stage, opening_if_closed, opened}
 use Rattle.schedule_replay.specs.Telling.{Telling}
 
 -- the items of a round in which a delivery was unseen
-abbrev pub BreaksAt : StationSettings → Step → Stage → List Item → Type 0
+abbrev pub BreaksAt : StationSettings → ReplayStep → Stage → List Item → Type 0
 BreaksAt settings x s is =
-    (f : Fates) × (left : ℕ → List (List ℕ)) × (stop : Option Stop) × (i : Item) × (x ≡ Step.Round f left stop)
-    × IsBroken settings f stop (opened s.is_open s) i × (is ≡ first s.is_open s ++ i ∷ [])
+    (f : Fates) × (left : ℕ → List (List ℕ)) × (stop : Option Stop) × (i : Item) × (x ≡ ReplayStep.Round f left stop)
+    × IsBroken settings f stop (opened s.is_open s) i × (is ≡ opening_if_closed s.is_open s ++ i ∷ [])
 
 -- what is known after a step, by whether a delivery was unseen: its items are told, and P holds of where it leads
-abbrev pub After : {T : Type 0} → Telling T → Bool → StationSettings → Step → Stage → (List Item → Stage → Type 0)
+abbrev pub After : {T : Type 0} → Telling T → Bool → StationSettings → ReplayStep → Stage → (List Item → Stage → Type 0)
     → T → T → Type 0
 After telling false settings x s P old new =
     (is : List Item) × (u : Stage) × Does settings x s is u × P is u × telling.tells old is new
 After telling true settings x s P old new = (is : List Item) × BreaksAt settings x s is × telling.tells old is new
 
 -- what is known of a step that was cut off: a prefix of what is told of its items is told, or of the opening before it
-abbrev pub IsCut : {T : Type 0} → Telling T → StationSettings → Step → Stage → T → T → Type 0
-IsCut telling settings x s old new =
+abbrev pub StepIsCut : {T : Type 0} → Telling T → StationSettings → ReplayStep → Stage → T → T → Type 0
+StepIsCut telling settings x s old new =
     ((is : List Item) × (u : Stage) × Does settings x s is u × telling.breaks_off old is new)
     ⊎ ((is : List Item) × BreaksAt settings x s is × telling.breaks_off old is new)
-    ⊎ ((f : Fates) × (left : ℕ → List (List ℕ)) × (stop : Option Stop) × (x ≡ Step.Round f left stop)
-    × telling.breaks_off old (first s.is_open s) new)
+    ⊎ ((f : Fates) × (left : ℕ → List (List ℕ)) × (stop : Option Stop) × (x ≡ ReplayStep.Round f left stop)
+    × telling.breaks_off old (opening_if_closed s.is_open s) new)
     ⊎ telling.tells old [] new

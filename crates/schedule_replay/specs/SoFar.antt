@@ -4,16 +4,16 @@ use Rattle.settings_file.specs.StationSettings.{StationSettings}
 use Rattle.disk_model.specs.declared.mem_disk.MemDisk.{MemDisk}
 use Rattle.disk_model.specs.declared.stopping.Stopping.{Stopping}
 use Rattle.station_sim.specs.declared.sim.Sim.{Sim}
-use Rattle.station_replay.specs.Schedule.{Step}
+use Rattle.station_replay.specs.Schedule.{ReplayStep}
 use Rattle.station_replay.specs.Replay.{Item, Runs, Stage}
 use Rattle.station_replay.specs.Room.{lines}
 use Rattle.schedule_replay.specs.declared.run.Run.{Run}
-use Rattle.round_play.specs.Opening.{limits_of}
+use Rattle.round_play.specs.Opening.{stopping_limits}
 use Rattle.schedule_replay.specs.Standing.{HasSaid, HoldsAt, LineAt}
 
 -- These steps were taken from a stage, and gave these items: the run, its line and its disk stand where they lead, and
 -- there were no more openings than steps.
-pub record SoFar (settings : StationSettings) (from : Stage) (steps : List Step) (items : List Item)
+pub record SoFar (settings : StationSettings) (from : Stage) (steps : List ReplayStep) (items : List Item)
     (before line : Sim) (first disk : Stopping MemDisk) (run : Run) : Type 0 where
   pub stage : Stage
   pub runs : Runs settings steps from items stage
@@ -22,4 +22,4 @@ pub record SoFar (settings : StationSettings) (from : Stage) (steps : List Step)
   pub holds : HoldsAt openings settings stage run disk
   pub at : LineAt stage line
   pub said : HasSaid items before line
-  pub limits : limits_of disk ≡ limits_of first
+  pub limits : stopping_limits disk ≡ stopping_limits first

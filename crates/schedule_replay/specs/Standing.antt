@@ -10,27 +10,27 @@ use Rattle.disk_model.specs.declared.stopping.Stopping.{Stopping}
 use Rattle.station_session.specs.declared.session.Session.{Session}
 use Rattle.station_session.specs.Attempts.{all_said}
 use Rattle.station_sim.specs.declared.sim.Sim.{Sim}
-use Rattle.schedule_file.specs.Lists.{fates_of, left_in}
+use Rattle.schedule_file.specs.Lists.{fates_of, records_left_in}
 use Rattle.schedule_file.specs.declared.fates.Fates as code_fates
 use Rattle.schedule_file.specs.declared.schedule.step.Step as code_step
 use Rattle.schedule_file.specs.declared.schedule.step.Step.TheVariants as code
 use Rattle.schedule_file.specs.declared.schedule.step.Stop as code_stop
-use Rattle.station_sim.specs.Standing.{StandsFor}
-use Rattle.station_replay.specs.Schedule.{Step, no_fates}
+use Rattle.station_sim.specs.Standing.{SimStandsFor}
+use Rattle.station_replay.specs.Schedule.{ReplayStep, no_fates}
 use Rattle.station_replay.specs.Replay.{Does, Item, Rounded, Stage, is_stop, opened}
 use Rattle.station_replay.specs.Keeping.{Archive}
 use Rattle.station_replay.specs.Stopped.{IsStop}
 use Rattle.station_replay.specs.Round.{tried_of}
 use Rattle.schedule_replay.specs.declared.run.Run.{Run}
-use Rattle.round_play.specs.Opening.{CanOpen, limits_of}
-use Rattle.round_play.specs.Played.{Host, IsCounted, MayPlay}
-use Rattle.round_play.specs.Resting.{AtRest, GoesOn, IsRoomFor}
+use Rattle.round_play.specs.Opening.{CanOpen, stopping_limits}
+use Rattle.round_play.specs.Played.{PlayedHost, RoundIsCounted, MayPlay}
+use Rattle.round_play.specs.Resting.{AtRest, SessionGoesOn, IsRoomFor}
 use Rattle.schedule_steps.specs.Stops.{stop_set}
 use Rattle.schedule_replay.specs.Telling.{Telling}
 
 -- by whether the run is open: its session goes on, or it has none
 abbrev pub HasSession : Bool → StationSettings → List Row → Option Session → Stopping MemDisk → Type 0
-HasSession true settings rows (Some session) disk = GoesOn settings rows session disk
+HasSession true settings rows (Some session) disk = SessionGoesOn settings rows session disk
 HasSession true settings rows None disk = ⊥
 HasSession false settings rows (Some session) disk = ⊥
 HasSession false settings rows None disk = Unit {0}
@@ -45,7 +45,7 @@ pub record HoldsAt (openings : ℕ) (settings : StationSettings) (s : Stage) (ru
 
 -- Its line does too, and no fates are set on it.
 pub record LineAt (s : Stage) (line : Sim) : Type 0 where
-  pub stands : StandsFor line s.line
+  pub stands : SimStandsFor line s.line
   pub fates : fates_of line.fates ≡ no_fates
 
 -- what was said and heard in the rounds of a run
@@ -63,26 +63,26 @@ HasSaid o before after = after.talk.items ≡ before.talk.items ++ said_in o
 
 -- A run of so many records has room at this stage, so many openings made.
 pub record HasRunRoom (records openings : ℕ) (s : Stage) (disk : Stopping MemDisk) : Type 0 where
-  pub room : IsRoomFor records (limits_of disk)
+  pub room : IsRoomFor records (stopping_limits disk)
   pub changes : s.archive.changes ≤ 4 * length s.archive.rows + 1400
   pub rows : length s.archive.rows ≤ records
   pub records_are : records ≤ 20000
   pub few : openings ≤ 200
 
 -- what is so of a step that comes next in a run of so many records
-abbrev pub MayTake : ℕ → StationSettings → Step → Stage → Type 0
-MayTake records settings (Step.Due rs) s = Unit {0}
-MayTake records settings (Step.Idle n) s = Unit {0}
-MayTake records settings (Step.Open stop) s = IsStop stop
-MayTake records settings (Step.Round f left stop) s =
-    IsStop stop × IsCounted records settings f s × (s.archive.changes ≤ 4 * length s.archive.rows + 1393)
+abbrev pub MayTake : ℕ → StationSettings → ReplayStep → Stage → Type 0
+MayTake records settings (ReplayStep.Due rs) s = Unit {0}
+MayTake records settings (ReplayStep.Idle n) s = Unit {0}
+MayTake records settings (ReplayStep.Open stop) s = IsStop stop
+MayTake records settings (ReplayStep.Round f left stop) s =
+    IsStop stop × RoundIsCounted records settings f s × (s.archive.changes ≤ 4 * length s.archive.rows + 1393)
 
 -- a step opens the archive, or makes a round
-abbrev pub open_step : Option code_stop.Stop → Step
-open_step stop = Step.Open (stop_set stop)
+abbrev pub open_step : Option code_stop.Stop → ReplayStep
+open_step stop = ReplayStep.Open (stop_set stop)
 
-abbrev pub round_step : code_fates.Fates → Option code_stop.Stop → Step
-round_step fates stop = Step.Round (fates_of fates) (left_in fates.mids.items) (stop_set stop)
+abbrev pub round_step : code_fates.Fates → Option code_stop.Stop → ReplayStep
+round_step fates stop = ReplayStep.Round (fates_of fates) (records_left_in fates.mids.items) (stop_set stop)
 
 -- the step makes no round
 abbrev pub IsNoRound : code_step.Step → Type 0
@@ -99,7 +99,7 @@ pub record IsNextRound (steps : List code_step.Step) (taken : ℕ) (fates : code
   pub is : code.Round fates stop ≡ get_or steps taken (code.Round fates stop)
 
 -- a run of so many records may take the step at this stage
-abbrev pub StandsThere : ℕ → ℕ → StationSettings → Step → Stage → Stopping MemDisk → Type 0
+abbrev pub StandsThere : ℕ → ℕ → StationSettings → ReplayStep → Stage → Stopping MemDisk → Type 0
 StandsThere records openings settings x s disk = HasRunRoom records openings s disk × MayTake records settings x s
 
 -- the run stands at some stage, and the archive can be opened
@@ -108,7 +108,7 @@ MayOpen settings run disk =
     (openings : ℕ) × (s : Stage) × HoldsAt openings settings s run disk × CanOpen disk
 
 -- the run stands at some stage at which it may take the step
-abbrev pub MayRun : StationSettings → Step → Run → Sim → Stopping MemDisk → Type 0
+abbrev pub MayRun : StationSettings → ReplayStep → Run → Sim → Stopping MemDisk → Type 0
 MayRun settings x run line disk =
     (records : ℕ) × (openings : ℕ) × (s : Stage) × HoldsAt openings settings s run disk × LineAt s line
     × StandsThere records openings settings x s disk × (run.rounds < 1000)
@@ -117,21 +117,21 @@ MayRun settings x run line disk =
 pub record Readies (openings : ℕ) (settings : StationSettings) (s : Stage) (run : Run) (session : Session)
     (disk : Stopping MemDisk) : Type 0 where
   pub rests : AtRest (openings + 1) (opened s.is_open s).archive disk
-  pub goes_on : GoesOn settings s.archive.rows session disk
+  pub goes_on : SessionGoesOn settings s.archive.rows session disk
   pub rounds : run.rounds ≡ s.rounds
   pub written : run.written ≡ (opened s.is_open s).written
   pub none : run.session ≡ None
 
 -- A round was begun with this host at this stage, which is open, so many openings made. The run is without its session.
 pub record WasBegun (records openings : ℕ) (settings : StationSettings) (s : Stage) (fates : code_fates.Fates)
-    (old : Host) (run : Run) : Type 0 where
+    (old : PlayedHost) (run : Run) : Type 0 where
   pub may : MayPlay records settings (fates_of fates) openings s old
   pub is_open : s.is_open ≡ true
   pub rounds : run.rounds ≡ s.rounds
   pub written : run.written ≡ s.written
 
 -- the step is taken, its items are told, and the run stands where it leads
-abbrev pub LeadsTo : {T : Type 0} → Telling T → ℕ → StationSettings → Step → Stage → Run → Stopping MemDisk → T → T
+abbrev pub LeadsTo : {T : Type 0} → Telling T → ℕ → StationSettings → ReplayStep → Stage → Run → Stopping MemDisk → T → T
     → Type 0
 LeadsTo telling openings settings x s run disk old new =
     (is : List Item) × (u : Stage) × Does settings x s is u × HoldsAt openings settings u run disk
@@ -139,7 +139,7 @@ LeadsTo telling openings settings x s run disk old new =
 
 -- A round was told: the disk is at rest with the archive that it left, its session goes on unless it was stopped, and
 -- all its rows are written, or so many as before.
-pub record IsTold (settings : StationSettings) (openings : ℕ) (r : Rounded) (a : Archive) (before : ℕ) (run : Run)
+pub record RoundIsTold (settings : StationSettings) (openings : ℕ) (r : Rounded) (a : Archive) (before : ℕ) (run : Run)
     (disk : Stopping MemDisk) : Type 0 where
   pub rests : AtRest openings a disk
   pub session : HasSession (not (is_stop r.end)) settings a.rows run.session disk

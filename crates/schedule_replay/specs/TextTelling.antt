@@ -6,7 +6,7 @@ use Rattle.std.specs.Io.KnownBytes.{Appends}
 use Rattle.causes.specs.Written.{WritesPart}
 use Rattle.station_io.specs.Sink.{Outlet}
 use Rattle.station_replay.specs.Replay.{Item}
-use Rattle.station_replay.specs.Texts.{text, text_of}
+use Rattle.station_replay.specs.Texts.{text, item_text}
 use Rattle.schedule_replay.specs.Telling.{Telling}
 use Rattle.schedule_replay.specs.Writing.{IsFrontWritten, IsWritten}
 
@@ -46,7 +46,7 @@ part_later a b c s t one two = record {
 
 pub text_join : (xs ys : List Item) → text (xs ++ ys) ≡ text xs ++ text ys
 text_join [] ys = refl
-text_join (x ∷ xs) ys = ap (λ z. text_of x ++ z) (text_join xs ys) ∙ sym (append_assoc (text_of x) (text xs) (text ys))
+text_join (x ∷ xs) ys = ap (λ z. item_text x ++ z) (text_join xs ys) ∙ sym (append_assoc (item_text x) (text xs) (text ys))
 
 module _ {K : Type 0} (outlet : Outlet K) where
   -- the text of no items is written

@@ -2,13 +2,13 @@
 use Rattle.std.specs.Prelude.{◌⊎◌, Bool, List}
 use Rattle.settings_file.specs.StationSettings.{StationSettings}
 use Rattle.station_replay.specs.Kept.{Kept}
-use Rattle.station_replay.specs.Schedule.{Step, records}
-use Rattle.station_replay.specs.Replay.{IsBegun, IsReplay, IsReplayBy, Item, Stage}
+use Rattle.station_replay.specs.Schedule.{ReplayStep, records}
+use Rattle.station_replay.specs.Replay.{RunIsBegun, IsReplay, IsReplayBy, Item, Stage}
 use Rattle.schedule_replay.specs.Telling.{Telling}
 
 -- What was told are items that are the run of the steps, by whether a delivery was unseen, and all is kept of them.
 pub record TellsRun {T : Type 0} (telling : Telling T) (unseen : Bool) (settings : StationSettings) (from : Stage)
-    (steps : List Step) (old new : T) : Type 0 where
+    (steps : List ReplayStep) (old new : T) : Type 0 where
   pub items : List Item
   pub is_replay : IsReplayBy unseen settings from steps items
   pub kept : Kept settings (records steps) items
@@ -16,8 +16,8 @@ pub record TellsRun {T : Type 0} (telling : Telling T) (unseen : Bool) (settings
 
 -- What was told is a prefix of what there is to tell of items that are the run of the steps, or the beginning of one.
 pub record TellsFront {T : Type 0} (telling : Telling T) (settings : StationSettings) (from : Stage)
-    (steps : List Step) (old new : T) : Type 0 where
+    (steps : List ReplayStep) (old new : T) : Type 0 where
   pub items : List Item
-  pub is_begun : IsBegun settings from steps items ⊎ IsReplay settings from steps items
+  pub is_begun : RunIsBegun settings from steps items ⊎ IsReplay settings from steps items
   pub kept : Kept settings (records steps) items
   pub told : telling.breaks_off old items new

@@ -6,8 +6,8 @@ use Rattle.disk_model.specs.declared.mem_disk.MemDisk.{MemDisk}
 use Rattle.disk_model.specs.declared.stopping.Stopping.{Stopping}
 use Rattle.station_sim.specs.declared.sim.Sim.{Sim}
 use Rattle.station_replay.specs.Kept.{Kept}
-use Rattle.station_replay.specs.Schedule.{Step, records}
-use Rattle.station_replay.specs.Replay.{IsBegun, IsReplay, IsUnseen, Item, Stage, start}
+use Rattle.station_replay.specs.Schedule.{ReplayStep, records}
+use Rattle.station_replay.specs.Replay.{RunIsBegun, IsReplay, IsUnseen, Item, Stage, start}
 use Rattle.round_play.specs.declared.playing.Playing.{Playing}
 use Rattle.schedule_replay.specs.declared.turns.ReplayRun.{ReplayRun}
 use Rattle.schedule_replay.specs.declared.turns.ReplayTurn.{ReplayTurn}
@@ -19,7 +19,7 @@ use Rattle.schedule_replay.specs.Telling.{Telling}
 
 -- The run came to its end: behind the items before, those given are the closing of the run. They are told, all is kept,
 -- and in this run the line and the disk took part.
-pub record EndsRun {T : Type 0} (telling : Telling T) (settings : StationSettings) (from : Stage) (steps : List Step)
+pub record EndsRun {T : Type 0} (telling : Telling T) (settings : StationSettings) (from : Stage) (steps : List ReplayStep)
     (items : List Item) (before after : Sim) (disk : Stopping MemDisk) (old new : T) : Type 0 where
   pub given : List Item
   pub kept : Kept settings (records steps) (items ++ given)
@@ -28,7 +28,7 @@ pub record EndsRun {T : Type 0} (telling : Telling T) (settings : StationSetting
 
 -- A delivery was unseen: the items up to it are told, and all is kept.
 pub record BreaksRun {T : Type 0} (telling : Telling T) (settings : StationSettings) (from : Stage)
-    (steps : List Step) (items : List Item) (old new : T) : Type 0 where
+    (steps : List ReplayStep) (items : List Item) (old new : T) : Type 0 where
   pub given : List Item
   pub is_unseen : IsUnseen settings from steps (items ++ given)
   pub kept : Kept settings (records steps) (items ++ given)
@@ -36,37 +36,37 @@ pub record BreaksRun {T : Type 0} (telling : Telling T) (settings : StationSetti
 
 -- The run was cut off: a prefix of what there is to tell of some items is told, and all is kept.
 pub record CutsRun {T : Type 0} (telling : Telling T) (settings : StationSettings) (from : Stage)
-    (steps : List Step) (items : List Item) (old new : T) : Type 0 where
+    (steps : List ReplayStep) (items : List Item) (old new : T) : Type 0 where
   pub given : List Item
-  pub is_begun : IsBegun settings from steps (items ++ given) ⊎ IsReplay settings from steps (items ++ given)
+  pub is_begun : RunIsBegun settings from steps (items ++ given) ⊎ IsReplay settings from steps (items ++ given)
   pub kept : Kept settings (records steps) (items ++ given)
   pub told : telling.breaks_off old given new
 
 -- what a turn of a run comes to that has given these items, by its answer
-abbrev pub TurnsTo : {T : Type 0} → Telling T → ReplayTurn → Course → StationSettings → List Item → Sim
+abbrev pub RunTurnsTo : {T : Type 0} → Telling T → ReplayTurn → Course → StationSettings → List Item → Sim
     → Stopping MemDisk → ReplayRun → T → T → Type 0
-TurnsTo telling turn.More c settings items line disk run old new = (given : List Item) × telling.tells old given new
+RunTurnsTo telling turn.More c settings items line disk run old new = (given : List Item) × telling.tells old given new
     × StandsWith run.playing c (items ++ given) run line disk
-TurnsTo telling turn.Ended c settings items line disk run old new =
+RunTurnsTo telling turn.Ended c settings items line disk run old new =
     EndsRun telling settings (start c.eeprom c.packet) (steps_for settings.period c.steps) items c.before line disk old
     new
-TurnsTo telling turn.Unseen c settings items line disk run old new =
+RunTurnsTo telling turn.Unseen c settings items line disk run old new =
     BreaksRun telling settings (start c.eeprom c.packet) (steps_for settings.period c.steps) items old new
-TurnsTo telling turn.WriteFault c settings items line disk run old new =
+RunTurnsTo telling turn.WriteFault c settings items line disk run old new =
     CutsRun telling settings (start c.eeprom c.packet) (steps_for settings.period c.steps) items old new
-TurnsTo telling turn.OutOfMemory c settings items line disk run old new =
+RunTurnsTo telling turn.OutOfMemory c settings items line disk run old new =
     CutsRun telling settings (start c.eeprom c.packet) (steps_for settings.period c.steps) items old new
 
 -- how a run moves that goes on, by the rounds under way before and then: one step is taken that makes no round, or the
 -- archive is opened; a round is begun in an open archive; it goes on; it ends, and with it its step
-abbrev pub Moves : Option Playing → Option Playing → Bool → Bool → ℕ → ℕ → Type 0
-Moves None None was_open is_open taken now =
+abbrev pub RunMoves : Option Playing → Option Playing → Bool → Bool → ℕ → ℕ → Type 0
+RunMoves None None was_open is_open taken now =
     (now ≡ taken + 1) ⊎ ((now ≡ taken) × (was_open ≡ false) × (is_open ≡ true))
-Moves None (Some playing) was_open is_open taken now = (now ≡ taken) × (was_open ≡ true)
-Moves (Some playing) (Some later) was_open is_open taken now = now ≡ taken
-Moves (Some playing) None was_open is_open taken now = now ≡ taken + 1
+RunMoves None (Some playing) was_open is_open taken now = (now ≡ taken) × (was_open ≡ true)
+RunMoves (Some playing) (Some later) was_open is_open taken now = now ≡ taken
+RunMoves (Some playing) None was_open is_open taken now = now ≡ taken + 1
 
 -- a turn with more to come was one of those that there are
 abbrev pub IsOneTurn : ReplayRun → ReplayRun → Type 0
 IsOneTurn old new =
-    Moves old.playing new.playing (is_some old.run.session) (is_some new.run.session) old.taken new.taken
+    RunMoves old.playing new.playing (is_some old.run.session) (is_some new.run.session) old.taken new.taken

@@ -15,7 +15,7 @@ use Rattle.station_session.specs.declared.session.Session.{Session}
 use Rattle.station_replay.specs.Keeping.{Archive}
 use Rattle.schedule_replay.specs.declared.cut.Cut.{Cut}
 use Rattle.schedule_replay.specs.declared.cut.Cut.TheVariants.{WriteFault, OutOfMemory}
-use Rattle.round_play.specs.Resting.{AtRest, GoesOn}
+use Rattle.round_play.specs.Resting.{AtRest, SessionGoesOn}
 
 -- The text was written: to the bytes of the sink, where it tells them, and by its calls.
 pub record IsWritten {K : Type 0} (outlet : Outlet K) (old new : K) (text : List ℕ) : Type 0 where
@@ -30,10 +30,10 @@ pub record IsFrontWritten {K : Type 0} (outlet : Outlet K) (old new : K) (text :
   pub wrote : outlet.wrote old written new
 
 -- All of the text is written, or, where a write failed, a prefix of it. No memory is asked for.
-abbrev pub Writes : {K : Type 0} → Outlet K → K → K → List ℕ → Result (Unit {0}) Cut → Type 0
-Writes outlet old new text (Ok done) = IsWritten outlet old new text
-Writes outlet old new text (Err WriteFault) = IsFrontWritten outlet old new text
-Writes outlet old new text (Err OutOfMemory) = ⊥
+abbrev pub WritesText : {K : Type 0} → Outlet K → K → K → List ℕ → Result (Unit {0}) Cut → Type 0
+WritesText outlet old new text (Ok done) = IsWritten outlet old new text
+WritesText outlet old new text (Err WriteFault) = IsFrontWritten outlet old new text
+WritesText outlet old new text (Err OutOfMemory) = ⊥
 
 -- The disk is at rest, and a session goes on over it.
 pub record IsReadable (session : Session) (disk : Stopping MemDisk) : Type 0 where
@@ -42,12 +42,12 @@ pub record IsReadable (session : Session) (disk : Stopping MemDisk) : Type 0 whe
   pub settings : StationSettings
   pub rows : List Row
   pub rests : AtRest openings archive disk
-  pub goes_on : GoesOn settings rows session disk
+  pub goes_on : SessionGoesOn settings rows session disk
 
 -- Reads alone were made, and none failed: a disk at rest still is, and what went on over it still does.
 pub record IsOnlyRead (old new : Stopping MemDisk) : Type 0 where
   pub state : stopping_state_of new ≡ stopping_state_of old
   pub stays : Stays stopping_medium old new
   pub rests : (openings : ℕ) (a : Archive) → AtRest openings a old → AtRest openings a new
-  pub goes_on : (settings : StationSettings) (rows : List Row) (session : Session) → GoesOn settings rows session old
-      → GoesOn settings rows session new
+  pub goes_on : (settings : StationSettings) (rows : List Row) (session : Session) → SessionGoesOn settings rows session old
+      → SessionGoesOn settings rows session new

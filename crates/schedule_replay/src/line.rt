@@ -1,6 +1,6 @@
 ghost use Rattle.std.specs.Prelude.{◌≡◌, ◌+◌, ◌≤◌, ◌++◌, length};
 ghost use Rattle.arrayvec.specs.ArrayVec.{array_vec_len};
-ghost use Rattle.station_replay.specs.Texts.{counted, end_line, open_line, open_stop_line, unseen_line};
+ghost use Rattle.station_replay.specs.Texts.{named_number, end_line, open_line, open_stop_line, unseen_line};
 
 use arrayvec::ArrayVec;
 use itoa::Buffer;
@@ -63,7 +63,7 @@ pub fn end_line(rows: u64, days: u32) -> Line
 #[tactic(auto, unfolding(station_base::specs::NumberText::number_text))]
 pub fn push_count(line: &mut Line, name: &[u8], number: u64)
     requires { array_vec_len line.old + length name.now + DIGITS ≤ LINE_ROOM }
-    ensures text { line.new.items ≡ line.old.items ++ counted name.now number }
+    ensures text { line.new.items ≡ line.old.items ++ named_number name.now number }
     ensures length { array_vec_len line.new ≤ array_vec_len line.old + length name.now + DIGITS }
 {
     let mut digits = Buffer::new();

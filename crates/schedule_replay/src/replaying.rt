@@ -3,8 +3,8 @@ ghost use Rattle.causes.specs.Cause.{Cause};
 ghost use Rattle.loop_packet.specs.declared.packet.LoopPacket.{LoopPacket};
 ghost use Rattle.station_replay.specs.Replay.{start};
 ghost use Rattle.station_replay.specs.Schedule.{records};
-ghost use Rattle.schedule_steps.specs.Accepted.{AreAccepted, IsAccepted};
-ghost use Rattle.schedule_replay.specs.Replayed.{IsCutOff, IsNewDisk, IsReplayed, TookPart, steps_in};
+ghost use Rattle.schedule_steps.specs.Accepted.{AreAccepted, ScheduleIsAccepted};
+ghost use Rattle.schedule_replay.specs.Replayed.{ReplayIsCutOff, IsNewDisk, IsReplayed, TookPart, steps_in};
 ghost use Rattle.schedule_replay.specs.Standing.{LineAt};
 ghost use Rattle.schedule_steps.specs.Steps.{steps_for};
 ghost use Rattle.schedule_replay.specs.Told.{TellsFront, TellsRun};
@@ -44,7 +44,7 @@ pub fn replay<K: Sink>(
     out: &mut K,
 ) -> ReplayEnd
     requires period { schedule.now.period ≡ settings.now.period }
-    requires accepted { IsAccepted schedule.now }
+    requires accepted { ScheduleIsAccepted schedule.now }
     requires line { (eeprom : List ℕ) × (packet : LoopPacket) × LineAt (start eeprom packet) line.old
         × IsNewDisk schedule.now.records eeprom packet disk.old }
 
@@ -60,7 +60,7 @@ pub fn replay<K: Sink>(
     ensures cut_off { (result ≡ ReplayEnd.WriteFault) ⊎ (result ≡ ReplayEnd.OutOfMemory)
         → (eeprom : List ℕ) (packet : LoopPacket)
         → LineAt (start eeprom packet) line.old
-        → IsCutOff settings.now (start eeprom packet) (steps_in schedule.now) (K.outlet.taken out.old)
+        → ReplayIsCutOff settings.now (start eeprom packet) (steps_in schedule.now) (K.outlet.taken out.old)
         (K.outlet.taken out.new) }
 
     // Of one and the same run all this is so: it was written, all of it is kept, and the line and the disk that were

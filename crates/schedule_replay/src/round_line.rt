@@ -1,7 +1,7 @@
 ghost use Rattle.std.specs.Prelude.{◌≡◌, ◌+◌, ◌≤◌, ◌++◌};
 ghost use Rattle.arrayvec.specs.ArrayVec.{array_vec_len};
 ghost use Rattle.station_replay.specs.Texts.{ending_text, rows_counted};
-ghost use Rattle.schedule_replay.specs.RoundLine.{ending_of, line_of};
+ghost use Rattle.schedule_replay.specs.RoundLine.{ending_of, round_line_text};
 
 use crate::line::{DIGITS, Line, push_count};
 use station_base::{LINE_ROOM, push_bytes};
@@ -46,7 +46,7 @@ pub struct RoundLine {
 impl RoundLine {
     // `round R END attempts A pages P skipped S harmed H acked M`, and then ` rows N` unless it was stopped.
     pub fn text(&self) -> Line
-        ensures { result.items ≡ line_of self.now }
+        ensures { result.items ≡ round_line_text self.now }
     {
         let mut line = Line::new();
         push_count(&mut line, b"round ", u64::from(self.number));

@@ -6,20 +6,20 @@ ghost use Rattle.settings_file.specs.StationSettings.{StationSettings};
 ghost use Rattle.weather_book.specs.Book as book;
 ghost use Rattle.disk_model.specs.Stopping.{stopping_medium};
 ghost use Rattle.station_session.specs.Session.{book_of};
-ghost use Rattle.station_replay.specs.Replay.{Does, Item, Rounded, Stage, first, is_stop, opened};
-ghost use Rattle.station_replay.specs.Session.{EndsAs};
+ghost use Rattle.station_replay.specs.Replay.{Does, Item, Rounded, Stage, opening_if_closed, is_stop, opened};
+ghost use Rattle.station_replay.specs.Session.{RoundEndsAs};
 ghost use Rattle.station_replay.specs.Stopped.{IsStop};
-ghost use Rattle.round_play.specs.Opening.{limits_of};
-ghost use Rattle.round_play.specs.Played.{Host, IsToldOf, IsTellable};
-ghost use Rattle.round_play.specs.Playing.{IsOver, IsStill};
-ghost use Rattle.round_play.specs.Resting.{AtRest, GoesOn};
+ghost use Rattle.round_play.specs.Opening.{stopping_limits};
+ghost use Rattle.round_play.specs.Played.{PlayedHost, IsToldOf, IsTellable};
+ghost use Rattle.round_play.specs.Playing.{RoundIsOver, IsStill};
+ghost use Rattle.round_play.specs.Resting.{AtRest, SessionGoesOn};
 ghost use Rattle.schedule_replay.specs.RoundLine.{ending_of};
-ghost use Rattle.schedule_replay.specs.Running.{After, IsCut};
+ghost use Rattle.schedule_replay.specs.Running.{After, StepIsCut};
 ghost use Rattle.schedule_replay.specs.Left.{left_to_open};
 ghost use Rattle.station_replay.specs.Keeping.{Archive};
-ghost use Rattle.station_replay.specs.Room.{line_of};
+ghost use Rattle.station_replay.specs.Room.{step_lines};
 ghost use Rattle.station_replay.specs.Round.{Ending};
-ghost use Rattle.schedule_replay.specs.Standing.{HasSaid, HoldsAt, IsTold, LeadsTo, IsNoRound, LineAt, MayOpen};
+ghost use Rattle.schedule_replay.specs.Standing.{HasSaid, HoldsAt, RoundIsTold, LeadsTo, IsNoRound, LineAt, MayOpen};
 ghost use Rattle.schedule_replay.specs.Standing.{MayRun, Readies, StandsThere, WasBegun, open_step, round_step};
 ghost use Rattle.schedule_file.specs.declared.fates.Fates as code_fates;
 ghost use Rattle.schedule_steps.specs.Accepted.{IsInRange};
@@ -80,8 +80,8 @@ impl Run {
             → LeadsTo T.telling (openings + 1) settings.now (open_step stop) s self.new disk.new
             teller.old teller.new) }
         ensures err { OnErr result ((openings : ℕ) (s : Stage) → HoldsAt openings settings.now s self.old disk.old
-            → IsCut T.telling settings.now (open_step stop) s teller.old teller.new) }
-        ensures limits { limits_of disk.new ≡ limits_of disk.old }
+            → StepIsCut T.telling settings.now (open_step stop) s teller.old teller.new) }
+        ensures limits { stopping_limits disk.new ≡ stopping_limits disk.old }
         ensures cause { Cause (T.telling.faults teller.old) (T.telling.faults teller.new)
             (result ≡ Err Cut.WriteFault) }
         ensures still { result ≢ Err Cut.WriteFault → T.telling.faults teller.new ≡ T.telling.faults teller.old }
@@ -115,10 +115,10 @@ impl Run {
         ensures ok { IfOk result (λ session. (openings : ℕ) (s : Stage)
             → HoldsAt openings settings.now s self.old disk.old
             → Readies openings settings.now s self.new session disk.new
-            × T.telling.tells teller.old (first s.is_open s) teller.new) }
+            × T.telling.tells teller.old (opening_if_closed s.is_open s) teller.new) }
         ensures err { OnErr result ((openings : ℕ) (s : Stage) → HoldsAt openings settings.now s self.old disk.old
-            → T.telling.breaks_off teller.old (first s.is_open s) teller.new) }
-        ensures limits { limits_of disk.new ≡ limits_of disk.old }
+            → T.telling.breaks_off teller.old (opening_if_closed s.is_open s) teller.new) }
+        ensures limits { stopping_limits disk.new ≡ stopping_limits disk.old }
         ensures cause { Cause (T.telling.faults teller.old) (T.telling.faults teller.new)
             (result ≡ Err Cut.WriteFault) }
         ensures still { result ≢ Err Cut.WriteFault → T.telling.faults teller.new ≡ T.telling.faults teller.old }
@@ -141,9 +141,10 @@ impl Run {
         teller: &mut T,
     ) -> Result<(), Cut>
         requires { IsReadable session.now disk.old }
-        ensures tells { (settings : StationSettings) (rows : List Row) → GoesOn settings rows session.now disk.old
+        ensures tells { (settings : StationSettings) (rows : List Row)
+            → SessionGoesOn settings rows session.now disk.old
             → TellsAll T.telling teller.old (Item.Opened rows self.old.written ∷ []) result teller.new }
-        ensures written { OnOk result ((rows : List Row) → book.StandsFor (book_of session.now) rows
+        ensures written { OnOk result ((rows : List Row) → book.BookStandsFor (book_of session.now) rows
             → self.new.written ≡ length rows) }
         ensures disk { IsOnlyRead disk.old disk.new }
         ensures others { self.new ≡ record self.old { written = self.new.written } }
@@ -167,11 +168,11 @@ impl Run {
         requires may { MayOpen settings.now self.old disk.old }
         ensures ok { OnOk result ((openings : ℕ) (s : Stage) → HoldsAt openings settings.now s self.old disk.old
             → HoldsAt (openings + 1) settings.now (opened s.is_open s) self.new disk.new
-            × T.telling.tells teller.old (first s.is_open s) teller.new) }
+            × T.telling.tells teller.old (opening_if_closed s.is_open s) teller.new) }
         ensures err { OnErr result ((openings : ℕ) (s : Stage) → HoldsAt openings settings.now s self.old disk.old
-            → T.telling.breaks_off teller.old (first s.is_open s) teller.new) }
+            → T.telling.breaks_off teller.old (opening_if_closed s.is_open s) teller.new) }
         ensures is_open { OnOk result (is_some self.new.session ≡ true) }
-        ensures limits { limits_of disk.new ≡ limits_of disk.old }
+        ensures limits { stopping_limits disk.new ≡ stopping_limits disk.old }
         ensures cause { Cause (T.telling.faults teller.old) (T.telling.faults teller.new)
             (result ≡ Err Cut.WriteFault) }
         ensures still { result ≢ Err Cut.WriteFault → T.telling.faults teller.new ≡ T.telling.faults teller.old }
@@ -192,22 +193,22 @@ impl Run {
         teller: &mut T,
     ) -> Result<bool, Cut>
         requires may { (settings : StationSettings) × (records : ℕ) × (openings : ℕ) × (s : Stage)
-            × (fates : code_fates.Fates) × (old : Host)
+            × (fates : code_fates.Fates) × (old : PlayedHost)
             × WasBegun records openings settings s fates old self.old
-            × IsOver fates (stop_set playing.stop) old end playing.session playing.report line.old disk.old
+            × RoundIsOver fates (stop_set playing.stop) old end playing.session playing.report line.old disk.old
             × (self.old.rounds < 1000) }
         ensures ok { IfOk result (λ unseen. (records openings : ℕ) (settings : StationSettings) (s : Stage)
-            (fates : code_fates.Fates) (old : Host)
+            (fates : code_fates.Fates) (old : PlayedHost)
             → WasBegun records openings settings s fates old self.old
-            → IsOver fates (stop_set playing.stop) old end playing.session playing.report line.old disk.old
+            → RoundIsOver fates (stop_set playing.stop) old end playing.session playing.report line.old disk.old
             → After T.telling unseen settings (round_step fates playing.stop) s
             (λ is u. (HoldsAt openings settings u self.new disk.new × LineAt u line.new × HasSaid is old.link line.new)
-            × (limits_of disk.new ≡ limits_of old.disk)) teller.old teller.new) }
+            × (stopping_limits disk.new ≡ stopping_limits old.disk)) teller.old teller.new) }
         ensures err { OnErr result ((records openings : ℕ) (settings : StationSettings) (s : Stage)
-            (fates : code_fates.Fates) (old : Host)
+            (fates : code_fates.Fates) (old : PlayedHost)
             → WasBegun records openings settings s fates old self.old
-            → IsOver fates (stop_set playing.stop) old end playing.session playing.report line.old disk.old
-            → IsCut T.telling settings (round_step fates playing.stop) s teller.old teller.new) }
+            → RoundIsOver fates (stop_set playing.stop) old end playing.session playing.report line.old disk.old
+            → StepIsCut T.telling settings (round_step fates playing.stop) s teller.old teller.new) }
         ensures is_still { OnOk result (IsStill line.old disk.old line.new disk.new) }
         ensures cause { Cause (T.telling.faults teller.old) (T.telling.faults teller.new)
             (result ≡ Err Cut.WriteFault) }
@@ -242,17 +243,17 @@ impl Run {
             → LineAt s line.old
             → StandsThere records openings settings.now (step_of settings.now.period step.now) s disk.old
             → After T.telling false settings.now (step_of settings.now.period step.now) s
-            (λ is u. HoldsAt (openings + line_of (step_of settings.now.period step.now)) settings.now u
+            (λ is u. HoldsAt (openings + step_lines (step_of settings.now.period step.now)) settings.now u
             self.new disk.new × LineAt u line.new × HasSaid is line.old line.new)
             teller.old teller.new) }
         ensures err { OnErr result ((records openings : ℕ) (s : Stage)
             → HoldsAt openings settings.now s self.old disk.old → LineAt s line.old
             → StandsThere records openings settings.now (step_of settings.now.period step.now) s disk.old
-            → IsCut T.telling settings.now (step_of settings.now.period step.now) s teller.old teller.new) }
-        ensures limits { limits_of disk.new ≡ limits_of disk.old }
+            → StepIsCut T.telling settings.now (step_of settings.now.period step.now) s teller.old teller.new) }
+        ensures limits { stopping_limits disk.new ≡ stopping_limits disk.old }
         ensures talk { line.new.talk.items ≡ line.old.talk.items }
         ensures closes { left_to_open self.new.session
-            ≤ left_to_open self.old.session + line_of (step_of settings.now.period step.now) }
+            ≤ left_to_open self.old.session + step_lines (step_of settings.now.period step.now) }
         ensures cause { Cause (T.telling.faults teller.old) (T.telling.faults teller.new)
             (result ≡ Err Cut.WriteFault) }
         ensures still { result ≢ Err Cut.WriteFault → T.telling.faults teller.new ≡ T.telling.faults teller.old }
@@ -284,13 +285,13 @@ impl Run {
         ensures ok { OnOk result ((settings : StationSettings) (openings : ℕ) (r : Rounded) (a : Archive)
             → IsToldOf settings openings (stop_set stop) session played.now disk.old r a → r.number ≡ self.old.rounds
             → r.written ≡ self.old.written
-            → IsTold settings openings r a self.old.written self.new disk.new
+            → RoundIsTold settings openings r a self.old.written self.new disk.new
             × T.telling.tells teller.old (Item.Ran r ∷ []) teller.new) }
         ensures err { OnErr result ((settings : StationSettings) (openings : ℕ) (r : Rounded) (a : Archive)
             → IsToldOf settings openings (stop_set stop) session played.now disk.old r a → r.number ≡ self.old.rounds
             → r.written ≡ self.old.written
             → T.telling.breaks_off teller.old (Item.Ran r ∷ []) teller.new) }
-        ensures limits { limits_of disk.new ≡ limits_of disk.old }
+        ensures limits { stopping_limits disk.new ≡ stopping_limits disk.old }
         ensures moment { stopping_medium.moment disk.new ≡ stopping_medium.moment disk.old }
         ensures rounds { self.new.rounds ≡ self.old.rounds }
         ensures cause { Cause (T.telling.faults teller.old) (T.telling.faults teller.new)
@@ -320,8 +321,8 @@ impl Run {
 
 // How a round of a run ended, by how the session's round did.
 fn ending(end: RoundEnd, stop: Option<Stop>) -> RoundEnding
-    requires { (known : Ending) × EndsAs (stop_set stop) end known }
-    ensures { (known : Ending) → EndsAs (stop_set stop) end known → ending_of result ≡ known }
+    requires { (known : Ending) × RoundEndsAs (stop_set stop) end known }
+    ensures { (known : Ending) → RoundEndsAs (stop_set stop) end known → ending_of result ≡ known }
 {
     match (end, stop) {
         (RoundEnd::Done, _) => RoundEnding::Done,

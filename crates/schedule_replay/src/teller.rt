@@ -3,8 +3,8 @@ ghost use Rattle.causes.specs.Cause.{Cause};
 ghost use Rattle.station_base.specs.declared.row.Row.{Row};
 ghost use Rattle.settings_file.specs.StationSettings.{StationSettings};
 ghost use Rattle.station_replay.specs.Replay.{Item, Rounded, is_stop};
-ghost use Rattle.round_play.specs.Resting.{GoesOn};
-ghost use Rattle.schedule_replay.specs.RoundLine.{Tells, ending_of};
+ghost use Rattle.round_play.specs.Resting.{SessionGoesOn};
+ghost use Rattle.schedule_replay.specs.RoundLine.{RoundLineTells, ending_of};
 ghost use Rattle.schedule_replay.specs.Telling.{Telling, TellsAll};
 ghost use Rattle.schedule_replay.specs.Writing.{IsOnlyRead, IsReadable};
 
@@ -28,7 +28,8 @@ pub trait Teller {
         told: u64,
     ) -> Result<(), Cut>
         requires { IsReadable session.now disk.old }
-        ensures tells { (settings : StationSettings) (rows : List Row) → GoesOn settings rows session.now disk.old
+        ensures tells { (settings : StationSettings) (rows : List Row)
+            → SessionGoesOn settings rows session.now disk.old
             → TellsAll telling self.old (Item.Opened rows told ∷ []) result self.new }
         ensures disk { IsOnlyRead disk.old disk.new }
         ensures cause { Cause (telling.faults self.old) (telling.faults self.new) (result ≡ Err Cut.WriteFault) }
@@ -50,8 +51,9 @@ pub trait Teller {
         told: u64,
     ) -> Result<(), Cut>
         requires { is_stop (ending_of line.now.end) ≡ false → IsReadable session.now disk.old }
-        ensures tells { (x : Rounded) → Tells line.now told x
-            → (is_stop x.end ≡ false → (settings : StationSettings) × GoesOn settings x.rows session.now disk.old)
+        ensures tells { (x : Rounded) → RoundLineTells line.now told x
+            → (is_stop x.end ≡ false → (settings : StationSettings)
+            × SessionGoesOn settings x.rows session.now disk.old)
             → TellsAll telling self.old (Item.Ran x ∷ []) result self.new }
         ensures disk { IsOnlyRead disk.old disk.new }
         ensures stopped { is_stop (ending_of line.now.end) ≡ true → disk.new ≡ disk.old }
@@ -67,7 +69,8 @@ pub trait Teller {
     /// The run ended, with the rows of the session.
     fn ended(&mut self, session: &Session, disk: &mut Stopping<MemDisk>) -> Result<(), Cut>
         requires { IsReadable session.now disk.old }
-        ensures tells { (settings : StationSettings) (rows : List Row) → GoesOn settings rows session.now disk.old
+        ensures tells { (settings : StationSettings) (rows : List Row)
+            → SessionGoesOn settings rows session.now disk.old
             → TellsAll telling self.old (Item.Ended rows ∷ []) result self.new }
         ensures disk { IsOnlyRead disk.old disk.new }
         ensures cause { Cause (telling.faults self.old) (telling.faults self.new) (result ≡ Err Cut.WriteFault) }

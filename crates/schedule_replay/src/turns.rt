@@ -56,9 +56,9 @@ pub struct ReplayRun {
 }
 
 impl ReplayRun {
-    ghost use Rattle.schedule_replay.specs.Replaying.{Course, IsNext, MayTurn, Replaying, StandsWith, TakesTurn};
-    ghost use Rattle.schedule_replay.specs.Replaying.{left_of};
-    ghost use Rattle.schedule_replay.specs.Turns.{IsOneTurn, TurnsTo};
+    ghost use Rattle.schedule_replay.specs.Replaying.{Course, IsNext, MayTurn, Replaying, StandsWith, RunTakesTurn};
+    ghost use Rattle.schedule_replay.specs.Replaying.{run_turns_left};
+    ghost use Rattle.schedule_replay.specs.Turns.{IsOneTurn, RunTurnsTo};
 
     /// A run with these settings that begins. No memory is taken.
     pub fn new(alloc: Global, settings: &Settings) -> ReplayRun
@@ -70,7 +70,7 @@ impl ReplayRun {
             → IsNewDisk (length (records (steps_for settings.now.period steps))) eeprom packet disk
             → Replaying eeprom packet steps [] line line disk disk result }
         ensures left { (steps : List code_step.Step) → AreAccepted settings.now.period steps → length steps < 2 ^ 47
-            → left_of steps result < 2 ^ 48 }
+            → run_turns_left steps result < 2 ^ 48 }
     {
         ReplayRun {
             alloc,
@@ -103,7 +103,7 @@ impl ReplayRun {
         ensures more { result ≡ ReplayTurn.More
             → (eeprom : List ℕ) (packet : LoopPacket) (items : List Item) (before : Sim) (made : Stopping MemDisk)
             → Replaying eeprom packet steps.now items before line.old made disk.old self.old
-            → TakesTurn T.telling eeprom packet steps.now items before line.new made disk.new self.new
+            → RunTakesTurn T.telling eeprom packet steps.now items before line.new made disk.new self.new
             teller.old teller.new }
         ensures ended { result ≡ ReplayTurn.Ended
             → (eeprom : List ℕ) (packet : LoopPacket) (items : List Item) (before : Sim) (made : Stopping MemDisk)
@@ -122,7 +122,8 @@ impl ReplayRun {
             items teller.old teller.new }
         ensures settings { self.new.settings ≡ self.old.settings }
         ensures turns { result ≡ ReplayTurn.More → self.new.turns ≡ self.old.turns + 1 }
-        ensures left { result ≡ ReplayTurn.More → left_of steps.now self.new < left_of steps.now self.old }
+        ensures left { result ≡ ReplayTurn.More
+            → run_turns_left steps.now self.new < run_turns_left steps.now self.old }
         ensures one_turn { result ≡ ReplayTurn.More → IsOneTurn self.old self.new }
         ensures says_or_stores { result ≡ ReplayTurn.More → SaysOrStores line.old disk.old line.new disk.new }
         ensures one_call { result ≡ ReplayTurn.More → is_some self.new.playing ≡ true
@@ -161,7 +162,7 @@ impl ReplayRun {
         requires countable { (self.old.taken + 1 < 2 ^ 64) × (self.old.turns + 1 < 2 ^ 64) }
         ensures turns_to { (c : Course) (items : List Item) → StandsWith None c items self.old line.old disk.old
             → IsNext c.steps self.old.taken step.now
-            → TurnsTo T.telling result c self.old.settings items line.new disk.new self.new teller.old teller.new }
+            → RunTurnsTo T.telling result c self.old.settings items line.new disk.new self.new teller.old teller.new }
         ensures others { self.new ≡ record self.old {
           run = self.new.run;
           taken = self.new.taken;
@@ -169,7 +170,7 @@ impl ReplayRun {
         } }
         ensures turns { result ≡ ReplayTurn.More → self.new.turns ≡ self.old.turns + 1 }
         ensures left { result ≡ ReplayTurn.More → (steps : List code_step.Step) → IsNext steps self.old.taken step.now
-            → left_of steps self.new < left_of steps self.old }
+            → run_turns_left steps self.new < run_turns_left steps self.old }
         ensures taken { result ≡ ReplayTurn.More → self.new.taken ≡ self.old.taken + 1 }
         ensures says_or_stores { result ≡ ReplayTurn.More → SaysOrStores line.old disk.old line.new disk.new }
         ensures not_ended { result ≢ ReplayTurn.Ended }
@@ -201,7 +202,7 @@ impl ReplayRun {
         ensures turns_to { (c : Course) (items : List Item) (line : Sim)
             → StandsWith None c items self.old line disk.old
             → OpensNext (steps_for self.old.settings.period (drop self.old.taken c.steps))
-            → TurnsTo T.telling result c self.old.settings items line disk.new self.new teller.old teller.new }
+            → RunTurnsTo T.telling result c self.old.settings items line disk.new self.new teller.old teller.new }
         ensures others { self.new ≡ record self.old { run = self.new.run; turns = self.new.turns } }
         ensures turns { result ≡ ReplayTurn.More → self.new.turns ≡ self.old.turns + 1 }
         ensures is_open { result ≡ ReplayTurn.More → is_some self.new.run.session ≡ true }
@@ -234,12 +235,12 @@ impl ReplayRun {
         requires countable { (self.old.taken + 1 < 2 ^ 64) × (self.old.turns + 1 < 2 ^ 64) }
         ensures turns_to { (c : Course) (items : List Item) → StandsWith None c items self.old line.old disk.old
             → IsNextRound c.steps self.old.taken fates.now stop
-            → TurnsTo T.telling result c self.old.settings items line.new disk.new self.new teller.old teller.new }
+            → RunTurnsTo T.telling result c self.old.settings items line.new disk.new self.new teller.old teller.new }
         ensures settings { self.new.settings ≡ self.old.settings }
         ensures turns { result ≡ ReplayTurn.More → self.new.turns ≡ self.old.turns + 1 }
         ensures left { result ≡ ReplayTurn.More → (steps : List code_step.Step)
             → IsNextRound steps self.old.taken fates.now stop
-            → left_of steps self.new < left_of steps self.old }
+            → run_turns_left steps self.new < run_turns_left steps self.old }
         ensures one_turn { result ≡ ReplayTurn.More → IsOneTurn self.old self.new }
         ensures says_or_stores { result ≡ ReplayTurn.More → SaysOrStores line.old disk.old line.new disk.new }
         ensures one_call { result ≡ ReplayTurn.More → is_some self.new.playing ≡ true
@@ -274,11 +275,11 @@ impl ReplayRun {
         requires countable { (self.old.taken + 1 < 2 ^ 64) × (self.old.turns + 1 < 2 ^ 64) }
         ensures turns_to { (c : Course) (items : List Item)
             → StandsWith self.old.playing c items self.old line.old disk.old
-            → TurnsTo T.telling result c self.old.settings items line.new disk.new self.new teller.old teller.new }
+            → RunTurnsTo T.telling result c self.old.settings items line.new disk.new self.new teller.old teller.new }
         ensures settings { self.new.settings ≡ self.old.settings }
         ensures turns { result ≡ ReplayTurn.More → self.new.turns ≡ self.old.turns + 1 }
         ensures left { result ≡ ReplayTurn.More → (steps : List code_step.Step)
-            → left_of steps self.new < left_of steps self.old }
+            → run_turns_left steps self.new < run_turns_left steps self.old }
         ensures one_turn { result ≡ ReplayTurn.More → IsOneTurn self.old self.new }
         ensures says_or_stores { result ≡ ReplayTurn.More → SaysOrStores line.old disk.old line.new disk.new }
         ensures one_call { result ≡ ReplayTurn.More → is_some self.new.playing ≡ true
@@ -321,11 +322,11 @@ impl ReplayRun {
         ensures turns_to { (c : Course) (items : List Item) (line : Sim)
             → StandsWith None c items self.old line disk.old
             → length c.steps ≤ self.old.taken
-            → TurnsTo T.telling result c self.old.settings items line disk.new self.new teller.old teller.new }
+            → RunTurnsTo T.telling result c self.old.settings items line disk.new self.new teller.old teller.new }
         ensures others { self.new ≡ record self.old { run = self.new.run; turns = self.new.turns } }
         ensures turns { result ≡ ReplayTurn.More → self.new.turns ≡ self.old.turns + 1 }
         ensures left { result ≡ ReplayTurn.More → (steps : List code_step.Step)
-            → left_of steps self.new < left_of steps self.old }
+            → run_turns_left steps self.new < run_turns_left steps self.old }
         ensures one_turn { result ≡ ReplayTurn.More → IsOneTurn self.old self.new }
         ensures ends_open { result ≡ ReplayTurn.Ended → is_some self.old.run.session ≡ true }
         ensures write_fault { Cause (T.telling.faults teller.old) (T.telling.faults teller.new)

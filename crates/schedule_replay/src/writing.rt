@@ -3,10 +3,10 @@ ghost use Rattle.causes.specs.Cause.{Cause};
 ghost use Rattle.station_base.specs.declared.row.Row.{Row};
 ghost use Rattle.settings_file.specs.StationSettings.{StationSettings};
 ghost use Rattle.station_replay.specs.Replay.{Item, Rounded, is_stop};
-ghost use Rattle.station_replay.specs.Texts.{days_text, rows_text, text_of};
-ghost use Rattle.round_play.specs.Resting.{GoesOn};
-ghost use Rattle.schedule_replay.specs.RoundLine.{Tells, ending_of};
-ghost use Rattle.schedule_replay.specs.Writing.{IsOnlyRead, IsReadable, Writes};
+ghost use Rattle.station_replay.specs.Texts.{day_lines_text, rows_text, item_text};
+ghost use Rattle.round_play.specs.Resting.{SessionGoesOn};
+ghost use Rattle.schedule_replay.specs.RoundLine.{RoundLineTells, ending_of};
+ghost use Rattle.schedule_replay.specs.Writing.{IsOnlyRead, IsReadable, WritesText};
 
 use crate::cut::Cut;
 use crate::line::{end_line, open_line, open_stop_line, unseen_line};
@@ -18,7 +18,7 @@ use station_sim::Unseen;
 use weather_reports::{ReportEnd, all_days, rows_from};
 
 /// Writes `open rows N`, and the lines of the rows that were not written before.
-#[tactic(auto, unfolding(station_replay::specs::Texts::text_of))]
+#[tactic(auto, unfolding(station_replay::specs::Texts::item_text))]
 pub fn write_opening<K: Sink>(
     session: &Session,
     disk: &mut Stopping<MemDisk>,
@@ -26,8 +26,8 @@ pub fn write_opening<K: Sink>(
     written: u64,
 ) -> Result<(), Cut>
     requires { IsReadable session.now disk.old }
-    ensures text { (settings : StationSettings) (rows : List Row) → GoesOn settings rows session.now disk.old
-        → Writes K.outlet out.old out.new (text_of (Item.Opened rows written)) result }
+    ensures text { (settings : StationSettings) (rows : List Row) → SessionGoesOn settings rows session.now disk.old
+        → WritesText K.outlet out.old out.new (item_text (Item.Opened rows written)) result }
     ensures disk { IsOnlyRead disk.old disk.new }
     ensures cause { Cause (K.outlet.faults out.old) (K.outlet.faults out.new) (result ≡ Err Cut.WriteFault) }
     ensures still { result ≢ Err Cut.WriteFault → K.outlet.faults out.new ≡ K.outlet.faults out.old }
@@ -37,10 +37,10 @@ pub fn write_opening<K: Sink>(
 }
 
 /// Writes `open stop K`, of an opening within whose change K the disk stopped.
-#[tactic(auto, unfolding(station_replay::specs::Texts::text_of))]
+#[tactic(auto, unfolding(station_replay::specs::Texts::item_text))]
 pub fn write_stopped_opening<K: Sink>(out: &mut K, change: u64) -> Result<(), Cut>
-    ensures text { (rows : List Row) → Writes K.outlet out.old out.new
-        (text_of (Item.OpenStopped change rows)) result }
+    ensures text { (rows : List Row) → WritesText K.outlet out.old out.new
+        (item_text (Item.OpenStopped change rows)) result }
     ensures cause { Cause (K.outlet.faults out.old) (K.outlet.faults out.new) (result ≡ Err Cut.WriteFault) }
     ensures still { result ≢ Err Cut.WriteFault → K.outlet.faults out.new ≡ K.outlet.faults out.old }
 {
@@ -49,7 +49,7 @@ pub fn write_stopped_opening<K: Sink>(out: &mut K, change: u64) -> Result<(), Cu
 
 /// Writes the line of a round, and the lines of the rows that were not written before. A round that was stopped has
 /// its line alone.
-#[tactic(auto, unfolding(station_replay::specs::Texts::text_of))]
+#[tactic(auto, unfolding(station_replay::specs::Texts::item_text))]
 pub fn write_round<K: Sink>(
     session: &Session,
     disk: &mut Stopping<MemDisk>,
@@ -58,9 +58,9 @@ pub fn write_round<K: Sink>(
     written: u64,
 ) -> Result<(), Cut>
     requires { is_stop (ending_of line.now.end) ≡ false → IsReadable session.now disk.old }
-    ensures text { (x : Rounded) → Tells line.now written x
-        → (is_stop x.end ≡ false → (settings : StationSettings) × GoesOn settings x.rows session.now disk.old)
-        → Writes K.outlet out.old out.new (text_of (Item.Ran x)) result }
+    ensures text { (x : Rounded) → RoundLineTells line.now written x
+        → (is_stop x.end ≡ false → (settings : StationSettings) × SessionGoesOn settings x.rows session.now disk.old)
+        → WritesText K.outlet out.old out.new (item_text (Item.Ran x)) result }
     ensures disk { IsOnlyRead disk.old disk.new }
     ensures stopped { is_stop (ending_of line.now.end) ≡ true → disk.new ≡ disk.old }
     ensures cause { Cause (K.outlet.faults out.old) (K.outlet.faults out.new) (result ≡ Err Cut.WriteFault) }
@@ -74,10 +74,10 @@ pub fn write_round<K: Sink>(
 }
 
 /// Writes `unseen round R host D`, or `reply D`.
-#[tactic(auto, unfolding(station_replay::specs::Texts::text_of))]
+#[tactic(auto, unfolding(station_replay::specs::Texts::item_text))]
 pub fn write_unseen<K: Sink>(out: &mut K, number: u32, which: Unseen) -> Result<(), Cut>
-    ensures text { Writes K.outlet out.old out.new
-        (text_of (Item.Unsaid number which)) result }
+    ensures text { WritesText K.outlet out.old out.new
+        (item_text (Item.Unsaid number which)) result }
     ensures cause { Cause (K.outlet.faults out.old) (K.outlet.faults out.new) (result ≡ Err Cut.WriteFault) }
     ensures still { result ≢ Err Cut.WriteFault → K.outlet.faults out.new ≡ K.outlet.faults out.old }
 {
@@ -85,15 +85,15 @@ pub fn write_unseen<K: Sink>(out: &mut K, number: u32, which: Unseen) -> Result<
 }
 
 /// Writes the lines of all days, and then `end rows N days D`.
-#[tactic(auto, unfolding(station_replay::specs::Texts::text_of))]
+#[tactic(auto, unfolding(station_replay::specs::Texts::item_text))]
 pub fn write_end<K: Sink>(
     session: &Session,
     disk: &mut Stopping<MemDisk>,
     out: &mut K,
 ) -> Result<(), Cut>
     requires { IsReadable session.now disk.old }
-    ensures text { (settings : StationSettings) (rows : List Row) → GoesOn settings rows session.now disk.old
-        → Writes K.outlet out.old out.new (text_of (Item.Ended rows)) result }
+    ensures text { (settings : StationSettings) (rows : List Row) → SessionGoesOn settings rows session.now disk.old
+        → WritesText K.outlet out.old out.new (item_text (Item.Ended rows)) result }
     ensures disk { IsOnlyRead disk.old disk.new }
     ensures cause { Cause (K.outlet.faults out.old) (K.outlet.faults out.new) (result ≡ Err Cut.WriteFault) }
     ensures still { result ≢ Err Cut.WriteFault → K.outlet.faults out.new ≡ K.outlet.faults out.old }
@@ -107,7 +107,7 @@ pub fn write_end<K: Sink>(
 #[tactic(auto, using(crate::proofs::Parts::put_done, crate::proofs::Parts::put_failed))]
 fn write<K: Sink>(out: &mut K, bytes: &[u8]) -> Result<(), Cut>
     requires { 0 < length bytes.now }
-    ensures text { Writes K.outlet out.old out.new bytes.now result }
+    ensures text { WritesText K.outlet out.old out.new bytes.now result }
     ensures cause { Cause (K.outlet.faults out.old) (K.outlet.faults out.new) (result ≡ Err Cut.WriteFault) }
     ensures still { result ≢ Err Cut.WriteFault → K.outlet.faults out.new ≡ K.outlet.faults out.old }
 {
@@ -125,8 +125,8 @@ fn write_rows<K: Sink>(
     from: u64,
 ) -> Result<(), Cut>
     requires { IsReadable session.now disk.old }
-    ensures text { (settings : StationSettings) (rows : List Row) → GoesOn settings rows session.now disk.old
-        → Writes K.outlet out.old out.new (rows_text from rows) result }
+    ensures text { (settings : StationSettings) (rows : List Row) → SessionGoesOn settings rows session.now disk.old
+        → WritesText K.outlet out.old out.new (rows_text from rows) result }
     ensures disk { IsOnlyRead disk.old disk.new }
     ensures cause { Cause (K.outlet.faults out.old) (K.outlet.faults out.new) (result ≡ Err Cut.WriteFault) }
     ensures still { result ≢ Err Cut.WriteFault → K.outlet.faults out.new ≡ K.outlet.faults out.old }
@@ -145,8 +145,8 @@ fn write_days<K: Sink>(
     out: &mut K,
 ) -> Result<(), Cut>
     requires { IsReadable session.now disk.old }
-    ensures text { (settings : StationSettings) (rows : List Row) → GoesOn settings rows session.now disk.old
-        → Writes K.outlet out.old out.new (days_text rows) result }
+    ensures text { (settings : StationSettings) (rows : List Row) → SessionGoesOn settings rows session.now disk.old
+        → WritesText K.outlet out.old out.new (day_lines_text rows) result }
     ensures disk { IsOnlyRead disk.old disk.new }
     ensures cause { Cause (K.outlet.faults out.old) (K.outlet.faults out.new) (result ≡ Err Cut.WriteFault) }
     ensures still { result ≢ Err Cut.WriteFault → K.outlet.faults out.new ≡ K.outlet.faults out.old }

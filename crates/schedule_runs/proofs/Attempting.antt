@@ -18,16 +18,16 @@ use Rattle.dmpaft_pump.specs.Header.{first_of}
 use Rattle.dmpaft_pump.specs.Page.{is_page_for, is_ahead, next_said}
 use Rattle.dmpaft_pump.specs.Reply.{Reply, reply_of}
 use Rattle.dmpaft_driver.specs.Turning.{dump_end_of}
-use Rattle.dmpaft_pump.specs.Pump.{Part, Settling, Waking, Calling, Heading, Asking, Resettling, Acking, GivingUp}
-use Rattle.dmpaft_pump.specs.Pump.{State, Keeping, Over, words, quiets, most as most_bytes, batch_of}
-use Rattle.dmpaft_pump.specs.Pump.{onward, batched, woken, called, headed, asked_again, judged, next, begun}
-use Rattle.dmpaft_pump.specs.Pump.{at, pump_from}
+use Rattle.dmpaft_pump.specs.Pump.{AttemptPart, Settling, Waking, Calling, Heading, Asking, Resettling, Acking, GivingUp}
+use Rattle.dmpaft_pump.specs.Pump.{AttemptState, Keeping, Over, words, quiets, most as most_bytes, batch_of}
+use Rattle.dmpaft_pump.specs.Pump.{onward, batched, woken, called, headed, asked_again, page_judged, next_after_part, begun}
+use Rattle.dmpaft_pump.specs.Pump.{state_at, pump_from}
 use Rattle.dmpaft_driver.proofs.Exactly.{some_quiets, some_bytes, told_is, kept_done}
 use Rattle.dmpaft_driver.proofs.Rest.{Listens}
 use Rattle.dmpaft_pump.proofs.Walking.{said_in, heard_in}
 use Rattle.schedule_file.specs.Fates.{Fates}
 use Rattle.station_sim.specs.Joining.{talks_join}
-use Rattle.station_sim.specs.Line.{Line, says}
+use Rattle.station_sim.specs.Line.{Line, says_byte}
 use Rattle.station_sim.specs.Talk.{ConsoleTalk}
 use Rattle.station_replay.specs.Schedule.{Stop}
 use Rattle.station_replay.specs.Session.{NotPast}
@@ -40,7 +40,7 @@ module _ (after : Option CivilMinute) (most held before : ℕ) (stop : Option St
   HasKept answer place taken = Kept after most held before stop answer place taken
 
   -- From this state and line an attempt can go to its end, its batches being answered as its keeper must.
-  pub record Ends (s : State) (w : Line) : Type 0 where
+  pub record Ends (s : AttemptState) (w : Line) : Type 0 where
     pub talk : List TalkItem
     pub answers : List Stored
     pub place : ℕ
@@ -67,8 +67,8 @@ module _ (after : Option CivilMinute) (most held before : ℕ) (stop : Option St
   }
 
   -- a part is said and heard, where what comes next can go to its end whatever was heard
-  part_ends : (p : Part) → Listens p
-      → ((full : Bool) (bytes : List ℕ) (u : Line) → Ends (at after (next after p full bytes)) u) → (w : Line)
+  part_ends : (p : AttemptPart) → Listens p
+      → ((full : Bool) (bytes : List ℕ) (u : Line) → Ends (state_at after (next_after_part after p full bytes)) u) → (w : Line)
       → Ends (begun after p) w
   part_ends p listens goes_on w =
       let s = says_all f (words after p) w in
@@ -82,7 +82,7 @@ module _ (after : Option CivilMinute) (most held before : ℕ) (stop : Option St
         end = y.end;
         line = y.line;
         over = said_in after p (words after p) (h.talk ++ y.talk) y.answers
-            ∙ ap (λ (z : State). pump_from after z (h.talk ++ y.talk) y.answers) (told_is p listens)
+            ∙ ap (λ (z : AttemptState). pump_from after z (h.talk ++ y.talk) y.answers) (told_is p listens)
             ∙ heard_in after p [] 0 h.talk y.talk h.full y.answers h.hears ∙ y.over;
         talks = talks_join f (message (words after p)) (h.talk ++ y.talk) w s.0 y.line s.1
             (talks_join f h.talk y.talk s.0 h.line y.line h.talks y.talks);
@@ -98,7 +98,7 @@ module _ (after : Option CivilMinute) (most held before : ℕ) (stop : Option St
     place = place;
     taken = taken;
     end = pump_end.Whole;
-    line = says f 6 true w;
+    line = says_byte f 6 true w;
     over = refl;
     talks = refl;
     kept = k;
@@ -113,7 +113,7 @@ module _ (after : Option CivilMinute) (most held before : ℕ) (stop : Option St
     place = place;
     taken = taken;
     end = pump_end.Failed trouble;
-    line = says f 27 true w;
+    line = says_byte f 27 true w;
     over = refl;
     talks = refl;
     kept = k;
@@ -167,7 +167,7 @@ module _ (after : Option CivilMinute) (most held before : ℕ) (stop : Option St
   -- after a page its batch, if any, is given
   takes : (more : ℕ) → GoesOn more → (place : ℕ) (taken : List (List ℕ)) (page : List ℕ) (w : Line)
       → HasKept stored.Done place taken → (rows : List (List ℕ)) → batch_of after place taken page ≡ rows
-      → Ends (at after (batched more place taken page rows)) w
+      → Ends (state_at after (batched more place taken page rows)) w
   takes more goes_on place taken page w k [] is =
       goes_on place (taken ++ page ∷ []) w (same_kept after most held before stop place taken page is k)
   takes more goes_on place taken page w k (r ∷ rows) is =
@@ -178,8 +178,8 @@ module _ (after : Option CivilMinute) (most held before : ℕ) (stop : Option St
   -- after an asking
   judges : (more : ℕ) → GoesOn more → (place : ℕ) (taken : List (List ℕ)) (left : ℕ) (w : Line)
       → HasKept stored.Done place taken → (bytes : List ℕ)
-      → ((b : ℕ) → Ends (at after (asked_again more place taken left b)) w)
-      → (page ahead : Bool) → Ends (at after (judged after more place taken left bytes page ahead)) w
+      → ((b : ℕ) → Ends (state_at after (asked_again more place taken left b)) w)
+      → (page ahead : Bool) → Ends (state_at after (page_judged after more place taken left bytes page ahead)) w
   judges more goes_on place taken left w k bytes again true ahead =
       takes more goes_on place taken bytes w k (batch_of after place taken bytes) refl
   judges more goes_on place taken left w k bytes again false true = gives_up place taken _ w k
@@ -188,7 +188,7 @@ module _ (after : Option CivilMinute) (most held before : ℕ) (stop : Option St
   -- an asking, where one more goes to an end
   asks_once : (more : ℕ) → GoesOn more → (place : ℕ) (taken : List (List ℕ)) (left b : ℕ) (w : Line)
       → HasKept stored.Done place taken
-      → ((c : ℕ) (u : Line) → Ends (at after (asked_again more place taken left c)) u)
+      → ((c : ℕ) (u : Line) → Ends (state_at after (asked_again more place taken left c)) u)
       → Ends (begun after (Asking more place taken left b)) w
   asks_once more goes_on place taken left b w k again =
       part_ends (Asking more place taken left b) tt
@@ -202,7 +202,7 @@ module _ (after : Option CivilMinute) (most held before : ℕ) (stop : Option St
   resettles more place taken left b w k again = part_ends (Resettling more place taken left b) tt after_settling w
     where
       after_settling : (full : Bool) (bytes : List ℕ) (u : Line)
-          → Ends (at after (next after (Resettling more place taken left b) full bytes)) u
+          → Ends (state_at after (next_after_part after (Resettling more place taken left b) full bytes)) u
       after_settling true bytes u = ended place taken pump_end.Flood u k
       after_settling false bytes u = again u
 
@@ -222,13 +222,13 @@ module _ (after : Option CivilMinute) (most held before : ℕ) (stop : Option St
 
   module _ (kept_none : (place : ℕ) → HasKept stored.Done place []) where
     -- after the stamp frame, by what answered it
-    heads : (reply : Reply) (w : Line) → Ends (at after (headed reply)) w
+    heads : (reply : Reply) (w : Line) → Ends (state_at after (headed reply)) w
     heads (Reply.Header zero place) w = ended place [] pump_end.Whole w (kept_none place)
     heads (Reply.Header (suc more) place) w = asks_from more (goes_on_all more) 3 place [] 6 w (kept_none place)
     heads (Reply.NoHeader trouble) w = gives_up 0 [] trouble w (kept_none 0)
 
     -- after DMPAFT, by what answered it
-    calls : (bytes : List ℕ) (answered : Bool) (w : Line) → Ends (at after (called bytes answered)) w
+    calls : (bytes : List ℕ) (answered : Bool) (w : Line) → Ends (state_at after (called bytes answered)) w
     calls bytes true w = part_ends Heading tt (λ full answer u. heads (reply_of answer) u) w
     calls bytes false w = gives_up 0 [] (NoAck (first_of bytes)) w (kept_none 0)
 
@@ -237,16 +237,16 @@ module _ (after : Option CivilMinute) (most held before : ℕ) (stop : Option St
     calling w = part_ends Calling tt (λ full bytes u. calls bytes (bytes_eq bytes (6 ∷ [])) u) w
 
     -- a line feed, where what follows one in vain goes to an end
-    wakes_once : (left : ℕ) → ((u : Line) → Ends (at after (woken left false)) u) → (w : Line)
+    wakes_once : (left : ℕ) → ((u : Line) → Ends (state_at after (woken left false)) u) → (w : Line)
         → Ends (begun after (Waking left)) w
     wakes_once left again w = part_ends (Waking left) tt after_waking w
       where
-        woke : (awake : Bool) (u : Line) → Ends (at after (woken left awake)) u
+        woke : (awake : Bool) (u : Line) → Ends (state_at after (woken left awake)) u
         woke true u = calling u
         woke false u = again u
 
         after_waking : (full : Bool) (bytes : List ℕ) (u : Line)
-            → Ends (at after (next after (Waking left) full bytes)) u
+            → Ends (state_at after (next_after_part after (Waking left) full bytes)) u
         after_waking true bytes u = ended 0 [] pump_end.Flood u (kept_none 0)
         after_waking false bytes u = woke (ends_awake bytes) u
 
@@ -259,7 +259,7 @@ module _ (after : Option CivilMinute) (most held before : ℕ) (stop : Option St
     settles : (w : Line) → Ends (begun after Settling) w
     settles w = part_ends Settling tt after_settling w
       where
-        after_settling : (full : Bool) (bytes : List ℕ) (u : Line) → Ends (at after (next after Settling full bytes)) u
+        after_settling : (full : Bool) (bytes : List ℕ) (u : Line) → Ends (state_at after (next_after_part after Settling full bytes)) u
         after_settling true bytes u = ended 0 [] pump_end.Flood u (kept_none 0)
         after_settling false bytes u = wakes 2 u
 

@@ -9,15 +9,15 @@ use Rattle.dmpaft_pump.proofs.Hears.{HearsFrom}
 use Rattle.station_sim.specs.declared.part.Part.{Part}
 use Rattle.station_sim.specs.declared.part.Part.TheVariants.{Byte, Wait}
 use Rattle.schedule_file.specs.Fates.{Fates}
-use Rattle.station_sim.specs.Line.{Line, flies, happens, says}
-use Rattle.station_sim.specs.Talk.{step, hearing, waiting, and_then, console_talk, ConsoleTalk}
+use Rattle.station_sim.specs.Line.{Line, flies, happens, says_byte}
+use Rattle.station_sim.specs.Talk.{line_step, hearing, waiting, and_then, console_talk, ConsoleTalk}
 
 module _ (f : Fates) where
   -- a message can be said on whatever line
   pub says_all : (words : List ℕ) (w : Line) → (v : Line) × ConsoleTalk f (message words) w v
   says_all [] w = (w, refl)
-  says_all (b ∷ []) w = (says f b true w, refl)
-  says_all (b ∷ c ∷ words) w = says_all (c ∷ words) (says f b false w)
+  says_all (b ∷ []) w = (says_byte f b true w, refl)
+  says_all (b ∷ c ∷ words) w = says_all (c ∷ words) (says_byte f b false w)
 
   -- what is heard, after so many quiet waits in a row and so many bytes, and the line then
   pub record Hears (q m run count : ℕ) (w : Line) : Type 0 where
@@ -29,7 +29,7 @@ module _ (f : Fates) where
 
   -- a byte comes next, or a wait passes
   abbrev Comes : Line → Type 0
-  Comes w = ((b : ℕ) × (u : Line) × (step f (Heard b) w ≡ Some u)) ⊎ ((u : Line) × (step f Quiet w ≡ Some u))
+  Comes w = ((b : ℕ) × (u : Line) × (line_step f (Heard b) w ≡ Some u)) ⊎ ((u : Line) × (line_step f Quiet w ≡ Some u))
 
   -- one of the two
   comes : (w : Line) → Comes w
@@ -45,11 +45,11 @@ module _ (f : Fates) where
   module _ (q m : ℕ) where
     -- at most so many bytes are heard behind one that comes
     abbrev Follows : ℕ → Type 0
-    Follows d = (run count b : ℕ) (w u : Line) → run < q → count + d + 1 ≡ m → step f (Heard b) w ≡ Some u
+    Follows d = (run count b : ℕ) (w u : Line) → run < q → count + d + 1 ≡ m → line_step f (Heard b) w ≡ Some u
         → Hears q m run count w
 
     -- a wait passes, and something is heard then
-    after_waiting : (run count : ℕ) (w u : Line) → run + 1 < q → step f Quiet w ≡ Some u → Hears q m (run + 1) count u
+    after_waiting : (run count : ℕ) (w u : Line) → run + 1 < q → line_step f Quiet w ≡ Some u → Hears q m (run + 1) count u
         → Hears q m run count w
     after_waiting run count w u less is y = record {
       talk = Quiet ∷ y.talk;
@@ -60,7 +60,7 @@ module _ (f : Fates) where
     }
 
     -- the last wait passes
-    after_last : (run count : ℕ) (w u : Line) → run + 1 ≡ q → step f Quiet w ≡ Some u → Hears q m run count w
+    after_last : (run count : ℕ) (w u : Line) → run + 1 ≡ q → line_step f Quiet w ≡ Some u → Hears q m run count w
     after_last run count w u last is = record {
       talk = Quiet ∷ [];
       full = false;

@@ -5,7 +5,7 @@ use Rattle.std.specs.Prelude.{nat_lt}
 use Rattle.station_base.specs.CivilMinute.{CivilMinute}
 use Rattle.causes.specs.declared.stored.Stored.{Stored}
 use Rattle.causes.specs.declared.stored.Stored.TheVariants as stored
-use Rattle.dmpaft_pump.specs.Batch.{batches, answered, EndsGiving}
+use Rattle.dmpaft_pump.specs.Batch.{batches, answered_batches, EndsGiving}
 use Rattle.dmpaft_pump.specs.Keeper.{Handed, one_batch, kept_all, join}
 use Rattle.dmpaft_pump.specs.Pump.{batch_of}
 use Rattle.dmpaft_pump.proofs.Keeping.{kept_answered, kept_in_all}
@@ -86,7 +86,7 @@ answers most held before stop rows not_past = by_room (nat_lt most (held + lengt
 module _ (after : Option CivilMinute) (most held before : ℕ) (stop : Option Stop) where
   -- the batches of these pages, where the last was answered so
   abbrev given : Stored → ℕ → List (List ℕ) → Handed
-  given answer place taken = answered answer (batches after place taken)
+  given answer place taken = answered_batches answer (batches after place taken)
 
   -- The batches of these pages were given to the keeper, and the last of them was answered so.
   pub record Kept (answer : Stored) (place : ℕ) (taken : List (List ℕ)) : Type 0 where

@@ -11,17 +11,17 @@ use Rattle.schedule_file.specs.declared.fates.Mid.{Mid}
 use Rattle.schedule_file.specs.declared.schedule.Schedule.{Schedule}
 use Rattle.schedule_file.specs.declared.schedule.step.Step as code_step
 use Rattle.schedule_file.specs.declared.schedule.step.Step.TheVariants as code
-use Rattle.schedule_file.specs.Lists.{left_in}
-use Rattle.schedule_file.specs.Answer.{ReadsAs}
-use Rattle.schedule_file.specs.Reading.{steps_of}
-use Rattle.schedule_file.specs.Steps.{records_in, mid_seen, steps_seen}
+use Rattle.schedule_file.specs.Lists.{records_left_in}
+use Rattle.schedule_file.specs.Answer.{ScheduleReadsAs}
+use Rattle.schedule_file.specs.Reading.{said_by_text}
+use Rattle.schedule_file.specs.Steps.{records_in_steps, mid_seen, steps_seen}
 use Rattle.station_sim.specs.Sound.{AreRecords}
 use Rattle.station_sim.proofs.Falls.{fates_sound, left_records}
 use Rattle.schedule_file.proofs.Limits.{few_records}
 use Rattle.station_replay.specs.Room.{lines}
 use Rattle.station_replay.specs.Schedule.{AreSteps, IsSchedule, records}
 use Rattle.line_laws.proofs.Falling.{fates_fall}
-use Rattle.schedule_steps.specs.Accepted.{AreAccepted, HasRecord, IsInRange, IsAccepted}
+use Rattle.schedule_steps.specs.Accepted.{AreAccepted, HasRecord, IsInRange, ScheduleIsAccepted}
 use Rattle.schedule_steps.specs.Runs.{run_records}
 use Rattle.schedule_steps.specs.Steps.{steps_for}
 use Rattle.schedule_steps.proofs.Falling.{MidsFall, AllFall, lines_in, IsFalling, all_fall, all_lines, falling_after, falling_first}
@@ -32,17 +32,17 @@ use Rattle.schedule_steps.proofs.Rising.{Rise, rise_join, records_join, rise_fol
 
 -- all records of a round are to fall due after its beginning, and their stamps rise
 mids_are : (period a b : ℕ) (xs : List Mid) → MidsFall a (map (mid_seen period) xs) b
-    → Rise a (left_in xs 0) b × (length (left_in xs 0) ≡ length (map (mid_seen period) xs))
+    → Rise a (records_left_in xs 0) b × (length (records_left_in xs 0) ≡ length (map (mid_seen period) xs))
 mids_are period a b [] fall = (omega (arith, fall), refl)
 mids_are period a b (x ∷ xs) fall =
     let first : nat_lt 0 x.number ≡ true = grind (arith, nat_tests, fall.1) in
     go (nat_lt 0 x.number) first (row_of x.rec period fall.2.0 fall.2.1).0 (mids_are period fall.0 b xs fall.3)
   where
     go : (t : Bool) → t ≡ true → stamp_in x.rec ≡ Some fall.2.0.stamp
-        → Rise fall.0 (left_in xs 0) b × (length (left_in xs 0) ≡ length (map (mid_seen period) xs))
-        → Rise a (if t then x.rec ∷ left_in xs 0 else left_in xs 0) b × (length (if t then x.rec ∷ left_in xs 0 else left_in xs 0) ≡ suc (length (map (mid_seen period) xs)))
+        → Rise fall.0 (records_left_in xs 0) b × (length (records_left_in xs 0) ≡ length (map (mid_seen period) xs))
+        → Rise a (if t then x.rec ∷ records_left_in xs 0 else records_left_in xs 0) b × (length (if t then x.rec ∷ records_left_in xs 0 else records_left_in xs 0) ≡ suc (length (map (mid_seen period) xs)))
     go true first stamp rest =
-        ((fall.2.0.stamp, stamp, fall.2.2, subst (λ (m : ℕ). Rise m (left_in xs 0) b) (sym fall.2.3) rest.0), ap suc rest.1)
+        ((fall.2.0.stamp, stamp, fall.2.2, subst (λ (m : ℕ). Rise m (records_left_in xs 0) b) (sym fall.2.3) rest.0), ap suc rest.1)
     go false first stamp rest = cc
 
 -- What some steps are as steps of a run: their records come after minute a and up to minute b.
@@ -52,7 +52,7 @@ record AreTaken (period a b : ℕ) (steps : List code_step.Step) : Type 0 where
   each : AreSteps (steps_for period steps)
   ranges : AllByRecursion (IsInRange period) steps
   lines_are : lines (steps_for period steps) ≡ lines_in (steps_seen period steps)
-  counted : length (records (steps_for period steps)) ≡ records_in (steps_seen period steps)
+  counted : length (records (steps_for period steps)) ≡ records_in_steps (steps_seen period steps)
 
 taken : (period : ℕ) → 1 ≤ period → (steps : List code_step.Step) (a b : ℕ) → AllFall period a (steps_seen period steps) b → AllByRecursion HasRecord steps → AreTaken period a b steps
 taken period long [] a b fall has = record { rise = omega (arith, fall); are = tt; each = tt; ranges = tt; lines_are = refl; counted = refl }
@@ -111,7 +111,7 @@ taken period long (code.Round fates stop ∷ steps) a b fall has =
     let rest = taken period long steps m b fall.2 has.1 in
     let others = records (steps_for period steps) in
     let mids = mids_are period a m fates.mids.items fall.1.1 in
-    let left = left_in fates.mids.items 0 in
+    let left = records_left_in fates.mids.items 0 in
     record {
       rise = rise_join a m b left others mids.0 rest.rise;
       are = records_join left others (left_records fates.mids.items 0) rest.are;
@@ -123,7 +123,7 @@ taken period long (code.Round fates stop ∷ steps) a b fall has =
 
 -- Steps whose records fall due one after another keep the rules of a run, where they are few.
 pub falling_accepted : (period b : ℕ) (steps : List code_step.Step) → 1 ≤ period → AllFall period 0 (steps_seen period steps) b → AllByRecursion HasRecord steps → lines_in (steps_seen period steps) ≤ 200
-    → records_in (steps_seen period steps) ≤ 20000 → AreAccepted period steps × (length (records (steps_for period steps)) ≡ records_in (steps_seen period steps))
+    → records_in_steps (steps_seen period steps) ≤ 20000 → AreAccepted period steps × (length (records (steps_for period steps)) ≡ records_in_steps (steps_seen period steps))
 falling_accepted period b steps long fall has few_lines few =
     let t = taken period long steps 0 b fall has in
     let rules : IsSchedule (steps_for period steps) = record { each = t.each; rises = rise_follows b (records (steps_for period steps)) t.rise; are_records = t.are } in
@@ -133,7 +133,7 @@ long_period : (period : ℕ) → IsPeriod period → 1 ≤ period
 long_period period is = grind (arith, nat_tests)
 
 pub accepted : (bytes : List ℕ) (schedule : Schedule) → IsPeriod schedule.period → AllByRecursion HasRecord schedule.steps.items
-    → ReadsAs (steps_of bytes schedule.period) (Ok schedule) → IsAccepted schedule
+    → ScheduleReadsAs (said_by_text bytes schedule.period) (Ok schedule) → ScheduleIsAccepted schedule
 accepted bytes schedule is_period has reads =
     let period = schedule.period in
     let steps = schedule.steps.items in

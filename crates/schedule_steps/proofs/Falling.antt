@@ -14,10 +14,10 @@ use Rattle.schedule_file.specs.declared.schedule.form.Told.{Told}
 use Rattle.schedule_file.specs.declared.schedule.step.Stop as code
 use Rattle.schedule_file.specs.declared.schedule.turn.Turn.{Turn}
 use Rattle.schedule_file.specs.declared.schedule.turn.Turn.TheVariants.{Neither, Opening, InRound}
-use Rattle.schedule_file.specs.Kinds.{Kind, at, kinds, least, told_kinds, count_kinds, is_no_stamp, is_not_later, has_no_record, is_in_round, is_due, is_below_last}
-use Rattle.schedule_file.specs.Reading.{after}
-use Rattle.schedule_file.specs.Steps.{MidRecord, Details, Step, Said, nothing_said, no_details, turn_steps, steps_said, read_at, record_told, last_minute_of}
-use Rattle.schedule_file.specs.Steps.Step.{DueStep, RunStep, IdleStep, OpenStep, RoundStep}
+use Rattle.schedule_file.specs.Kinds.{Kind, kind_if, kinds, first_applying, told_kinds, count_kinds, is_no_stamp, is_not_later, has_no_record, is_in_round, is_due, is_below_last}
+use Rattle.schedule_file.specs.Reading.{said_with_form}
+use Rattle.schedule_file.specs.Steps.{MidRecord, Details, ScheduleStep, Said, nothing_said, no_details, turn_steps, steps_said, read_at, record_told, last_minute_of}
+use Rattle.schedule_file.specs.Steps.ScheduleStep.{DueStep, RunStep, IdleStep, OpenStep, RoundStep}
 use Rattle.schedule_file.proofs.Limits.{first_fails, rest_fails}
 use Rattle.station_replay.specs.Stopped.{IsStop}
 use Rattle.schedule_steps.specs.Stops.{stop_set}
@@ -33,7 +33,7 @@ MidsFall a [] b = a ≡ b
 MidsFall a (x ∷ xs) b = (m : ℕ) × (1 ≤ x.number) × FallsAt a x.record_read m × MidsFall m xs b
 
 -- the records of a step likewise; those of a run have stamps, and a stop is of a change from 1 on
-abbrev pub Falls : ℕ → ℕ → Step → ℕ → Type 0
+abbrev pub Falls : ℕ → ℕ → ScheduleStep → ℕ → Type 0
 Falls period a (DueStep read) b = FallsAt a read b
 Falls period a (RunStep read count) b =
     (m : ℕ) × FallsAt a read m × (m + (count - 1) * period ≤ minute_of last_minute) × (m + (count - 1) * period ≡ b)
@@ -42,23 +42,23 @@ Falls period a (OpenStep stop) b = IsStop (stop_set stop) × (a ≡ b)
 Falls period a (RoundStep details stop) b = IsStop (stop_set stop) × MidsFall a details.mids b
 
 -- the records of all steps
-abbrev pub AllFall : ℕ → ℕ → List Step → ℕ → Type 0
+abbrev pub AllFall : ℕ → ℕ → List ScheduleStep → ℕ → Type 0
 AllFall period a [] b = a ≡ b
 AllFall period a (x ∷ xs) b = (m : ℕ) × Falls period a x m × AllFall period m xs b
 
 -- how many of the steps open a session or make a round
-abbrev pub line_in : Step → ℕ
+abbrev pub line_in : ScheduleStep → ℕ
 line_in (DueStep read) = 0
 line_in (RunStep read count) = 0
 line_in (IdleStep ticks) = 0
 line_in (OpenStep stop) = 1
 line_in (RoundStep details stop) = 1
 
-abbrev pub lines_in : List Step → ℕ
+abbrev pub lines_in : List ScheduleStep → ℕ
 lines_in [] = 0
 lines_in (x ∷ xs) = line_in x + lines_in xs
 
-pub fall_join : (period a b c : ℕ) (xs ys : List Step) → AllFall period a xs b → AllFall period b ys c → AllFall period a (xs ++ ys) c
+pub fall_join : (period a b c : ℕ) (xs ys : List ScheduleStep) → AllFall period a xs b → AllFall period b ys c → AllFall period a (xs ++ ys) c
 fall_join period a b c [] ys fall more = subst (λ (m : ℕ). AllFall period m ys c) (sym fall) more
 fall_join period a b c (x ∷ xs) ys fall more = (fall.0, fall.1, fall_join period fall.0 b c xs ys fall.2 more)
 
@@ -66,27 +66,27 @@ mids_join : (a b c : ℕ) (xs ys : List MidRecord) → MidsFall a xs b → MidsF
 mids_join a b c [] ys fall more = subst (λ (m : ℕ). MidsFall m ys c) (sym fall) more
 mids_join a b c (x ∷ xs) ys fall more = (fall.0, fall.1, fall.2, mids_join fall.0 b c xs ys fall.3 more)
 
-lines_join : (xs ys : List Step) → lines_in (xs ++ ys) ≡ lines_in xs + lines_in ys
+lines_join : (xs ys : List ScheduleStep) → lines_in (xs ++ ys) ≡ lines_in xs + lines_in ys
 lines_join [] ys = omega arith
 lines_join (x ∷ xs) ys = omega (arith, lines_join xs ys)
 
 -- a step that may stand behind an `open` or a `round`
-abbrev pub IsBetween : Step → Type 0
+abbrev pub IsBetween : ScheduleStep → Type 0
 IsBetween (DueStep read) = Unit {0}
 IsBetween (RunStep read count) = Unit {0}
 IsBetween (IdleStep ticks) = Unit {0}
 IsBetween (OpenStep stop) = ⊥
 IsBetween (RoundStep details stop) = ⊥
 
-abbrev pub AreBetween : List Step → Type 0
+abbrev pub AreBetween : List ScheduleStep → Type 0
 AreBetween [] = Unit {0}
 AreBetween (x ∷ xs) = IsBetween x × AreBetween xs
 
-between_more : (xs : List Step) (x : Step) → AreBetween xs → IsBetween x → AreBetween (xs ++ x ∷ [])
+between_more : (xs : List ScheduleStep) (x : ScheduleStep) → AreBetween xs → IsBetween x → AreBetween (xs ++ x ∷ [])
 between_more [] y are is = (is, tt)
 between_more (x ∷ xs) y are is = (are.0, between_more xs y are.1 is)
 
-between_lines : (xs : List Step) → AreBetween xs → lines_in xs ≡ 0
+between_lines : (xs : List ScheduleStep) → AreBetween xs → lines_in xs ≡ 0
 between_lines [] are = refl
 between_lines (DueStep read ∷ xs) are = omega (arith, between_lines xs are.1)
 between_lines (RunStep read count ∷ xs) are = omega (arith, between_lines xs are.1)
@@ -95,7 +95,7 @@ between_lines (OpenStep stop ∷ xs) are = absurd are.0
 between_lines (RoundStep details stop ∷ xs) are = absurd are.0
 
 -- where none of the steps has a record, the minute stays
-none_due : (period a b : ℕ) (xs : List Step) → AreBetween xs → list_any is_due xs ≡ false → AllFall period a xs b → (c : ℕ) → AllFall period c xs c
+none_due : (period a b : ℕ) (xs : List ScheduleStep) → AreBetween xs → list_any is_due xs ≡ false → AllFall period a xs b → (c : ℕ) → AllFall period c xs c
 none_due period a b [] are none fall c = refl
 none_due period a b (DueStep read ∷ xs) are none fall c = absurd (let wrong : ⊥ = cc in wrong)
 none_due period a b (RunStep read count ∷ xs) are none fall c = absurd (let wrong : ⊥ = cc in wrong)
@@ -144,18 +144,18 @@ read_by period a count (Some stamp) (Some values) stamped later known =
     let row : Row = record { stamp = stamp; interval = period; values = values; limited = 0 } in
     (minute_of stamp, (row, refl, above (minute_of stamp) a later, refl), ltb-false (minute_of last_minute) (minute_of stamp + (count - 1) * period) stamped, refl)
 
-is_told : (period : ℕ) (s : Said) (told : Told) (count : ℕ) (more : List Kind) → least (told_kinds period s told count ++ more) ≡ None → IsTold period s.newest told count × (least more ≡ None)
+is_told : (period : ℕ) (s : Said) (told : Told) (count : ℕ) (more : List Kind) → first_applying (told_kinds period s told count ++ more) ≡ None → IsTold period s.newest told count × (first_applying more ≡ None)
 is_told period s told count more none =
     let no_stamp = is_no_stamp period told.stamp count in
     let not_later = is_not_later s.newest told.stamp in
     let no_record = has_no_record told.values in
-    let from_six = rest_fails no_stamp 5 (least (at 6 not_later ∷ at 7 no_record ∷ more)) none in
-    let from_seven = rest_fails not_later 6 (least (at 7 no_record ∷ more)) from_six in
+    let from_six = rest_fails no_stamp 5 (first_applying (kind_if 6 not_later ∷ kind_if 7 no_record ∷ more)) none in
+    let from_seven = rest_fails not_later 6 (first_applying (kind_if 7 no_record ∷ more)) from_six in
     let told_so = read_by period s.newest count told.stamp told.values
-    (first_fails no_stamp 5 (least (at 6 not_later ∷ at 7 no_record ∷ more)) none)
-    (first_fails not_later 6 (least (at 7 no_record ∷ more)) from_six)
-    (first_fails no_record 7 (least more) from_seven) in
-    (record { minute = told_so.0; falls = told_so.1; stamps = told_so.2; last = told_so.3 }, rest_fails no_record 7 (least more) from_seven)
+    (first_fails no_stamp 5 (first_applying (kind_if 6 not_later ∷ kind_if 7 no_record ∷ more)) none)
+    (first_fails not_later 6 (first_applying (kind_if 7 no_record ∷ more)) from_six)
+    (first_fails no_record 7 (first_applying more) from_seven) in
+    (record { minute = told_so.0; falls = told_so.1; stamps = told_so.2; last = told_so.3 }, rest_fails no_record 7 (first_applying more) from_seven)
 
 no_more : (m period : ℕ) → m + (1 - 1) * period ≡ m
 no_more m period = omega arith
@@ -165,7 +165,7 @@ one_told : (period : ℕ) (s : Said) (told : Told) → IsTold period s.newest to
 one_told period s told is = subst (FallsAt s.newest (record_told period told)) (sym (no_more is.minute period) ∙ is.last) is.falls
 
 -- a step more behind the last `open` or `round`
-with_one : (period : ℕ) (s : Said) (f : IsFalling period s) (x : Step) (newest : ℕ) → Falls period s.newest x newest → IsBetween x
+with_one : (period : ℕ) (s : Said) (f : IsFalling period s) (x : ScheduleStep) (newest : ℕ) → Falls period s.newest x newest → IsBetween x
     → AllFall period f.within (s.since ++ x ∷ []) newest × AreBetween (s.since ++ x ∷ [])
 with_one period s f x newest falls between =
     (fall_join period f.within s.newest newest s.since (x ∷ []) f.since (newest, falls, refl), between_more s.since x f.between between)
@@ -230,7 +230,7 @@ in_round : (a b : Bool) → (not a || b) ≡ false → (a ≡ true) × (b ≡ fa
 in_round true b none = (refl, none)
 in_round false b none = cc
 
-same_from : (period a b : ℕ) (xs : List Step) → AreBetween xs → list_any is_due xs ≡ false → AllFall period a xs b → a ≡ b
+same_from : (period a b : ℕ) (xs : List ScheduleStep) → AreBetween xs → list_any is_due xs ≡ false → AllFall period a xs b → a ≡ b
 same_from period a b [] are none fall = fall
 same_from period a b (DueStep read ∷ xs) are none fall = absurd (let wrong : ⊥ = cc in wrong)
 same_from period a b (RunStep read count ∷ xs) are none fall = absurd (let wrong : ⊥ = cc in wrong)
@@ -238,7 +238,7 @@ same_from period a b (IdleStep ticks ∷ xs) are none fall = fall.1 ∙ same_fro
 same_from period a b (OpenStep stop ∷ xs) are none fall = absurd are.0
 same_from period a b (RoundStep details stop ∷ xs) are none fall = absurd are.0
 
-pub falling_after : (period : ℕ) (s : Said) (form : Form) → CountsFromOne form → IsFalling period s → least (kinds period s form) ≡ None → IsFalling period (after period s form)
+pub falling_after : (period : ℕ) (s : Said) (form : Form) → CountsFromOne form → IsFalling period s → first_applying (kinds period s form) ≡ None → IsFalling period (said_with_form period s form)
 falling_after period s (Due told) counts f none =
     let is = is_told period s told 1 (count_kinds s 1) none in
     let more = with_one period s f (DueStep (record_told period told)) (last_minute_of period told.stamp 1) (one_told period s told is.0) tt in
@@ -259,9 +259,9 @@ falling_after period s (Reply number fate) counts f none = with_details period s
 falling_after period s (Late number waits place) counts f none = with_details period s _ refl f
 falling_after period s (Mid number told) counts f none =
     let misplaced : Bool = not (is_in_round s.turn) || list_any is_due s.since in
-    let behind : List Kind = at 10 (nat_lt 20000 (s.records + 1)) ∷ at 13 (is_below_last s.details.mids number) ∷ at 14 (nat_le 64 (length s.details.mids)) ∷ [] in
-    let is = is_told period s told 1 (at 8 misplaced ∷ behind) none in
-    let placed = in_round (is_in_round s.turn) (list_any is_due s.since) (first_fails misplaced 8 (least behind) is.1) in
+    let behind : List Kind = kind_if 10 (nat_lt 20000 (s.records + 1)) ∷ kind_if 13 (is_below_last s.details.mids number) ∷ kind_if 14 (nat_le 64 (length s.details.mids)) ∷ [] in
+    let is = is_told period s told 1 (kind_if 8 misplaced ∷ behind) none in
+    let placed = in_round (is_in_round s.turn) (list_any is_due s.since) (first_fails misplaced 8 (first_applying behind) is.1) in
     let x : MidRecord = record { number = number; record_read = record_told period told } in
     let newest = last_minute_of period told.stamp 1 in
     let same = same_from period f.within s.newest s.since f.between placed.1 f.since in

@@ -4,7 +4,7 @@ use Rattle.std.specs.Option.{IsSomeAnd}
 use Rattle.station_base.specs.CivilMinute.{CivilMinute, minute_of, last_minute}
 use Rattle.archive_record.specs.Reading.{stamp_in}
 use Rattle.archive_record.specs.Record.{IsRecord, ReadsAsRow}
-use Rattle.console_ring.specs.History.{newest_of}
+use Rattle.console_ring.specs.History.{newest_stamp}
 use Rattle.console_model.specs.Valid.{EachFollows}
 use Rattle.station_sim.specs.Sound.{AreRecords}
 use Rattle.line_laws.proofs.Levels.{newest_more}
@@ -43,11 +43,11 @@ unfolding IsUpTo
 up_to None s is = tt
 up_to (Some n) s is = let same : minute_of n ≡ minute_of s = ap minute_of (cc) in omega (arith, same)
 
-follows_from : (a b : ℕ) (history rs : List (List ℕ)) → IsUpTo a (newest_of history) → Rise a rs b → EachFollows history rs
+follows_from : (a b : ℕ) (history rs : List (List ℕ)) → IsUpTo a (newest_stamp history) → Rise a rs b → EachFollows history rs
 follows_from a b history [] up rise = tt
 follows_from a b history (r ∷ rs) up rise = (
-  extends_by a (newest_of history) (stamp_in r) rise.0 up rise.1 rise.2,
-  follows_from (minute_of rise.0) b (history ++ r ∷ []) rs (up_to (newest_of (history ++ r ∷ [])) rise.0 (newest_more history r ∙ rise.1)) rise.3,
+  extends_by a (newest_stamp history) (stamp_in r) rise.0 up rise.1 rise.2,
+  follows_from (minute_of rise.0) b (history ++ r ∷ []) rs (up_to (newest_stamp (history ++ r ∷ [])) rise.0 (newest_more history r ∙ rise.1)) rise.3,
 )
 
 -- records whose stamps rise can follow one another

@@ -9,7 +9,7 @@ use Rattle.station_base.specs.CivilMinute.{CivilMinute, minute_of, last_minute}
 use Rattle.station_base.specs.declared.row.Row.{Row}
 use Rattle.archive_record.specs.declared.place.Place.{Place}
 use Rattle.archive_record.specs.declared.record_read.RecordRead.TheVariants.{Row as ReadRow}
-use Rattle.archive_record.specs.Place.{told, value_in}
+use Rattle.archive_record.specs.Place.{told_value, value_in}
 use Rattle.archive_record.specs.Reading.{reading}
 use Rattle.archive_record.specs.Record.{IsRecord}
 use Rattle.archive_record.specs.Table.{places, field_places}
@@ -43,7 +43,7 @@ values_kept s rec (place ∷ ps) behind =
     let parts = and_parts (nat_le 4 place.offset) (list_all (λ (p : Place). nat_le 4 p.offset) ps) behind in
     let far = leb-true 4 place.offset parts.0 in
     let raw = raw_stays (with_stamp s rec) rec place.kind place.offset (λ i from to. kept_behind s rec i (omega (arith, far, from))) in
-    ap (λ (v : Option ℤ). v ∷ map (value_in (with_stamp s rec)) ps) (ap (told place) raw)
+    ap (λ (v : Option ℤ). v ∷ map (value_in (with_stamp s rec)) ps) (ap (told_value place) raw)
     ∙ ap (λ (vs : List (Option ℤ)). value_in rec place ∷ vs) (values_kept s rec ps parts.1)
 
 abbrev later_row : Row → CivilMinute → Row

@@ -38,7 +38,7 @@ pub record AreAccepted (period : ℕ) (steps : List code_step.Step) : Type 0 whe
 
 -- Its steps keep the rules of a schedule and are in their ranges, at most 200 of them open a session or make a round,
 -- and its records are as many as it tells, which are at most 20,000.
-pub record IsAccepted (schedule : Schedule) : Type 0 where
+pub record ScheduleIsAccepted (schedule : Schedule) : Type 0 where
   pub rules : IsSchedule (steps_for schedule.period schedule.steps.items)
   pub ranges : AllByRecursion (IsInRange schedule.period) schedule.steps.items
   pub few_lines : lines (steps_for schedule.period schedule.steps.items) ≤ 200

@@ -3,12 +3,12 @@ ghost use Rattle.std.specs.List.{AllByRecursion};
 ghost use Rattle.archive_record.specs.Reading.{reading};
 ghost use Rattle.archive_record.specs.Record.{IsRecord};
 ghost use Rattle.archive_record.specs.declared.record_read.RecordRead.TheVariants.{Row as ReadRow};
-ghost use Rattle.schedule_steps.specs.Accepted.{HasRecord, IsAccepted};
+ghost use Rattle.schedule_steps.specs.Accepted.{HasRecord, ScheduleIsAccepted};
 ghost use Rattle.schedule_steps.specs.Runs.{IsRun, ReadsLater, run_records};
 ghost use Rattle.station_base.specs.declared.row.Row.{Row};
 ghost use Rattle.station_base.specs.Period.{IsPeriod};
-ghost use Rattle.schedule_file.specs.Answer.{ReadsAs};
-ghost use Rattle.schedule_file.specs.Reading.{steps_of};
+ghost use Rattle.schedule_file.specs.Answer.{ScheduleReadsAs};
+ghost use Rattle.schedule_file.specs.Reading.{said_by_text};
 ghost use Rattle.schedule_file.specs.declared.schedule.Schedule.{Schedule};
 
 use schedule_file::{Schedule, Step};
@@ -17,7 +17,7 @@ use schedule_file::{Schedule, Step};
 pub fn accepted_schedules()
     ensures { (bytes : List ℕ) (schedule : Schedule) → IsPeriod schedule.period
         → AllByRecursion HasRecord schedule.steps.items
-        → ReadsAs (steps_of bytes schedule.period) (Ok schedule) → IsAccepted schedule }
+        → ScheduleReadsAs (said_by_text bytes schedule.period) (Ok schedule) → ScheduleIsAccepted schedule }
 {}
 
 /// A run has so many records, each a period after the one before, and all with the values of the first.
@@ -31,8 +31,8 @@ pub fn what_a_run_is()
 
 /// What holds of a schedule that was read from some text. The schedule is looked at, and nothing else happens.
 pub fn accepted(schedule: &Schedule)
-    requires { (bytes : List ℕ) × ReadsAs (steps_of bytes schedule.now.period) (Ok schedule.now) }
-    ensures { IsAccepted schedule.now }
+    requires { (bytes : List ℕ) × ScheduleReadsAs (said_by_text bytes schedule.now.period) (Ok schedule.now) }
+    ensures { ScheduleIsAccepted schedule.now }
 {
     schedule.period().minutes();
     records_known(schedule.steps());

@@ -5,7 +5,7 @@ ghost use Rattle.schedule_steps.specs.Steps.{passed, step_of};
 ghost use Rattle.station_replay.specs.Schedule.{no_fates};
 ghost use Rattle.station_sim.specs.Line.{Line, waited};
 ghost use Rattle.schedule_file.specs.Lists.{fates_of};
-ghost use Rattle.station_sim.specs.Standing.{StandsFor};
+ghost use Rattle.station_sim.specs.Standing.{SimStandsFor};
 
 use archive_record::Rec52;
 use causes::OutOfMemory;
@@ -19,8 +19,8 @@ use station_sim::Sim;
 pub fn wait(line: &mut Sim, step: &Step, period: Period) -> Result<(), OutOfMemory>
     requires range { IsInRange period step.now }
     requires fates { fates_of line.old.fates ≡ no_fates }
-    ensures stands { OnOk result ((w : Line) → StandsFor line.old w
-        → StandsFor line.new (passed (step_of period step.now) w)) }
+    ensures stands { OnOk result ((w : Line) → SimStandsFor line.old w
+        → SimStandsFor line.new (passed (step_of period step.now) w)) }
     ensures fates { fates_of line.new.fates ≡ fates_of line.old.fates }
     ensures talk { line.new.talk.items ≡ line.old.talk.items }
 {
@@ -44,8 +44,8 @@ pub fn wait(line: &mut Sim, step: &Step, period: Period) -> Result<(), OutOfMemo
 /// Lets the records of a run fall due: the first, and each next one a period later with the same values.
 pub fn run_falls_due(line: &mut Sim, first: &Rec52, count: u32, period: Period)
     requires stamps { IsRun period first.now count }
-    ensures stands { (w : Line) → StandsFor line.old w
-        → StandsFor line.new (waited (run_records period first.now count) w) }
+    ensures stands { (w : Line) → SimStandsFor line.old w
+        → SimStandsFor line.new (waited (run_records period first.now count) w) }
     ensures fates { fates_of line.new.fates ≡ fates_of line.old.fates }
     ensures talk { line.new.talk.items ≡ line.old.talk.items }
 {

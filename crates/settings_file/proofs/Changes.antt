@@ -6,7 +6,7 @@ use Rattle.std.proofs.lemmas.List.Elements.{All-push}
 use Rattle.station_base.specs.LastStamp.{exceeds}
 use Rattle.station_base.proofs.LastStamps.{Rises-append}
 use Rattle.settings_file.specs.declared.change.Change.{Change}
-use Rattle.settings_file.specs.Changes.{IsChange, AreChanges, start_of, last_start, last_given, blank_change}
+use Rattle.settings_file.specs.Changes.{IsChange, AreChanges, change_start, last_start, last_given, blank_change}
 use Rattle.settings_file.specs.ChangesStored.{AreStored}
 
 -- one more change behind the others
@@ -15,7 +15,7 @@ pub AreChanges-more : (changes : List Change) (x : Change) → AreChanges change
 AreChanges-more changes x are room is later = record {
   few = omega (arith, length-append changes (x ∷ []));
   each = All-push IsChange changes x are.each is;
-  rising = Rises-append start_of None changes (x ∷ []) are.rising (later, tt);
+  rising = Rises-append change_start None changes (x ∷ []) are.rising (later, tt);
 }
 
 set_behind : {A : Type 0} (ys : List A) (m : ℕ) (b x : A) → set (ys ++ replicate (suc m) b) (length ys) x ≡ (ys ++ x ∷ []) ++ replicate m b

@@ -13,18 +13,18 @@ pub record IsChange (change : Change) : Type 0 where
   pub named : AreCorrections change.named
 
 -- the stamp from which a change is in force
-abbrev pub start_of : Change → Option CivilMinute
-start_of change = Some change.from
+abbrev pub change_start : Change → Option CivilMinute
+change_start change = Some change.from
 
 -- the stamp from which the last change is in force
 abbrev pub last_start : List Change → Option CivilMinute
-last_start changes = last_stamp start_of changes None
+last_start changes = last_stamp change_start changes None
 
 -- there are at most 16, each from a later stamp than the one before
 pub record AreChanges (changes : List Change) : Type 0 where
   pub few : length changes ≤ 16
   pub each : All IsChange changes
-  pub rising : Rises start_of None changes
+  pub rising : Rises change_start None changes
 
 -- a change is in force at its own stamp and at later ones
 abbrev pub is_in_force : CivilMinute → Change → Bool

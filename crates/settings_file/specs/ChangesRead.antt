@@ -15,7 +15,7 @@ use Rattle.settings_file.specs.Values.{table_of, tables_of, stamp_of}
 use Rattle.settings_file.specs.Walk.{Fill, ◌>>=◌, walk}
 use Rattle.settings_file.specs.Corrections.{nothing_named}
 use Rattle.settings_file.specs.KeyPlace.{unknown_key}
-use Rattle.settings_file.specs.Sections.{calibrations_of, limits_of, calibrations_key, all_limits_key}
+use Rattle.settings_file.specs.Sections.{calibrations_of, limits_section, calibrations_key, all_limits_key}
 use Rattle.settings_file.specs.Changes.{last_start}
 
 -- `from` with a stamp, which is judged after all keys, and `calibration` and `limits` with the tables of their fields
@@ -28,7 +28,7 @@ change_key at key value read =
     else (if bytes_eq key (codes "from") then Ok (record read { from = stamp_of value })
     else (if bytes_eq key (codes "limits") then (do
       fields ← table_of at value
-      all ← walk all_limits_key (limits_of at.section) None 0 fields read.named.limits
+      all ← walk all_limits_key (limits_section at.section) None 0 fields read.named.limits
       Ok (record read { named = record { calibrations = read.named.calibrations; limits = all } }))
     else Err (unknown_key at)))
 

@@ -8,7 +8,7 @@ use Rattle.settings_file.specs.declared.fault.SettingsFault.{SettingsFault}
 use Rattle.settings_file.specs.declared.fault.SettingsFault.TheVariants.{Syntax}
 use Rattle.settings_file.specs.declared.fault.Section.TheVariants as section
 use Rattle.settings_file.specs.StationSettings.{StationSettings, plain_settings}
-use Rattle.settings_file.specs.Values.{between, whole_number, table_of, period_of}
+use Rattle.settings_file.specs.Values.{between, whole_number, table_of, period_in_value}
 use Rattle.settings_file.specs.Walk.{Fill, ◌>>=◌, walk}
 use Rattle.settings_file.specs.KeyPlace.{unknown_key}
 use Rattle.settings_file.specs.Sections.{calibrations_key, all_limits_key}
@@ -30,7 +30,7 @@ settings_key at key value s =
       all ← walk all_limits_key section.Limits None 0 fields s.own.limits
       Ok (record s { own = record { calibrations = s.own.calibrations; limits = all } }))
     else (if bytes_eq key (codes "period") then (do
-      minutes ← period_of value
+      minutes ← period_in_value value
       Ok (record s { period = minutes }))
     else (if bytes_eq key (codes "rows") then (do
       rows ← whole_number (between (pos 1) (pos 1048576)) at value

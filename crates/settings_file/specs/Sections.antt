@@ -51,9 +51,9 @@ calibrations_of (section.Change n) = section.ChangeCalibration n
 calibrations_of other = section.Calibration
 
 -- the limits of a change where the section is one, and else those of the file
-abbrev pub limits_of : Section → Section
-limits_of (section.Change n) = section.ChangeLimits n
-limits_of other = section.Limits
+abbrev pub limits_section : Section → Section
+limits_section (section.Change n) = section.ChangeLimits n
+limits_section other = section.Limits
 
 -- the limits of a field in this section are crossed
 abbrev pub crossed_in : Section → ℕ → SettingsFault

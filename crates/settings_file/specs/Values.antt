@@ -26,9 +26,9 @@ table_of at (table members) = Ok members
 table_of at value = Err (bad_number at)
 
 -- the period in minutes that a value is, where it is one
-abbrev pub period_of : Data → Result ℕ SettingsFault
-period_of (integer (pos minutes)) = if is_period minutes then Ok minutes else Err BadPeriod
-period_of value = Err BadPeriod
+abbrev pub period_in_value : Data → Result ℕ SettingsFault
+period_in_value (integer (pos minutes)) = if is_period minutes then Ok minutes else Err BadPeriod
+period_in_value value = Err BadPeriod
 
 -- the values of an array, in order
 abbrev pub members_of : Items → List Data

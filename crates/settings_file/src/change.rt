@@ -77,7 +77,11 @@ impl Model for Changes {
 
     ghost invariant = { λ c. AreStored c.count c.all };
 
-    ghost inverse = { λ changes. record { all = changes ++ replicate (16 - length changes) blank_change; count = length changes } };
+    ghost inverse = { λ changes. record {
+      all = changes
+          ++ replicate (16 - length changes) blank_change;
+      count = length changes;
+    } };
 
     ghost inverse_ok = { λ c stored i. record {
       all = places_back c.count c.all stored i;
@@ -89,7 +93,7 @@ impl Changes {
     ghost use Rattle.settings_file.specs.Calibration.{IsCalibration};
     ghost use Rattle.settings_file.specs.Limits.{AreLimits};
     ghost use Rattle.settings_file.specs.Corrections.{calibration_in, limits_in};
-    ghost use Rattle.settings_file.specs.Changes.{AreChanges, IsChange, start_of, last_start, last_given, named_by};
+    ghost use Rattle.settings_file.specs.Changes.{AreChanges, IsChange, change_start, last_start, last_given, named_by};
 
     // No changes.
     pub fn none() -> Changes

@@ -64,7 +64,7 @@ impl Filled for ChangeRead {
 }
 
 impl Section {
-    ghost use Rattle.settings_file.specs.Sections.{calibrations_of, limits_of};
+    ghost use Rattle.settings_file.specs.Sections.{calibrations_of, limits_section};
 
     // The section of the calibrations that stand in this one.
     fn of_calibrations(self) -> Section
@@ -78,7 +78,7 @@ impl Section {
 
     // The section of the limits that stand in this one.
     fn of_limits(self) -> Section
-        ensures { result ≡ limits_of self }
+        ensures { result ≡ limits_section self }
     {
         match self {
             Section::Change { at } => Section::ChangeLimits { at },

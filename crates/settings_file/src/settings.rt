@@ -1,6 +1,6 @@
 ghost use Rattle.std.specs.Prelude.{◌≡◌, ◌≢◌, ◌≤◌, [], Ok, Err};
 ghost use Rattle.toml.specs.View.{view};
-ghost use Rattle.settings_file.specs.Values.{period_of};
+ghost use Rattle.settings_file.specs.Values.{period_in_value};
 
 use crate::calibration::Calibration;
 use crate::change::Changes;
@@ -43,7 +43,8 @@ impl Model for Settings {
 
     ghost view = { λ s. record { period = s.period; most = s.most; own = s.own; changes = s.changes } };
 
-    ghost invariant = { λ s. AreSettings (record { period = s.period; most = s.most; own = s.own; changes = s.changes }) };
+    ghost invariant = { λ s. AreSettings
+        (record { period = s.period; most = s.most; own = s.own; changes = s.changes }) };
 
     ghost inverse = { λ s. record { period = s.period; most = s.most; own = s.own; changes = s.changes } };
 }
@@ -160,7 +161,7 @@ impl Filled for Settings {
 
 // The period that a value is.
 fn period(value: &Value) -> Result<Period, SettingsFault>
-    ensures { result ≡ period_of (view value.now) }
+    ensures { result ≡ period_in_value (view value.now) }
 {
     let Some(minutes) = value.as_integer() else {
         return Err(SettingsFault::BadPeriod);

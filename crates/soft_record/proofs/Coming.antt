@@ -7,7 +7,7 @@ use Rattle.loop_packet.specs.declared.packet.LoopPacket.{LoopPacket}
 use Rattle.soft_record.specs.declared.spread.Spread.{Spread}
 use Rattle.soft_record.specs.Interval.{Rising}
 use Rattle.soft_record.specs.Marks.{latest, there}
-use Rattle.soft_record.specs.Numbers.{last_in, with_number}
+use Rattle.soft_record.specs.Numbers.{last_of_numbers, with_number}
 use Rattle.soft_record.specs.SoftRow.{numbers, there_in}
 use Rattle.soft_record.specs.Spread.{IsSpreadOf}
 
@@ -39,12 +39,12 @@ pub numbers_more : (number : LoopPacket → ℤ) (rs : List Rising) (r : Rising)
 numbers_more number [] r = refl
 numbers_more number (q ∷ rs) r = ap (λ (xs : List ℤ). number q.entry.packet ∷ xs) (numbers_more number rs r)
 
-last_more : (xs : List ℤ) (n : ℤ) → last_in (xs ++ n ∷ []) ≡ Some n
+last_more : (xs : List ℤ) (n : ℤ) → last_of_numbers (xs ++ n ∷ []) ≡ Some n
 last_more [] n = refl
 last_more (x ∷ []) n = refl
 last_more (x ∷ y ∷ xs) n = last_more (y ∷ xs) n
 
-last_with : (xs : List ℤ) (o : Option ℤ) → last_in (with_number xs o) ≡ latest o (last_in xs)
+last_with : (xs : List ℤ) (o : Option ℤ) → last_of_numbers (with_number xs o) ≡ latest o (last_of_numbers xs)
 last_with xs None = refl
 last_with xs (Some n) = last_more xs n
 
@@ -73,11 +73,11 @@ rate_more number rs r packet told old new is exact more come =
 -- the last number that is there
 pub latest_more : (mark : ℤ) (number : LoopPacket → ℤ) (rs : List Rising) (r : Rising) (packet : LoopPacket)
     (told before now : Option ℤ) → r.entry.packet ≡ packet → told ≡ there mark (number packet) → now ≡ latest told before
-    → before ≡ last_in (there_in mark number rs) → now ≡ last_in (there_in mark number (rs ++ r ∷ []))
+    → before ≡ last_of_numbers (there_in mark number rs) → now ≡ last_of_numbers (there_in mark number (rs ++ r ∷ []))
 latest_more mark number rs r packet told before now is exact latest_is come =
     latest_is ∙ (ap (λ (b : Option ℤ). latest told b) come
     ∙ (sym (last_with (there_in mark number rs) told)
-    ∙ ap last_in (ap (λ (o : Option ℤ). with_number (there_in mark number rs) o)
+    ∙ ap last_of_numbers (ap (λ (o : Option ℤ). with_number (there_in mark number rs) o)
     (exact ∙ ap (λ (p : LoopPacket). there mark (number p)) (sym is)) ∙ sym (there_more mark number rs r))))
 
 -- a sum of one more

@@ -9,7 +9,7 @@ use Rattle.std.proofs.lemmas.Bool.Decides.{nat_tests}
 use Rattle.std.proofs.lemmas.Nat.{div-add-mod'}
 use Rattle.station_base.specs.Period.{IsPeriod}
 use Rattle.soft_record.specs.declared.entry.Entry.{Entry}
-use Rattle.soft_record.specs.Entry.{end_of, full_minute, moment}
+use Rattle.soft_record.specs.Entry.{interval_end, full_minute, moment}
 use Rattle.soft_record.specs.IntervalEnd.{IsEarliest}
 
 -- what is known of the least multiple of y that is not below x
@@ -97,21 +97,21 @@ first_by e minute false is reached = rw is (let some : e.second ≢ 0 = eqb-fals
 pub full_first : (e : Entry) (minute : ℕ) → moment e ≤ 60 * minute → full_minute e ≤ minute
 full_first e minute reached = first_by e minute (e.second == 0) refl reached
 
-pub end_is_earliest : (period : ℕ) (e : Entry) → IsPeriod period → e.second < 60 → IsEarliest period e (end_of period e)
+pub end_is_earliest : (period : ℕ) (e : Entry) → IsPeriod period → e.second < 60 → IsEarliest period e (interval_end period e)
 end_is_earliest period e is civil =
     let some = period_some period is in
     let end = around (full_minute e) period some in
     record {
       ends = record {
         reached = omega (arith, (full_near e civil).0, end.from);
-        whole = in_day period (end_of period e) is ∙ end.whole;
+        whole = in_day period (interval_end period e) is ∙ end.whole;
       };
       first = λ other can. least (full_minute e) period other some (full_first e other can.reached) (sym (in_day period other is) ∙ can.whole);
     }
 
 -- of two entries the later one's interval does not end earlier
-pub end_rises : (period : ℕ) (b e : Entry) → 0 < period → e.second < 60 → moment b < moment e → end_of period b ≤ end_of period e
+pub end_rises : (period : ℕ) (b e : Entry) → 0 < period → e.second < 60 → moment b < moment e → interval_end period b ≤ interval_end period e
 end_rises period b e some civil later =
     let end = around (full_minute e) period some in
     let full : full_minute b ≤ full_minute e = full_first b (full_minute e) (omega (arith, (full_near e civil).0, later)) in
-    least (full_minute b) period (end_of period e) some (omega (arith, full, end.from)) end.whole
+    least (full_minute b) period (interval_end period e) some (omega (arith, full, end.from)) end.whole

@@ -4,7 +4,7 @@ use Rattle.std.specs.Prelude.{◌+ℤ◌}
 use Rattle.std.specs.Int.{int_div_euclid, int_min, int_max}
 use Rattle.std.specs.List.{fold}
 use Rattle.std.proofs.lemmas.Int.{ints}
-use Rattle.soft_record.specs.Numbers.{total, mean_of, least_of, greatest_of}
+use Rattle.soft_record.specs.Numbers.{sum_of_numbers, mean_of, least_of, greatest_of}
 use Rattle.soft_record.specs.declared.spread.Spread.{Spread}
 use Rattle.soft_record.specs.Spread.{IsSpreadOf}
 
@@ -14,9 +14,9 @@ sum_sum a b c = omega (arith, ints)
 zero_behind : (a : ℤ) → a +ℤ pos 0 ≡ pos 0 +ℤ a
 zero_behind a = omega (arith, ints)
 
-total_more : (numbers : List ℤ) (n : ℤ) → total (numbers ++ n ∷ []) ≡ total numbers +ℤ n
+total_more : (numbers : List ℤ) (n : ℤ) → sum_of_numbers (numbers ++ n ∷ []) ≡ sum_of_numbers numbers +ℤ n
 total_more [] n = zero_behind n
-total_more (m ∷ more) n = ap (λ (z : ℤ). m +ℤ z) (total_more more n) ∙ sum_sum m (total more) n
+total_more (m ∷ more) n = ap (λ (z : ℤ). m +ℤ z) (total_more more n) ∙ sum_sum m (sum_of_numbers more) n
 
 fold_more : (f : ℤ → ℤ → ℤ) (a : ℤ) (numbers : List ℤ) (n : ℤ) → fold f a (numbers ++ n ∷ []) ≡ f (fold f a numbers) n
 fold_more f a [] n = refl
@@ -71,11 +71,11 @@ least_none numbers s none is = sym (ap least_of (empty numbers s.count is.count 
 pub greatest_none : (numbers : List ℤ) (s : Spread) → s.count ≡ 0 → IsSpreadOf numbers s → None ≡ greatest_of numbers
 greatest_none numbers s none is = sym (ap greatest_of (empty numbers s.count is.count none))
 
-mean_of_some : (numbers : List ℤ) (sum : ℤ) (count : ℕ) → sum ≡ total numbers → count ≡ length numbers → 1 ≤ count
+mean_of_some : (numbers : List ℤ) (sum : ℤ) (count : ℕ) → sum ≡ sum_of_numbers numbers → count ≡ length numbers → 1 ≤ count
     → Some (int_div_euclid sum (pos count)) ≡ mean_of numbers
 mean_of_some [] sum count s c some = absurd (omega (arith, c, some))
 mean_of_some (n ∷ more) sum count s c some = ap (λ (z : ℤ). Some (int_div_euclid z (pos count))) s
-    ∙ ap (λ (k : ℕ). Some (int_div_euclid (total (n ∷ more)) (pos k))) c
+    ∙ ap (λ (k : ℕ). Some (int_div_euclid (sum_of_numbers (n ∷ more)) (pos k))) c
 
 pub mean_some : (numbers : List ℤ) (s : Spread) → 1 ≤ s.count → IsSpreadOf numbers s
     → Some (int_div_euclid s.sum (pos s.count)) ≡ mean_of numbers

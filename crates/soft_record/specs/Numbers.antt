@@ -10,14 +10,14 @@ with_number numbers None = numbers
 with_number numbers (Some number) = numbers ++ number ∷ []
 
 -- the sum
-abbrev pub total : List ℤ → ℤ
-total [] = pos 0
-total (n ∷ more) = n +ℤ total more
+abbrev pub sum_of_numbers : List ℤ → ℤ
+sum_of_numbers [] = pos 0
+sum_of_numbers (n ∷ more) = n +ℤ sum_of_numbers more
 
 -- the mean, rounded towards the lesser number, if there is a number
 abbrev pub mean_of : List ℤ → Option ℤ
 mean_of [] = None
-mean_of (n ∷ more) = Some (int_div_euclid (total (n ∷ more)) (pos (length (n ∷ more))))
+mean_of (n ∷ more) = Some (int_div_euclid (sum_of_numbers (n ∷ more)) (pos (length (n ∷ more))))
 
 -- the least, if there is a number
 abbrev pub least_of : List ℤ → Option ℤ
@@ -30,7 +30,7 @@ greatest_of [] = None
 greatest_of (n ∷ more) = Some (fold int_max n more)
 
 -- the last, if there is a number
-abbrev pub last_in : List ℤ → Option ℤ
-last_in [] = None
-last_in (n ∷ []) = Some n
-last_in (n ∷ m ∷ more) = last_in (m ∷ more)
+abbrev pub last_of_numbers : List ℤ → Option ℤ
+last_of_numbers [] = None
+last_of_numbers (n ∷ []) = Some n
+last_of_numbers (n ∷ m ∷ more) = last_of_numbers (m ∷ more)

@@ -7,7 +7,7 @@ use Rattle.station_base.specs.declared.row.Row.{Row}
 use Rattle.loop_packet.specs.declared.packet.LoopPacket.{LoopPacket}
 use Rattle.soft_record.specs.Interval.{Rising}
 use Rattle.soft_record.specs.Marks.{no_temperature, no_barometer, no_radiation, no_byte}
-use Rattle.soft_record.specs.Numbers.{mean_of, least_of, greatest_of, last_in}
+use Rattle.soft_record.specs.Numbers.{mean_of, least_of, greatest_of, last_of_numbers}
 
 -- a number of each packet
 abbrev pub numbers : (LoopPacket → ℤ) → List Rising → List ℤ
@@ -60,8 +60,8 @@ soft_values rs =
     ∷ mean_of (radiations rs)
     ∷ Some (pos (length (winds rs)))
     ∷ mean_of (in_temps rs)
-    ∷ last_in (in_humidities rs)
-    ∷ last_in (out_humidities rs)
+    ∷ last_of_numbers (in_humidities rs)
+    ∷ last_of_numbers (out_humidities rs)
     ∷ mean_of (winds rs)
     ∷ greatest_of (winds rs)
     ∷ None ∷ None

@@ -1,7 +1,7 @@
 -- What the entries of an interval come to.
 use Rattle.std.specs.Prelude.{ℕ, ◌≡◌, ◌≤◌, ◌*◌, List, sum_by}
 use Rattle.soft_record.specs.Interval.{Rising}
-use Rattle.soft_record.specs.Numbers.{last_in}
+use Rattle.soft_record.specs.Numbers.{last_of_numbers}
 use Rattle.soft_record.specs.Readings.{IsReading}
 use Rattle.soft_record.specs.SoftRow.{out_temps, in_temps, barometers, radiations, winds, uvs, rain_rates, in_humidities, out_humidities}
 use Rattle.soft_record.specs.Spread.{IsSpreadOf, IsSmallOf}
@@ -16,8 +16,8 @@ pub record AreSumsOf (rs : List Rising) (s : Sums) : Type 0 where
   pub wind : IsSpreadOf (winds rs) s.wind
   pub uv : IsSpreadOf (uvs rs) s.uv
   pub rain_rate : IsSpreadOf (rain_rates rs) s.rain_rate
-  pub in_humidity : s.in_humidity ≡ last_in (in_humidities rs)
-  pub out_humidity : s.out_humidity ≡ last_in (out_humidities rs)
+  pub in_humidity : s.in_humidity ≡ last_of_numbers (in_humidities rs)
+  pub out_humidity : s.out_humidity ≡ last_of_numbers (out_humidities rs)
   pub rain : s.rain ≡ sum_by (λ r. r.rain) rs
   pub et : s.et ≡ sum_by (λ r. r.et) rs
 

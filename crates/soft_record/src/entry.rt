@@ -1,7 +1,7 @@
 ghost use Rattle.std.specs.Prelude.{◌≡◌, ◌+◌, ◌^◌, ◌≤◌, ◌<◌, IfSome, Some, Ok, drop, length};
 ghost use Rattle.station_base.specs.CivilMinute.{first_minute, minute_of};
 ghost use Rattle.loop_packet.specs.Part.{word_in};
-ghost use Rattle.loop_packet.specs.Reading.{Tells};
+ghost use Rattle.loop_packet.specs.Reading.{TellsPacket};
 ghost use Rattle.loop_packet.specs.declared.packet.LoopPacket as packet;
 
 use loop_packet::{LoopPacket, PACKET_SIZE, read};
@@ -33,13 +33,13 @@ pub struct Entry {
 }
 
 impl Entry {
-    ghost use Rattle.soft_record.specs.Entry.{Spells, full_minute, moment};
+    ghost use Rattle.soft_record.specs.Entry.{SpellsEntry, full_minute, moment};
     ghost use Rattle.soft_record.specs.declared.entry.Entry as heard;
 
     /// The entry of these bytes, if they are one.
     pub fn read(bytes: &[u8]) -> Option<Entry>
-        ensures found { IfSome result (λ entry. Spells bytes.now entry × (entry.second < 60)) }
-        ensures only { (entry : heard.Entry) → Spells bytes.now entry → entry.second < 60 → result ≡ Some entry }
+        ensures found { IfSome result (λ entry. SpellsEntry bytes.now entry × (entry.second < 60)) }
+        ensures only { (entry : heard.Entry) → SpellsEntry bytes.now entry → entry.second < 60 → result ≡ Some entry }
     {
         if bytes.len() != ENTRY_SIZE {
             return None;
@@ -89,8 +89,8 @@ fn word(bytes: &[u8], at: usize) -> u16
 // The packet of an entry, if it is one.
 fn packet_in(bytes: &[u8]) -> Option<LoopPacket>
     requires { length bytes.now ≡ ENTRY_SIZE }
-    ensures found { IfSome result (λ p. Tells (drop 5 bytes.now) (Ok p)) }
-    ensures only { (p : packet.LoopPacket) → Tells (drop 5 bytes.now) (Ok p) → result ≡ Some p }
+    ensures found { IfSome result (λ p. TellsPacket (drop 5 bytes.now) (Ok p)) }
+    ensures only { (p : packet.LoopPacket) → TellsPacket (drop 5 bytes.now) (Ok p) → result ≡ Some p }
 {
     let mut packet = [0; PACKET_SIZE];
     packet.copy_from_slice(&bytes[PACKET..]);

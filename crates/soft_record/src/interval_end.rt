@@ -1,8 +1,8 @@
 ghost use Rattle.std.specs.Prelude.{◌≡◌, ◌≤◌, ◌<◌, ◌↔◌, IsSome, IfSome};
 ghost use Rattle.station_base.specs.CivilMinute.{IsCivilMinute, last_minute, minute_of};
 ghost use Rattle.station_base.specs.Period.{IsPeriod};
-ghost use Rattle.soft_record.specs.Entry.{end_of};
-ghost use Rattle.soft_record.specs.IntervalEnd.{IsNear};
+ghost use Rattle.soft_record.specs.Entry.{interval_end};
+ghost use Rattle.soft_record.specs.IntervalEnd.{IntervalEndIsNear};
 
 use crate::entry::Entry;
 use station_base::{Period, Stamp};
@@ -11,10 +11,10 @@ use station_base::{Period, Stamp};
 /// the period. None if that is no stamp.
 pub fn interval_end(period: Period, entry: &Entry) -> Option<Stamp>
     requires civil { entry.now.second < 60 }
-    ensures found { IsSome result ↔ (end_of period entry.now ≤ minute_of last_minute) }
-    ensures end { IfSome result (λ end. minute_of end ≡ end_of period entry.now) }
+    ensures found { IsSome result ↔ (interval_end period entry.now ≤ minute_of last_minute) }
+    ensures end { IfSome result (λ end. minute_of end ≡ interval_end period entry.now) }
     ensures civil { IfSome result IsCivilMinute }
-    ensures near { IfSome result (IsNear entry.now) }
+    ensures near { IfSome result (IntervalEndIsNear entry.now) }
     ensures period { IsPeriod period }
 {
     let minutes = u32::from(period.minutes());

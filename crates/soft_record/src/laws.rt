@@ -1,7 +1,7 @@
 ghost use Rattle.std.specs.Prelude.{◌≢◌, ◌<◌, ◌++◌, [], ◌∷◌, ℕ, List};
 ghost use Rattle.station_base.specs.Period.{IsPeriod};
 ghost use Rattle.station_base.specs.declared.row.Row.{Row};
-ghost use Rattle.soft_record.specs.Entry.{end_of};
+ghost use Rattle.soft_record.specs.Entry.{interval_end};
 ghost use Rattle.soft_record.specs.Given.{IsRowOf};
 ghost use Rattle.soft_record.specs.IntervalEnd.{IsEarliest};
 ghost use Rattle.soft_record.specs.declared.entry.Entry.{Entry};
@@ -10,12 +10,12 @@ ghost use Rattle.soft_record.specs.declared.entry.Entry.{Entry};
 /// period.
 #[tactic(auto, using(crate::proofs::Ends::end_is_earliest))]
 pub fn intervals_end_at_the_earliest_multiple()
-    ensures { (period : ℕ) (e : Entry) → IsPeriod period → e.second < 60 → IsEarliest period e (end_of period e) }
+    ensures { (period : ℕ) (e : Entry) → IsPeriod period → e.second < 60 → IsEarliest period e (interval_end period e) }
 {}
 
 /// The row of an interval stays its row as an entry of another interval comes.
 #[tactic(auto, using(crate::proofs::Intervals::row_stays))]
 pub fn given_rows_stay()
-    ensures { (period end : ℕ) (entries : List Entry) (e : Entry) (row : Row) → end_of period e ≢ end
+    ensures { (period end : ℕ) (entries : List Entry) (e : Entry) (row : Row) → interval_end period e ≢ end
         → IsRowOf period entries end row → IsRowOf period (entries ++ e ∷ []) end row }
 {}

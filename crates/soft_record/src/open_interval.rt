@@ -2,9 +2,9 @@ ghost use Rattle.std.specs.Prelude.{◌≡◌, ◌≢◌, ◌+◌, ◌*◌, ◌<
 ghost use Rattle.std.proofs.Props.{props};
 ghost use Rattle.station_base.specs.CivilMinute.{IsCivilMinute, minute_of};
 ghost use Rattle.station_base.specs.Period.{IsPeriod};
-ghost use Rattle.soft_record.specs.Entry.{end_of, moment};
-ghost use Rattle.soft_record.specs.Given.{AreGood, CanFollow};
-ghost use Rattle.soft_record.specs.IntervalEnd.{IsNear, longest};
+ghost use Rattle.soft_record.specs.Entry.{interval_end, moment};
+ghost use Rattle.soft_record.specs.Given.{AreGood, EntryCanFollow};
+ghost use Rattle.soft_record.specs.IntervalEnd.{IntervalEndIsNear, longest};
 ghost use Rattle.soft_record.specs.Sums.{AreSmall, entries_in};
 ghost use Rattle.soft_record.specs.declared.entry.Entry as heard;
 
@@ -24,13 +24,14 @@ pub struct OpenInterval {
 }
 
 impl OpenInterval {
-    ghost use Rattle.soft_record.specs.OpenInterval.{IsOpen};
+    ghost use Rattle.soft_record.specs.OpenInterval.{IntervalIsOpen};
 
     /// That of the first entry of all.
     pub fn first(end: Stamp, entry: &Entry) -> OpenInterval
         requires civil { IsCivilMinute end }
-        requires near { IsNear entry.now end }
-        ensures { (period : ℕ) → minute_of end ≡ end_of period entry.now → IsOpen period (entry.now ∷ []) result }
+        requires near { IntervalEndIsNear entry.now end }
+        ensures { (period : ℕ) → minute_of end ≡ interval_end period entry.now
+            → IntervalIsOpen period (entry.now ∷ []) result }
     {
         OpenInterval {
             end,
@@ -43,8 +44,9 @@ impl OpenInterval {
     pub fn with(&self, entry: &Entry) -> OpenInterval
         requires later { moment self.now.last < moment entry.now }
         requires reached { moment entry.now ≤ 60 * minute_of self.now.end }
-        ensures { (period : ℕ) (entries : List heard.Entry) → IsOpen period entries self.now → minute_of self.now.end ≡ end_of period entry.now
-            → IsOpen period (entries ++ entry.now ∷ []) result }
+        ensures { (period : ℕ) (entries : List heard.Entry) → IntervalIsOpen period entries self.now
+            → minute_of self.now.end ≡ interval_end period entry.now
+            → IntervalIsOpen period (entries ++ entry.now ∷ []) result }
     {
         OpenInterval {
             end: self.end,
@@ -56,10 +58,11 @@ impl OpenInterval {
     /// The interval that an entry begins behind this one.
     pub fn next(&self, end: Stamp, entry: &Entry) -> OpenInterval
         requires civil { IsCivilMinute end }
-        requires near { IsNear entry.now end }
-        ensures { (period : ℕ) (entries : List heard.Entry) → IsPeriod period → AreGood period None entries → IsOpen period entries self.now
-            → CanFollow period (Some self.now.last) entry.now → minute_of end ≡ end_of period entry.now
-            → minute_of self.now.end ≢ minute_of end → IsOpen period (entries ++ entry.now ∷ []) result }
+        requires near { IntervalEndIsNear entry.now end }
+        ensures { (period : ℕ) (entries : List heard.Entry) → IsPeriod period → AreGood period None entries
+            → IntervalIsOpen period entries self.now
+            → EntryCanFollow period (Some self.now.last) entry.now → minute_of end ≡ interval_end period entry.now
+            → minute_of self.now.end ≢ minute_of end → IntervalIsOpen period (entries ++ entry.now ∷ []) result }
     {
         OpenInterval {
             end,

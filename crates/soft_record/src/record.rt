@@ -30,12 +30,12 @@ pub struct SoftRecord {
 }
 
 impl SoftRecord {
-    ghost use Rattle.soft_record.specs.Standing.{Finishes, OnClosed, StandsFor, Takes};
+    ghost use Rattle.soft_record.specs.Standing.{SoftRecordFinishes, OnClosed, SoftRecordStandsFor, TakesEntry};
     ghost use Rattle.soft_record.specs.declared.entry.Entry as heard;
 
     /// A record of intervals that are so long, which took no entry.
     pub fn new(period: Period) -> SoftRecord
-        ensures { StandsFor result period [] [] }
+        ensures { SoftRecordStandsFor result period [] [] }
     {
         SoftRecord { period, open: None }
     }
@@ -43,8 +43,9 @@ impl SoftRecord {
     /// Takes an entry: its date and time as two words, the second, and a LOOP packet. An interval is over once an entry of a
     /// later one is taken.
     pub fn take(&mut self, entry: &[u8]) -> Took
-        ensures takes { (period : ℕ) (entries : List heard.Entry) (rows : List given.Row) → StandsFor self.old period entries rows
-            → Takes self.old period entries rows entry.now result self.new }
+        ensures takes { (period : ℕ) (entries : List heard.Entry) (rows : List given.Row)
+            → SoftRecordStandsFor self.old period entries rows
+            → TakesEntry self.old period entries rows entry.now result self.new }
         ensures readings { OnClosed result HasReadings }
     {
         let Some(entry) = Entry::read(entry) else {
@@ -70,10 +71,12 @@ impl SoftRecord {
 
     /// The row of the last entry's interval, if an entry was taken. The record is then as a new one.
     pub fn finish(&mut self) -> Option<Row>
-        ensures finishes { (period : ℕ) (entries : List heard.Entry) (rows : List given.Row) → StandsFor self.old period entries rows
-            → Finishes period entries rows result }
-        ensures anew { (period : ℕ) (entries : List heard.Entry) (rows : List given.Row) → StandsFor self.old period entries rows
-            → StandsFor self.new period [] [] }
+        ensures finishes { (period : ℕ) (entries : List heard.Entry) (rows : List given.Row)
+            → SoftRecordStandsFor self.old period entries rows
+            → SoftRecordFinishes period entries rows result }
+        ensures anew { (period : ℕ) (entries : List heard.Entry) (rows : List given.Row)
+            → SoftRecordStandsFor self.old period entries rows
+            → SoftRecordStandsFor self.new period [] [] }
         ensures readings { IfSome result HasReadings }
     {
         let open = self.open.take()?;

@@ -14,7 +14,8 @@ const MOST: u32 = 65_535;
 /// The row of an interval, of what its entries come to.
 pub fn row_of(end: Stamp, period: Period, sums: &Sums) -> Row
     requires { AreSmall sums.now }
-    ensures row { (rs : List Rising) → IsCivilMinute end → AreSumsOf rs sums.now → IsSoftRow period (minute_of end) rs result }
+    ensures row { (rs : List Rising) → IsCivilMinute end → AreSumsOf rs sums.now
+        → IsSoftRow period (minute_of end) rs result }
     ensures readings { HasReadings result }
 {
     let values = [

@@ -18,7 +18,7 @@ pub struct Spread {
 }
 
 impl Spread {
-    ghost use Rattle.soft_record.specs.Spread.{IsSmall, IsSpreadOf, first};
+    ghost use Rattle.soft_record.specs.Spread.{IsSmall, IsSpreadOf, first_spread};
 
     /// Of no numbers.
     pub fn new() -> Spread
@@ -55,7 +55,7 @@ impl Spread {
 
     // Of one number.
     fn first(number: i32) -> Spread
-        ensures { result ≡ first number }
+        ensures { result ≡ first_spread number }
     {
         Spread {
             count: 1,

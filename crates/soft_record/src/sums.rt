@@ -1,5 +1,5 @@
 ghost use Rattle.std.specs.Prelude.{◌≡◌, ◌<◌, ◌+◌, ◌++◌, ◌∷◌, [], List, Some, None};
-ghost use Rattle.soft_record.specs.Interval.{Rising, rise, rising};
+ghost use Rattle.soft_record.specs.Interval.{Rising, rise_between, rising_entry};
 ghost use Rattle.soft_record.specs.IntervalEnd.{longest};
 
 use crate::entry::Entry;
@@ -49,7 +49,7 @@ impl Sums {
 
     /// Of the first entry of all, with which nothing rose.
     pub fn first(entry: &Entry) -> Sums
-        ensures sums { AreSumsOf (rising None entry.now ∷ []) result }
+        ensures sums { AreSumsOf (rising_entry None entry.now ∷ []) result }
         ensures small { AreSmall result }
         ensures entries { entries_in result ≡ 1 }
     {
@@ -60,7 +60,8 @@ impl Sums {
     pub fn with(&self, before: &Entry, entry: &Entry) -> Sums
         requires small { AreSmall self.now }
         requires few { entries_in self.now < longest }
-        ensures sums { (rs : List Rising) → AreSumsOf rs self.now → AreSumsOf (rs ++ rising (Some before.now) entry.now ∷ []) result }
+        ensures sums { (rs : List Rising) → AreSumsOf rs self.now
+            → AreSumsOf (rs ++ rising_entry (Some before.now) entry.now ∷ []) result }
         ensures small { AreSmall result }
         ensures entries { entries_in result ≡ entries_in self.now + 1 }
     {
@@ -73,7 +74,8 @@ impl Sums {
     fn with_packet(&self, packet: &LoopPacket, rain: u16, et: u16) -> Sums
         requires small { AreSmall self.now }
         requires few { entries_in self.now < longest }
-        ensures sums { (rs : List Rising) (r : Rising) → AreSumsOf rs self.now → r.entry.packet ≡ packet.now → r.rain ≡ rain → r.et ≡ et
+        ensures sums { (rs : List Rising) (r : Rising) → AreSumsOf rs self.now → r.entry.packet ≡ packet.now
+            → r.rain ≡ rain → r.et ≡ et
             → AreSumsOf (rs ++ r ∷ []) result }
         ensures small { AreSmall result }
         ensures entries { entries_in result ≡ entries_in self.now + 1 }
@@ -97,7 +99,7 @@ impl Sums {
 
 // By how much a number of the day rose. One that fell began again.
 fn rise(before: u16, now: u16) -> u16
-    ensures { result ≡ rise before now }
+    ensures { result ≡ rise_between before now }
 {
     if now < before { now } else { now - before }
 }

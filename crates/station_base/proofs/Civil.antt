@@ -7,7 +7,7 @@ use Rattle.jiff_core.proofs.DateLemmas.{epoch_day-lt}
 use Rattle.jiff_core.proofs.SignedLemmas.{signed_arith}
 use Rattle.jiff_core.proofs.StandardFacts.{known_days}
 use Rattle.station_base.specs.CivilMinute.{CivilMinute, IsCivilMinute, is_civil_minute, day_of, minute_of}
-use Rattle.station_base.specs.Stamp.{stamp_of_words, spelled}
+use Rattle.station_base.specs.Stamp.{stamp_of_words, spelled_stamp}
 use Rattle.station_base.proofs.Days.{epoch_day_to}
 use Rattle.station_base.proofs.Order.{date_of, epoch}
 
@@ -52,4 +52,4 @@ named false s c e is = cc
 -- a stamp that words name is civil
 pub stamp_civil : (date time : ℕ) (c : CivilMinute) → stamp_of_words date time ≡ Some c → IsCivilMinute c
 unfolding stamp_of_words
-stamp_civil date time c is = named (is_civil_minute (spelled date time)) (spelled date time) c refl is
+stamp_civil date time c is = named (is_civil_minute (spelled_stamp date time)) (spelled_stamp date time) c refl is

@@ -4,7 +4,7 @@ use Rattle.std.proofs.lemmas.Bool.Decides.{nat_tests}
 use Rattle.std.specs.List.{range_with_len}
 use Rattle.std.proofs.lemmas.List.FromFn.{get_or-map-range_with_len}
 use Rattle.std.proofs.lemmas.List.{get_or-map}
-use Rattle.station_base.specs.Fields.{FieldText, fields, field, field_text, name_of, unit_of}
+use Rattle.station_base.specs.Fields.{FieldText, fields, field, field_text, name_of, field_unit}
 
 -- a name and a unit, which stand in the code's table
 abbrev pub Texts : Type 0
@@ -21,7 +21,7 @@ text_at table i d agree small =
 pub name_at : (table : List Texts) (i : ℕ) (d : Texts) → map text_of table ≡ fields → i < length table → (get_or table i d).0.now ≡ name_of i
 name_at table i d agree small = ap (λ text. text.name) (text_at table i d agree small)
 
-pub unit_at : (table : List Texts) (i : ℕ) (d : Texts) → map text_of table ≡ fields → i < length table → (get_or table i d).1.now ≡ unit_of i
+pub unit_at : (table : List Texts) (i : ℕ) (d : Texts) → map text_of table ≡ fields → i < length table → (get_or table i d).1.now ≡ field_unit i
 unit_at table i d agree small = ap (λ text. text.unit) (text_at table i d agree small)
 
 -- where a text stands among the names

@@ -3,12 +3,12 @@ use Rattle.std.proofs.Common.{◌≡◌, ℕ, ◌+◌, ◌-◌, ◌*◌, ◌/◌
 use Rattle.jiff_core.proofs.CalendarLemmas.{days_in_month_bounds}
 use Rattle.std.proofs.lemmas.Slice.Eq.{bytes_eq-Decides}
 use Rattle.station_base.specs.CivilMinute.{CivilMinute, IsCivilMinute, is_civil_minute}
-use Rattle.station_base.specs.Stamp.{spelled, spelled_in, stamp_of_words, stamp_of_text, stamp_text}
+use Rattle.station_base.specs.Stamp.{spelled_stamp, spelled_in, stamp_of_words, stamp_of_text, stamp_text}
 use Rattle.station_base.proofs.Words.{test_holds}
 
 -- words made of a minute's parts spell it
 spelled_back : (year month day hour minute : ℕ) → 2000 ≤ year → month ≤ 12 → day ≤ 31 → minute ≤ 59
-    → spelled (day + 32 * month + 512 * (year - 2000)) (100 * hour + minute)
+    → spelled_stamp (day + 32 * month + 512 * (year - 2000)) (100 * hour + minute)
     ≡ record { year = year; month = month; day = day; hour = hour; minute = minute }
 spelled_back year month day hour minute from m d n =
     let y : 2000 + (day + 32 * month + 512 * (year - 2000)) / 512 ≡ year = omega arith in

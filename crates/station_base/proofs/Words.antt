@@ -4,12 +4,12 @@ use Rattle.std.proofs.lemmas.Bool.Decides.{nat_tests}
 use Rattle.jiff_core.proofs.CalendarLemmas.{days_in_month_bounds}
 use Rattle.jiff_core.specs.Calendar.{days_in_month}
 use Rattle.station_base.specs.CivilMinute.{CivilMinute, IsCivilMinute, is_civil_minute}
-use Rattle.station_base.specs.Stamp.{date_word_of, time_word_of, stamp_of_words, spelled}
+use Rattle.station_base.specs.Stamp.{date_word_of, time_word_of, stamp_of_words, spelled_stamp}
 
 made_of : ℕ → ℕ → ℕ → ℕ → ℕ → CivilMinute
 made_of year month day hour minute = record { year = year; month = month; day = day; hour = hour; minute = minute }
 
-spelled_back : (c : CivilMinute) → IsCivilMinute c → spelled (date_word_of c) (time_word_of c) ≡ c
+spelled_back : (c : CivilMinute) → IsCivilMinute c → spelled_stamp (date_word_of c) (time_word_of c) ≡ c
 unfolding made_of
 spelled_back c civil =
     let longest = days_in_month_bounds (pos c.year) c.month in
@@ -47,7 +47,7 @@ pub stamp_of_words-of : (c : CivilMinute) → IsCivilMinute c → stamp_of_words
 unfolding stamp_of_words
 stamp_of_words-of c civil =
     let back = spelled_back c civil in
-    chosen (spelled (date_word_of c) (time_word_of c)) c (is_civil_minute (spelled (date_word_of c) (time_word_of c))) back (ap is_civil_minute back ∙ test_holds c civil)
+    chosen (spelled_stamp (date_word_of c) (time_word_of c)) c (is_civil_minute (spelled_stamp (date_word_of c) (time_word_of c))) back (ap is_civil_minute back ∙ test_holds c civil)
 
 word_back : (date : ℕ) → date % 32 + 32 * (date / 32 % 16) + 512 * (2000 + date / 512 - 2000) ≡ date
 word_back date = omega arith
@@ -55,13 +55,13 @@ word_back date = omega arith
 time_back : (time : ℕ) → 100 * (time / 100) + time % 100 ≡ time
 time_back time = omega arith
 
-words_by : (date time : ℕ) (c : CivilMinute) (test : Bool) → cond test (Some (spelled date time)) None ≡ Some c → (date_word_of c ≡ date) × (time_word_of c ≡ time)
+words_by : (date time : ℕ) (c : CivilMinute) (test : Bool) → cond test (Some (spelled_stamp date time)) None ≡ Some c → (date_word_of c ≡ date) × (time_word_of c ≡ time)
 words_by date time c true is =
-    let same : spelled date time ≡ c = cc in
+    let same : spelled_stamp date time ≡ c = cc in
     (ap date_word_of (sym same) ∙ word_back date, ap time_word_of (sym same) ∙ time_back time)
 words_by date time c false is = cc
 
 -- and a minute that words name has these words
 pub words_of-stamp : (date time : ℕ) (c : CivilMinute) → stamp_of_words date time ≡ Some c → (date_word_of c ≡ date) × (time_word_of c ≡ time)
 unfolding stamp_of_words
-words_of-stamp date time c is = words_by date time c (is_civil_minute (spelled date time)) is
+words_of-stamp date time c is = words_by date time c (is_civil_minute (spelled_stamp date time)) is

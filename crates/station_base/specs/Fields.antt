@@ -63,8 +63,8 @@ abbrev pub name_of : ℕ → List ℕ
 name_of index = (field_text index).name
 
 -- the unit of the field of that number
-abbrev pub unit_of : ℕ → List ℕ
-unit_of index = (field_text index).unit
+abbrev pub field_unit : ℕ → List ℕ
+field_unit index = (field_text index).unit
 
 -- the number of the field of exactly this name
 unfoldable pub field_named : List ℕ → Option ℕ

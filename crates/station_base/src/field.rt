@@ -1,6 +1,6 @@
 ghost use Rattle.std.specs.Prelude.{◌≡◌, ◌<◌, ℕ, IfSome};
 ghost use Rattle.std.specs.Option.{SomeIff};
-ghost use Rattle.station_base.specs.Fields.{field_named, name_of, unit_of};
+ghost use Rattle.station_base.specs.Fields.{field_named, name_of, field_unit};
 
 use std::marker::Model;
 
@@ -119,7 +119,7 @@ impl FieldId {
 
     /// In what the field is counted.
     pub fn unit(&self) -> &'static str
-        ensures { result.now ≡ unit_of self.now }
+        ensures { result.now ≡ field_unit self.now }
     {
         TEXTS[self.index].1
     }

@@ -6,7 +6,8 @@ ghost use Rattle.station_base.specs.Stamp.{date_word_of, time_word_of, words_exc
 #[tactic(auto, using(crate::proofs::WordOrder::words_exceed_when_later))]
 pub fn words_order_as_time()
     ensures { (a b : CivilMinute) → IsCivilMinute a → IsCivilMinute b
-        → words_exceed (date_word_of a) (time_word_of a) (date_word_of b) (time_word_of b) ≡ nat_lt (minute_of a) (minute_of b) }
+        → words_exceed (date_word_of a) (time_word_of a) (date_word_of b) (time_word_of b)
+        ≡ nat_lt (minute_of a) (minute_of b) }
 {}
 
 /// Each stamp is read from its text.

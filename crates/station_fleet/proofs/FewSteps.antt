@@ -8,12 +8,12 @@ use Rattle.schedule_file.specs.declared.schedule.form.Form.TheVariants.{Due, Run
 use Rattle.schedule_file.specs.declared.schedule.turn.Turn.{Turn}
 use Rattle.schedule_file.specs.declared.schedule.turn.Turn.TheVariants.{Neither, Opening, InRound}
 use Rattle.schedule_file.specs.declared.schedule.step.Step as code_step
-use Rattle.schedule_file.specs.Answer.{ReadsAs}
+use Rattle.schedule_file.specs.Answer.{ScheduleReadsAs}
 use Rattle.schedule_file.specs.Forms.{form_of}
-use Rattle.schedule_file.specs.Kinds.{kinds, least}
+use Rattle.schedule_file.specs.Kinds.{kinds, first_applying}
 use Rattle.schedule_file.specs.Pieces.{lines_of, words_of, is_silent, is_all_plain}
-use Rattle.schedule_file.specs.Reading.{LineFault, accept_read, after, next, read_line, read_lines, said_or, steps_of}
-use Rattle.schedule_file.specs.Steps.{Details, Said, Step, nothing_said, steps_said, steps_seen, turn_steps}
+use Rattle.schedule_file.specs.Reading.{LineFault, accept_read, said_with_form, next_line, read_schedule_line, read_lines, said_or, said_by_text}
+use Rattle.schedule_file.specs.Steps.{Details, Said, ScheduleStep, nothing_said, steps_said, steps_seen, turn_steps}
 use Rattle.schedule_file.specs.declared.schedule.step.Stop.{Stop as StopSaid}
 
 same_ok : {A E : Type 0} (a b : A) → ◌≡◌ {A = Result A E} (Ok a) (Ok b) → a ≡ b
@@ -23,11 +23,11 @@ same_ok a b e = cc
 abbrev Grew : Said → Said → Type 0
 Grew s t = length (steps_said t) ≤ length (steps_said s) + 1
 
-behind_more : (front since : List Step) (x : Step) → length (front ++ (since ++ x ∷ [])) ≤ length (front ++ since) + 1
+behind_more : (front since : List ScheduleStep) (x : ScheduleStep) → length (front ++ (since ++ x ∷ [])) ≤ length (front ++ since) + 1
 behind_more front since x =
     omega (arith, length-append front (since ++ x ∷ []), length-append since (x ∷ []), length-append front since)
 
-turn_more : (front : List Step) (x : Step) → length ((front ++ x ∷ []) ++ []) ≤ length front + 1
+turn_more : (front : List ScheduleStep) (x : ScheduleStep) → length ((front ++ x ∷ []) ++ []) ≤ length front + 1
 turn_more front x = omega (arith, length-append (front ++ x ∷ []) [], length-append front (x ∷ []))
 
 same_turn : (turn : Turn) (d e : Details) (p q : Option StopSaid) → length (turn_steps turn d p) ≡ length (turn_steps turn e q)
@@ -35,7 +35,7 @@ same_turn Neither d e p q = refl
 same_turn Opening d e p q = refl
 same_turn InRound d e p q = refl
 
-same_long : (before one other since : List Step) → length one ≡ length other
+same_long : (before one other since : List ScheduleStep) → length one ≡ length other
     → length ((before ++ one) ++ since) ≤ length ((before ++ other) ++ since) + 1
 same_long before one other since same = omega (
   arith,
@@ -51,7 +51,7 @@ details_grew : (s : Said) (details : Details) (stop : Option StopSaid)
 details_grew s details stop = same_long s.before (turn_steps s.turn details stop) (turn_steps s.turn s.details s.stop) s.since
     (same_turn s.turn details s.details stop s.stop)
 
-grew_after : (period : ℕ) (s : Said) (form : Form) → Grew s (after period s form)
+grew_after : (period : ℕ) (s : Said) (form : Form) → Grew s (said_with_form period s form)
 grew_after period s (Due told) = behind_more (s.before ++ turn_steps s.turn s.details s.stop) s.since _
 grew_after period s (Run first count) = behind_more (s.before ++ turn_steps s.turn s.details s.stop) s.since _
 grew_after period s (Idle ticks) = behind_more (s.before ++ turn_steps s.turn s.details s.stop) s.since _
@@ -67,13 +67,13 @@ below_last : (n : ℕ) → n ≤ 10001 → (n == 10001) ≡ false → n + 1 ≤ 
 below_last n within apart = grind (arith, nat_tests)
 
 module _ (period : ℕ) where
-  accepted : (kind : Option ℕ) (s t : Said) (form : Form) → said_or kind (after period s form) ≡ Ok t → Grew s t
-  accepted None s t form e = subst (λ (u : Said). Grew s u) (same_ok (after period s form) t e) (grew_after period s form)
+  accepted : (kind : Option ℕ) (s t : Said) (form : Form) → said_or kind (said_with_form period s form) ≡ Ok t → Grew s t
+  accepted None s t form e = subst (λ (u : Said). Grew s u) (same_ok (said_with_form period s form) t e) (grew_after period s form)
   accepted (Some kind) s t form e = absurd (let wrong : ⊥ = cc in wrong)
 
   of_form : (r : Result Form ℕ) (s t : Said) → accept_read period s r ≡ Ok t → Grew s t
   of_form (Err kind) s t e = absurd (let wrong : ⊥ = cc in wrong)
-  of_form (Ok form) s t e = accepted (least (kinds period s form)) s t form e
+  of_form (Ok form) s t e = accepted (first_applying (kinds period s form)) s t form e
 
   of_line : (late silent faulty : Bool) (words : List (List ℕ)) (s t : Said)
       → (if late then Err 1 else if silent then Ok s else if faulty then Err 2 else accept_read period s (form_of words)) ≡ Ok t
@@ -83,9 +83,9 @@ module _ (period : ℕ) where
   of_line false false true words s t e = absurd (let wrong : ⊥ = cc in wrong)
   of_line false false false words s t e = (refl, of_form (form_of words) s t e)
 
-  line_grew : (number : ℕ) (line : List ℕ) (s t : Said) → read_line period number line s ≡ Ok t
+  line_grew : (number : ℕ) (line : List ℕ) (s t : Said) → read_schedule_line period number line s ≡ Ok t
       → ((number == 10001) ≡ false) × Grew s t
-  unfolding read_line
+  unfolding read_schedule_line
   line_grew number line s t e =
       of_line (number == 10001) (is_silent line) (not (is_all_plain line)) (words_of line) s t e
 
@@ -95,7 +95,7 @@ module _ (period : ℕ) where
 
   rest_few : (number : ℕ) (r : Result Said ℕ) (rest : Said → Result Said LineFault) (s t : Said) → number ≤ 10001
       → ((u : Said) → r ≡ Ok u → ((number == 10001) ≡ false) × Grew s u)
-      → ((u : Said) → number + 1 ≤ 10001 → rest u ≡ Ok t → Few (number + 1) u t) → next number r rest ≡ Ok t
+      → ((u : Said) → number + 1 ≤ 10001 → rest u ≡ Ok t → Few (number + 1) u t) → next_line number r rest ≡ Ok t
       → Few number s t
   rest_few number (Err kind) rest s t within here later e = absurd (let wrong : ⊥ = cc in wrong)
   rest_few number (Ok u) rest s t within here later e =
@@ -109,11 +109,11 @@ module _ (period : ℕ) where
   lines_few number [] s t within e =
       subst (λ (u : Said). Few number s u) (same_ok s t e) (omega (arith, within))
   lines_few number (line ∷ lines) s t within e =
-      rest_few number (read_line period number line s) (λ (said : Said). read_lines period (number + 1) lines said) s t within
+      rest_few number (read_schedule_line period number line s) (λ (said : Said). read_lines period (number + 1) lines said) s t within
       (λ u read. line_grew number line s u read) (λ u below read. lines_few (number + 1) lines u t below read) e
 
-  said_few : (bytes : List ℕ) (t : Said) → steps_of bytes period ≡ Ok t → length (steps_said t) ≤ 10000
-  unfolding steps_of
+  said_few : (bytes : List ℕ) (t : Said) → said_by_text bytes period ≡ Ok t → length (steps_said t) ≤ 10000
+  unfolding said_by_text
   said_few bytes t e =
       let few : length (steps_said t) + 1 ≤ 10001 = lines_few 1 (lines_of bytes) nothing_said t (omega arith) e in
       omega (arith, few)
@@ -123,9 +123,9 @@ module _ (period : ℕ) where
   seen_long (x ∷ xs) = let rest = seen_long xs in omega (arith, rest)
 
 -- a schedule that was read has at most 10,000 steps
-pub few_steps : (bytes : List ℕ) (period : ℕ) (schedule : Schedule) → ReadsAs (steps_of bytes period) (Ok schedule)
+pub few_steps : (bytes : List ℕ) (period : ℕ) (schedule : Schedule) → ScheduleReadsAs (said_by_text bytes period) (Ok schedule)
     → length schedule.steps.items ≤ 10000
 few_steps bytes period schedule reads =
     let few = said_few period bytes reads.0 reads.1 in
-    let long = sym (ap (λ (xs : List Step). length xs) reads.2.steps) ∙ seen_long schedule.period schedule.steps.items in
+    let long = sym (ap (λ (xs : List ScheduleStep). length xs) reads.2.steps) ∙ seen_long schedule.period schedule.steps.items in
     omega (arith, few, long)

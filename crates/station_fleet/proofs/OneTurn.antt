@@ -8,7 +8,7 @@ use Rattle.disk_model.specs.declared.mem_disk.MemDisk.{MemDisk}
 use Rattle.disk_model.specs.declared.stopping.Stopping.{Stopping}
 use Rattle.fleet.specs.declared.member.MemberTurn.{MemberTurn}
 use Rattle.fleet.specs.declared.member.MemberTurn.TheVariants as member
-use Rattle.fleet.specs.MemberTurns.{TakesTurn, WritesLines}
+use Rattle.fleet.specs.MemberTurns.{MemberTakesTurn, WritesLines}
 use Rattle.schedule_file.specs.declared.schedule.step.Step as code_step
 use Rattle.station_sim.specs.declared.sim.Sim.{Sim}
 use Rattle.station_replay.specs.Replay.{Item, start}
@@ -16,13 +16,13 @@ use Rattle.station_replay.specs.Texts.{text}
 use Rattle.schedule_replay.specs.declared.turns.ReplayRun.{ReplayRun}
 use Rattle.schedule_replay.specs.declared.turns.ReplayTurn.{ReplayTurn}
 use Rattle.schedule_replay.specs.declared.turns.ReplayTurn.TheVariants as replay
-use Rattle.schedule_replay.specs.Replaying.{Course, Replaying, MayTurn, left_of, TakesTurn as TakesRunTurn}
+use Rattle.schedule_replay.specs.Replaying.{Course, Replaying, MayTurn, run_turns_left, RunTakesTurn}
 use Rattle.schedule_steps.specs.Steps.{steps_for}
 use Rattle.schedule_replay.specs.TextTelling.{text_telling}
 use Rattle.schedule_replay.specs.Turns.{BreaksRun, CutsRun, EndsRun}
 use Rattle.station_fleet.specs.declared.station.Station.{Station}
-use Rattle.station_fleet.specs.Outcomes.{Cuts, Stands, StationTurned}
-use Rattle.station_fleet.specs.StationTurns.{answer_of, station_turning}
+use Rattle.station_fleet.specs.Outcomes.{Cuts, StationStands, StationTurned}
+use Rattle.station_fleet.specs.StationTurns.{member_answer, station_turning}
 use Rattle.station_fleet.proofs.WholeTexts.{text_whole}
 
 -- what the turn of a run over these steps tells
@@ -31,7 +31,7 @@ pub record RunTook {K : Type 0} (outlet : Outlet K) (steps : List code_step.Step
     (disk_then : Stopping MemDisk) (out_then : K) : Type 0 where
   pub more : answer ≡ replay.More → (eeprom : List ℕ) (packet : LoopPacket) (items : List Item) (before : Sim)
       (made : Stopping MemDisk) → Replaying eeprom packet steps items before line made disk old
-      → TakesRunTurn (text_telling outlet) eeprom packet steps items before line_then made disk_then new out out_then
+      → RunTakesTurn (text_telling outlet) eeprom packet steps items before line_then made disk_then new out out_then
   pub ended : answer ≡ replay.Ended → (eeprom : List ℕ) (packet : LoopPacket) (items : List Item) (before : Sim)
       (made : Stopping MemDisk) → Replaying eeprom packet steps items before line made disk old
       → EndsRun (text_telling outlet) old.settings (start eeprom packet) (steps_for old.settings.period steps) items before
@@ -43,7 +43,7 @@ pub record RunTook {K : Type 0} (outlet : Outlet K) (steps : List code_step.Step
       (items : List Item) (before : Sim) (made : Stopping MemDisk) → Replaying eeprom packet steps items before line made disk old
       → CutsRun (text_telling outlet) old.settings (start eeprom packet) (steps_for old.settings.period steps) items out out_then
   pub settings : new.settings ≡ old.settings
-  pub left : answer ≡ replay.More → left_of steps new < left_of steps old
+  pub left : answer ≡ replay.More → run_turns_left steps new < run_turns_left steps old
   pub write_fault : Cause (outlet.faults out) (outlet.faults out_then) (answer ≡ replay.WriteFault)
   pub still : answer ≢ replay.WriteFault → outlet.faults out_then ≡ outlet.faults out
 
@@ -131,7 +131,7 @@ module _ {K : Type 0} (outlet : Outlet K) (s : Station) (steps : List code_step.
 
   cut_off : (a : MemberTurn) → (a ≡ member.WriteFault) ⊎ (a ≡ member.OutOfMemory)
       → (answer ≡ replay.WriteFault) ⊎ (answer ≡ replay.OutOfMemory)
-      → (settings : StationSettings) (c : Course) (items : List Item) → Stands settings c items s
+      → (settings : StationSettings) (c : Course) (items : List Item) → StationStands settings c items s
       → Cuts settings c items (WritesLines outlet out a out_then)
   cut_off a which is = λ settings c items stands.
       let telling = text_telling outlet in
@@ -150,8 +150,8 @@ module _ {K : Type 0} (outlet : Outlet K) (s : Station) (steps : List code_step.
         kept = ends.kept;
       }
 
-  turned_by : (a : ReplayTurn) → answer ≡ a → StationTurned s (answer_of a ∷ [])
-      (WritesLines outlet out (answer_of a) out_then) (with_parts s run line disk)
+  turned_by : (a : ReplayTurn) → answer ≡ a → StationTurned s (member_answer a ∷ [])
+      (WritesLines outlet out (member_answer a) out_then) (with_parts s run line disk)
   turned_by replay.More is = went_on is
   turned_by replay.Ended is = ended is
   turned_by replay.Unseen is = unseen is
@@ -160,7 +160,7 @@ module _ {K : Type 0} (outlet : Outlet K) (s : Station) (steps : List code_step.
 
   -- some text was written
   wrote_by : (a : ReplayTurn) → answer ≡ a → MayTurn s.schedule.steps.items s.line s.disk s.run
-      → (bytes : List ℕ) × WritesLines outlet out (answer_of a) out_then bytes
+      → (bytes : List ℕ) × WritesLines outlet out (member_answer a) out_then bytes
   wrote_by replay.More is m =
       let turn = took.more is m.0 m.1 m.2 m.3 m.4 (stands_at m.0 m.1 m.2 m.3 m.4 m.5) in
       (text turn.0, record { lines = text_whole turn.0; wrote = turn.1.wrote })
@@ -178,7 +178,7 @@ module _ {K : Type 0} (outlet : Outlet K) (s : Station) (steps : List code_step.
       (turn.told.written, record { lines = tt; wrote = turn.told.wrote })
 
   -- the next turn may be taken where more is to come
-  may_by : (a : ReplayTurn) → answer ≡ a → MayTurn s.schedule.steps.items s.line s.disk s.run → answer_of a ≡ member.More
+  may_by : (a : ReplayTurn) → answer ≡ a → MayTurn s.schedule.steps.items s.line s.disk s.run → member_answer a ≡ member.More
       → MayTurn s.schedule.steps.items line disk run
   may_by replay.More is m more =
       let turn = took.more is m.0 m.1 m.2 m.3 m.4 (stands_at m.0 m.1 m.2 m.3 m.4 m.5) in
@@ -188,14 +188,14 @@ module _ {K : Type 0} (outlet : Outlet K) (s : Station) (steps : List code_step.
   may_by replay.WriteFault is m more = absurd (let no : member.WriteFault ≡ member.More = more in cc)
   may_by replay.OutOfMemory is m more = absurd (let no : member.OutOfMemory ≡ member.More = more in cc)
 
-  more_by : (a : ReplayTurn) → answer_of a ≡ member.More → a ≡ replay.More
+  more_by : (a : ReplayTurn) → member_answer a ≡ member.More → a ≡ replay.More
   more_by replay.More is = refl
   more_by replay.Ended is = absurd (let no : member.Ended ≡ member.More = is in cc)
   more_by replay.Unseen is = absurd (let no : member.Unseen ≡ member.More = is in cc)
   more_by replay.WriteFault is = absurd (let no : member.WriteFault ≡ member.More = is in cc)
   more_by replay.OutOfMemory is = absurd (let no : member.OutOfMemory ≡ member.More = is in cc)
 
-  fault_by : (a : ReplayTurn) → answer_of a ≡ member.WriteFault → a ≡ replay.WriteFault
+  fault_by : (a : ReplayTurn) → member_answer a ≡ member.WriteFault → a ≡ replay.WriteFault
   fault_by replay.More is = absurd (let no : member.More ≡ member.WriteFault = is in cc)
   fault_by replay.Ended is = absurd (let no : member.Ended ≡ member.WriteFault = is in cc)
   fault_by replay.Unseen is = absurd (let no : member.Unseen ≡ member.WriteFault = is in cc)
@@ -203,7 +203,7 @@ module _ {K : Type 0} (outlet : Outlet K) (s : Station) (steps : List code_step.
   fault_by replay.OutOfMemory is = absurd (let no : member.OutOfMemory ≡ member.WriteFault = is in cc)
 
   pub takes : MayTurn s.schedule.steps.items s.line s.disk s.run
-      → TakesTurn station_turning outlet s out (answer_of answer) (with_parts s run line disk) out_then
+      → MemberTakesTurn station_turning outlet s out (member_answer answer) (with_parts s run line disk) out_then
   takes may =
       let wrote = wrote_by answer refl may in
       record {
@@ -211,11 +211,11 @@ module _ {K : Type 0} (outlet : Outlet K) (s : Station) (steps : List code_step.
         writes = wrote.1;
         turned = turned_by answer refl;
         goes_on = may_by answer refl may;
-        falls = λ more. subst (λ (xs : List code_step.Step). left_of xs run < left_of xs s.run) same
+        falls = λ more. subst (λ (xs : List code_step.Step). run_turns_left xs run < run_turns_left xs s.run) same
             (took.left (more_by answer more));
         cause = record {
           never_falls = took.write_fault.never_falls;
           rose = λ fault. took.write_fault.rose (fault_by answer fault);
         };
-        still = λ no. took.still (λ is. no (ap answer_of is));
+        still = λ no. took.still (λ is. no (ap member_answer is));
       }

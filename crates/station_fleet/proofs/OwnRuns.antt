@@ -9,8 +9,8 @@ use Rattle.fleet.specs.declared.member.MemberTurn.{MemberTurn}
 use Rattle.fleet.specs.declared.member.MemberTurn.TheVariants.{More, Ended, Unseen, WriteFault, OutOfMemory}
 use Rattle.fleet.specs.Crew.{Crew, OneTurn}
 use Rattle.fleet.specs.Log.{Along, BothIf, WrittenBy, answers_of}
-use Rattle.fleet.specs.StationLines.{AreUncut, lines_of}
-use Rattle.fleet.specs.TurnText.{Entry, WritesTurn}
+use Rattle.fleet.specs.StationLines.{AreUncut, station_lines}
+use Rattle.fleet.specs.TurnText.{TurnEntry, WritesTurn}
 use Rattle.fleet.proofs.Alone.{alone}
 use Rattle.fleet.proofs.LogText.{wrote_along}
 use Rattle.fleet.proofs.StationText.{together}
@@ -18,14 +18,14 @@ use Rattle.station_replay.specs.Texts.{text}
 use Rattle.schedule_replay.specs.Replaying.{Course}
 use Rattle.station_fleet.specs.declared.station.Station.{Station}
 use Rattle.station_fleet.specs.Fleets.{Begin, EachRan}
-use Rattle.station_fleet.specs.Outcomes.{Comes, Stands, StationTurned, end_of}
+use Rattle.station_fleet.specs.Outcomes.{TurnsComeTo, StationStands, StationTurned, end_of_turns}
 use Rattle.station_fleet.specs.StationTurns.{station_turning}
 use Rattle.station_fleet.specs.TurnLaws.{comes_wider}
 
 -- one text that was written, of those that may have been
 pick : (end : Option MemberTurn) (settings : StationSettings) (c : Course) (P : List ℕ → Type 0) (s : Station)
-    → (bytes : List ℕ) × P bytes → Comes end settings c [] P s
-    → (bytes : List ℕ) × P bytes × Comes end settings c [] (λ written. written ≡ bytes) s
+    → (bytes : List ℕ) × P bytes → TurnsComeTo end settings c [] P s
+    → (bytes : List ℕ) × P bytes × TurnsComeTo end settings c [] (λ written. written ≡ bytes) s
 pick None settings c P s some came = (some.0, some.1, tt)
 pick (Some More) settings c P s some came =
     (text came.given, came.writes, record { given = came.given; writes = refl; stands = came.stands })
@@ -76,11 +76,11 @@ pick (Some OutOfMemory) settings c P s some came = (
 
 -- what turns since the beginning come to
 came_of : (answers : List MemberTurn) (settings : StationSettings) (c : Course) (P : List ℕ → Type 0) (s t : Station)
-    → StationTurned s answers P t → Stands settings c [] s → Comes (end_of answers) settings c [] P t
+    → StationTurned s answers P t → StationStands settings c [] s → TurnsComeTo (end_of_turns answers) settings c [] P t
 came_of [] settings c P s t turned stands = record {
   given = [];
   writes = turned.1;
-  stands = subst (λ (x : Station). Stands settings c [] x) (sym turned.0) stands;
+  stands = subst (λ (x : Station). StationStands settings c [] x) (sym turned.0) stands;
 }
 came_of (answer ∷ later) settings c P s t turned stands = turned settings c [] stands
 
@@ -89,14 +89,14 @@ same_some a b e = cc
 
 module _ {K : Type 0} (outlet : Outlet K) where
   -- a station wrote something in its turns
-  written_more : (e : Entry K) (log : List (Entry K)) (station : ℕ) (bytes : List ℕ) → WritesTurn outlet e bytes
+  written_more : (e : TurnEntry K) (log : List (TurnEntry K)) (station : ℕ) (bytes : List ℕ) → WritesTurn outlet e bytes
       → (rest : List ℕ) × WrittenBy outlet station log rest → (test : Bool)
       → (written : List ℕ) × BothIf test (WritesTurn outlet e) (WrittenBy outlet station log) written
   written_more e log station bytes writes rest true =
       (bytes ++ rest.0, (bytes, rest.0, refl, writes, rest.1))
   written_more e log station bytes writes rest false = rest
 
-  written_some : (old new : Crew Station) (before after : K) (log : List (Entry K)) (station : ℕ)
+  written_some : (old new : Crew Station) (before after : K) (log : List (TurnEntry K)) (station : ℕ)
       → Along station_turning outlet old before log new after → (bytes : List ℕ) × WrittenBy outlet station log bytes
   written_some old new before after [] station along = ([], refl)
   written_some old new before after (e ∷ log) station along =
@@ -104,7 +104,7 @@ module _ {K : Type 0} (outlet : Outlet K) where
       (written_some along.0 new e.after after log station along.3) (e.station == station)
 
   -- a station of a fleet was one before each turn
-  was_before : (old mid : Crew Station) (e : Entry K) (k : ℕ) (t : Station) → OneTurn station_turning outlet old e mid
+  was_before : (old mid : Crew Station) (e : TurnEntry K) (k : ℕ) (t : Station) → OneTurn station_turning outlet old e mid
       → slice_get mid.members k ≡ Some t → (test : Bool) → (k == e.station - 1) ≡ test
       → (s : Station) × slice_get old.members k ≡ Some s
   was_before old mid e k t one is true at =
@@ -114,7 +114,7 @@ module _ {K : Type 0} (outlet : Outlet K) where
       let apart : k ≢ e.station - 1 = grind (arith, nat_tests) in
       (t, sym (one.others k apart) ∙ is)
 
-  pub was_member : (old new : Crew Station) (before after : K) (log : List (Entry K)) (k : ℕ) (t : Station)
+  pub was_member : (old new : Crew Station) (before after : K) (log : List (TurnEntry K)) (k : ℕ) (t : Station)
       → Along station_turning outlet old before log new after → slice_get new.members k ≡ Some t
       → (s : Station) × slice_get old.members k ≡ Some s
   was_member old new before after [] k t along is =
@@ -124,13 +124,13 @@ module _ {K : Type 0} (outlet : Outlet K) where
       was_before old along.0 e k behind.0 along.2 behind.1 _ refl
 
   module _ (settings : ℕ → StationSettings) (course : ℕ → Course) (old new : Crew Station) (before after : K)
-      (log : List (Entry K)) (along : Along station_turning outlet old before log new after)
+      (log : List (TurnEntry K)) (along : Along station_turning outlet old before log new after)
       (begin : Begin settings course old) where
     -- what a station wrote, and what it came to with that text
     abbrev pub Chosen : ℕ → Type 0
     Chosen station = (bytes : List ℕ) × WrittenBy outlet station log bytes × ((s : Station) → 1 ≤ station
         → slice_get new.members (station - 1) ≡ Some s
-        → Comes (end_of (answers_of station log)) (settings station) (course station) [] (λ written. written ≡ bytes) s)
+        → TurnsComeTo (end_of_turns (answers_of station log)) (settings station) (course station) [] (λ written. written ≡ bytes) s)
 
     chosen_by : (station : ℕ) (found : Option Station) → slice_get new.members (station - 1) ≡ found → (test : Bool)
         → nat_le 1 station ≡ test → Chosen station
@@ -147,13 +147,13 @@ module _ {K : Type 0} (outlet : Outlet K) where
         alone station_turning outlet old new before after log station from along was.0 t was.1 is in
         let came = came_of (answers_of station log) (settings station) (course station) (WrittenBy outlet station log)
         was.0 t turned (begin station was.0 from was.1) in
-        let one = pick (end_of (answers_of station log)) (settings station) (course station)
+        let one = pick (end_of_turns (answers_of station log)) (settings station) (course station)
         (WrittenBy outlet station log) t (written_some old new before after log station along) came in (
           one.0,
           one.1,
           λ s from here.
               let same : t ≡ s = same_some t s (sym is ∙ here) in
-              subst (λ (x : Station). Comes (end_of (answers_of station log)) (settings station) (course station) []
+              subst (λ (x : Station). TurnsComeTo (end_of_turns (answers_of station log)) (settings station) (course station) []
               (λ written. written ≡ one.0) x) same one.2,
         )
 
@@ -166,7 +166,7 @@ module _ {K : Type 0} (outlet : Outlet K) where
         let all = together outlet log (λ station. (chosen station).0) uncut (λ station. (chosen station).1) in (
           all.0,
           wrote_along station_turning outlet old new before after log all.0 along all.1,
-          λ station s from is. comes_wider (end_of (answers_of station log)) (settings station) (course station) []
-              (λ written. written ≡ (chosen station).0) (λ written. written ≡ lines_of station all.0) s
+          λ station s from is. comes_wider (end_of_turns (answers_of station log)) (settings station) (course station) []
+              (λ written. written ≡ (chosen station).0) (λ written. written ≡ station_lines station all.0) s
               (λ written e. e ∙ sym (all.2 station)) ((chosen station).2 s from is),
         )

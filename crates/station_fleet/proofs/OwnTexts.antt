@@ -9,29 +9,29 @@ use Rattle.fleet.specs.declared.member.MemberTurn.{MemberTurn}
 use Rattle.fleet.specs.declared.member.MemberTurn.TheVariants.{More, Ended, Unseen, WriteFault, OutOfMemory}
 use Rattle.fleet.specs.declared.run.FleetEnd.{FleetEnd}
 use Rattle.fleet.specs.declared.run.FleetEnd.TheVariants as fleet
-use Rattle.fleet.specs.Crew.{Crew, OneTurn, last_of}
-use Rattle.fleet.specs.FleetEnds.{EndsAs, RunsFleet}
+use Rattle.fleet.specs.Crew.{Crew, OneTurn, last_answer_of}
+use Rattle.fleet.specs.FleetEnds.{FleetEndsAs, RunsFleet}
 use Rattle.fleet.specs.Log.{Along, answers_of}
-use Rattle.fleet.specs.StationLines.{AreUncut, lines_of}
-use Rattle.fleet.specs.TurnText.{Entry}
+use Rattle.fleet.specs.StationLines.{AreUncut, station_lines}
+use Rattle.fleet.specs.TurnText.{TurnEntry}
 use Rattle.fleet.proofs.LogSteps.{no_more}
 use Rattle.one_run.proofs.OneRun.{one_text}
 use Rattle.schedule_replay.specs.Replaying.{Course}
 use Rattle.station_fleet.specs.declared.station.Station.{Station}
-use Rattle.station_fleet.specs.Fleets.{AllOver, Begin, EachOverReplays, EachReplays, IsOver, IsReplayText, NoneEnded}
-use Rattle.station_fleet.specs.Outcomes.{Comes, end_of, only, start_of, steps_of}
+use Rattle.station_fleet.specs.Fleets.{AllOver, Begin, EachOverReplays, EachReplays, RunIsOver, IsReplayText, NoneEnded}
+use Rattle.station_fleet.specs.Outcomes.{TurnsComeTo, end_of_turns, only, course_start, course_steps}
 use Rattle.station_fleet.specs.StationTurns.{station_turning}
 use Rattle.station_fleet.proofs.OwnRuns.{own_runs, was_member}
 
 -- what a station wrote that came to its end is the text of each run of its steps
-text_of_end : (answer : MemberTurn) (settings : StationSettings) (c : Course) (lines : List ℕ) (s : Station) → IsOver answer
-    → Comes (Some answer) settings c [] (λ bytes. bytes ≡ lines) s → IsReplayText settings c lines
+text_of_end : (answer : MemberTurn) (settings : StationSettings) (c : Course) (lines : List ℕ) (s : Station) → RunIsOver answer
+    → TurnsComeTo (Some answer) settings c [] (λ bytes. bytes ≡ lines) s → IsReplayText settings c lines
 text_of_end More settings c lines s over came = absurd over
 text_of_end Ended settings c lines s over came = λ o replay.
-    sym came.writes ∙ one_text settings (start_of c) (steps_of settings c) came.given o
+    sym came.writes ∙ one_text settings (course_start c) (course_steps settings c) came.given o
     (inl (came.took_part.ran, came.took_part.last, came.took_part.runs, came.took_part.whole)) replay
 text_of_end Unseen settings c lines s over came = λ o replay.
-    sym came.writes ∙ one_text settings (start_of c) (steps_of settings c) came.given o (inr came.is_unseen) replay
+    sym came.writes ∙ one_text settings (course_start c) (course_steps settings c) came.given o (inr came.is_unseen) replay
 text_of_end WriteFault settings c lines s over came = absurd over
 text_of_end OutOfMemory settings c lines s over came = absurd over
 
@@ -43,40 +43,40 @@ station_other n k from too e = grind (arith, nat_tests)
 
 module _ {K : Type 0} (outlet : Outlet K) where
   -- a turn of another station leaves the last answer of this one
-  last_other : (old mid : Crew Station) (e : Entry K) (station : ℕ) → OneTurn station_turning outlet old e mid → 1 ≤ station
-      → (e.station == station) ≡ false → last_of mid station ≡ last_of old station
+  last_other : (old mid : Crew Station) (e : TurnEntry K) (station : ℕ) → OneTurn station_turning outlet old e mid → 1 ≤ station
+      → (e.station == station) ≡ false → last_answer_of mid station ≡ last_answer_of old station
   last_other old mid e station one from other =
       one.answers (station - 1) (station_other e.station station one.is_open.from from other)
 
   -- its own turn leaves its answer
-  last_own : (old mid : Crew Station) (e : Entry K) (station : ℕ) → OneTurn station_turning outlet old e mid
-      → (e.station == station) ≡ true → last_of mid station ≡ e.answer
+  last_own : (old mid : Crew Station) (e : TurnEntry K) (station : ℕ) → OneTurn station_turning outlet old e mid
+      → (e.station == station) ≡ true → last_answer_of mid station ≡ e.answer
   last_own old mid e station one own =
-      ap (λ (n : ℕ). last_of mid n) (sym (station_is e.station station own)) ∙ one.answered
+      ap (λ (n : ℕ). last_answer_of mid n) (sym (station_is e.station station own)) ∙ one.answered
 
   -- and was taken since it had not ended
-  was_open : (old mid : Crew Station) (e : Entry K) (station : ℕ) → OneTurn station_turning outlet old e mid
-      → (e.station == station) ≡ true → last_of old station ≡ More
+  was_open : (old mid : Crew Station) (e : TurnEntry K) (station : ℕ) → OneTurn station_turning outlet old e mid
+      → (e.station == station) ≡ true → last_answer_of old station ≡ More
   was_open old mid e station one own =
-      ap (λ (n : ℕ). last_of old n) (sym (station_is e.station station own)) ∙ one.is_open.more
+      ap (λ (n : ℕ). last_answer_of old n) (sym (station_is e.station station own)) ∙ one.is_open.more
 
   -- a station that has ended takes no turn
-  none_more : (old new : Crew Station) (before after : K) (log : List (Entry K)) (station : ℕ) → 1 ≤ station
-      → Along station_turning outlet old before log new after → last_of old station ≢ More
-      → (answers_of station log ≡ []) × (last_of new station ≡ last_of old station)
-  none_more old new before after [] station from along ended = (refl, ap (λ (crew : Crew Station). last_of crew station) along.0)
+  none_more : (old new : Crew Station) (before after : K) (log : List (TurnEntry K)) (station : ℕ) → 1 ≤ station
+      → Along station_turning outlet old before log new after → last_answer_of old station ≢ More
+      → (answers_of station log ≡ []) × (last_answer_of new station ≡ last_answer_of old station)
+  none_more old new before after [] station from along ended = (refl, ap (λ (crew : Crew Station). last_answer_of crew station) along.0)
   none_more old new before after (e ∷ log) station from along ended =
       go (λ apart. none_more along.0 new e.after after log station from along.3 apart) (e.station == station) refl
     where
-      go : (last_of along.0 station ≢ More → (answers_of station log ≡ []) × (last_of new station ≡ last_of along.0 station)) → (own : Bool)
-          → (e.station == station) ≡ own → (answers_of station (e ∷ log) ≡ []) × (last_of new station ≡ last_of old station)
+      go : (last_answer_of along.0 station ≢ More → (answers_of station log ≡ []) × (last_answer_of new station ≡ last_answer_of along.0 station)) → (own : Bool)
+          → (e.station == station) ≡ own → (answers_of station (e ∷ log) ≡ []) × (last_answer_of new station ≡ last_answer_of old station)
       go again true own = absurd (ended (was_open old along.0 e station along.2 own))
       go again false other =
           let same = last_other old along.0 e station along.2 from other in
           let rest = again (λ more. ended (sym same ∙ more)) in
           (rw other rest.0, rest.1 ∙ same)
 
-  closed : (answer : MemberTurn) (later : List MemberTurn) → answer ≢ More → later ≡ [] → end_of (answer ∷ later) ≡ Some answer
+  closed : (answer : MemberTurn) (later : List MemberTurn) → answer ≢ More → later ≡ [] → end_of_turns (answer ∷ later) ≡ Some answer
   closed More later goes none = absurd (goes refl)
   closed Ended later goes none = ap (only Ended) none
   closed Unseen later goes none = ap (only Unseen) none
@@ -84,8 +84,8 @@ module _ {K : Type 0} (outlet : Outlet K) where
   closed OutOfMemory later goes none = ap (only OutOfMemory) none
 
   -- by the last answer, whether that was More
-  end_by : (answer last : MemberTurn) (later : List MemberTurn) → (answer ≡ More → end_of later ≡ Some last)
-      → (answer ≢ More → (later ≡ []) × (last ≡ answer)) → end_of (answer ∷ later) ≡ Some last
+  end_by : (answer last : MemberTurn) (later : List MemberTurn) → (answer ≡ More → end_of_turns later ≡ Some last)
+      → (answer ≢ More → (later ≡ []) × (last ≡ answer)) → end_of_turns (answer ∷ later) ≡ Some last
   end_by More last later goes ends = goes refl
   end_by Ended last later goes ends =
       let apart : Ended ≢ More = λ e. cc in
@@ -101,27 +101,27 @@ module _ {K : Type 0} (outlet : Outlet K) where
       closed OutOfMemory later apart (ends apart).0 ∙ ap (λ (x : MemberTurn). Some x) (sym (ends apart).1)
 
   -- the turns of a station that had not ended end with its last answer
-  end_is : (old new : Crew Station) (before after : K) (log : List (Entry K)) (station : ℕ) → 1 ≤ station
-      → Along station_turning outlet old before log new after → last_of old station ≡ More
-      → end_of (answers_of station log) ≡ Some (last_of new station)
+  end_is : (old new : Crew Station) (before after : K) (log : List (TurnEntry K)) (station : ℕ) → 1 ≤ station
+      → Along station_turning outlet old before log new after → last_answer_of old station ≡ More
+      → end_of_turns (answers_of station log) ≡ Some (last_answer_of new station)
   end_is old new before after [] station from along more =
-      ap (λ (x : MemberTurn). Some x) (sym (ap (λ (crew : Crew Station). last_of crew station) along.0 ∙ more))
+      ap (λ (x : MemberTurn). Some x) (sym (ap (λ (crew : Crew Station). last_answer_of crew station) along.0 ∙ more))
   end_is old new before after (e ∷ log) station from along more =
       go (λ still. end_is along.0 new e.after after log station from along.3 still) (e.station == station) refl
     where
-      go : (last_of along.0 station ≡ More → end_of (answers_of station log) ≡ Some (last_of new station)) → (own : Bool)
-          → (e.station == station) ≡ own → end_of (answers_of station (e ∷ log)) ≡ Some (last_of new station)
+      go : (last_answer_of along.0 station ≡ More → end_of_turns (answers_of station log) ≡ Some (last_answer_of new station)) → (own : Bool)
+          → (e.station == station) ≡ own → end_of_turns (answers_of station (e ∷ log)) ≡ Some (last_answer_of new station)
       go again true own =
           let now = last_own old along.0 e station along.2 own in
-          let ends : end_of (e.answer ∷ answers_of station log) ≡ Some (last_of new station) =
-          end_by e.answer (last_of new station) (answers_of station log) (λ goes. again (now ∙ goes))
+          let ends : end_of_turns (e.answer ∷ answers_of station log) ≡ Some (last_answer_of new station) =
+          end_by e.answer (last_answer_of new station) (answers_of station log) (λ goes. again (now ∙ goes))
           (λ apart. let none = none_more along.0 new e.after after log station from along.3 (λ still. apart (sym now ∙ still)) in
           (none.0, none.1 ∙ now)) in
           rw own ends
       go again false other = rw other (again (last_other old along.0 e station along.2 from other ∙ more))
 
   module _ (settings : ℕ → StationSettings) (course : ℕ → Course) where
-    pub over_replays : (old new : Crew Station) (before after : K) (log : List (Entry K))
+    pub over_replays : (old new : Crew Station) (before after : K) (log : List (TurnEntry K))
         → Along station_turning outlet old before log new after → Begin settings course old → AreUncut log → NoneEnded old
         → (bytes : List ℕ) × outlet.wrote before bytes after × EachOverReplays settings course new bytes
     over_replays old new before after log along begin uncut ready =
@@ -131,23 +131,23 @@ module _ {K : Type 0} (outlet : Outlet K) where
           λ station s from is over.
               let was = was_member outlet old new before after log (station - 1) s along is in
               let goes = ready station was.0 from was.1 in
-              text_of_end (last_of new station) (settings station) (course station) (lines_of station all.0) s over
-              (subst (λ (end : Option MemberTurn). Comes end (settings station) (course station) [] (λ bytes. bytes ≡ lines_of station all.0) s)
+              text_of_end (last_answer_of new station) (settings station) (course station) (station_lines station all.0) s over
+              (subst (λ (end : Option MemberTurn). TurnsComeTo end (settings station) (course station) [] (λ bytes. bytes ≡ station_lines station all.0) s)
               (end_is old new before after log station from along goes.more) (all.2 station s from is)),
         )
 
     -- all stations are over where none is open and none was cut off
-    over_by : (answer : MemberTurn) → answer ≢ More → answer ≢ WriteFault → answer ≢ OutOfMemory → IsOver answer
+    over_by : (answer : MemberTurn) → answer ≢ More → answer ≢ WriteFault → answer ≢ OutOfMemory → RunIsOver answer
     over_by More goes fits found = absurd (goes refl)
     over_by Ended goes fits found = tt
     over_by Unseen goes fits found = tt
     over_by WriteFault goes fits found = absurd (fits refl)
     over_by OutOfMemory goes fits found = absurd (found refl)
 
-    all_over : (end : FleetEnd) (log : List (Entry K)) (last : List MemberTurn) → AllOver end → EndsAs end log last
-        → AreUncut log × ((k : ℕ) → IsOver (slice_index_or last k Ended))
+    all_over : (end : FleetEnd) (log : List (TurnEntry K)) (last : List MemberTurn) → AllOver end → FleetEndsAs end log last
+        → AreUncut log × ((k : ℕ) → RunIsOver (slice_index_or last k Ended))
     all_over (fleet.Done turns switches) log last over ends =
-        (ends.3, λ k. subst IsOver (sym (ends.2 k)) tt)
+        (ends.3, λ k. subst RunIsOver (sym (ends.2 k)) tt)
     all_over (fleet.Unseen station) log last over ends = (
       ends.3,
       λ k. over_by (slice_index_or last k Ended) (λ more. absurd (no_more 1 last k ends.0 more)) (ends.2 k).0 (ends.2 k).1,

@@ -5,56 +5,56 @@ use Rattle.fleet.specs.declared.member.MemberTurn.{MemberTurn}
 use Rattle.fleet.specs.declared.member.MemberTurn.TheVariants.{More, Ended, Unseen, WriteFault, OutOfMemory}
 use Rattle.fleet.specs.declared.run.FleetEnd.{FleetEnd}
 use Rattle.fleet.specs.declared.run.FleetEnd.TheVariants as fleet
-use Rattle.fleet.specs.Crew.{Crew, IsOpen, last_of}
+use Rattle.fleet.specs.Crew.{Crew, StationIsOpen, last_answer_of}
 use Rattle.fleet.specs.Log.{answers_of}
-use Rattle.fleet.specs.StationLines.{lines_of}
-use Rattle.fleet.specs.TurnText.{Entry}
+use Rattle.fleet.specs.StationLines.{station_lines}
+use Rattle.fleet.specs.TurnText.{TurnEntry}
 use Rattle.station_replay.specs.Replay.{IsReplay, Item}
 use Rattle.station_replay.specs.Texts.{text}
 use Rattle.schedule_replay.specs.Replaying.{Course}
 use Rattle.station_fleet.specs.declared.station.Station.{Station}
-use Rattle.station_fleet.specs.Outcomes.{Comes, Stands, end_of, start_of, steps_of}
+use Rattle.station_fleet.specs.Outcomes.{TurnsComeTo, StationStands, end_of_turns, course_start, course_steps}
 
 -- each station, counted from 1, has its settings and its course, and stands where its run begins
 abbrev pub Begin : (ℕ → StationSettings) → (ℕ → Course) → Crew Station → Type 0
 Begin settings course crew = (station : ℕ) (s : Station) → 1 ≤ station → slice_get crew.members (station - 1) ≡ Some s
-    → Stands (settings station) (course station) [] s
+    → StationStands (settings station) (course station) [] s
 
 -- each station came to what its own turns ended with, and what it wrote are its own lines in this text
-abbrev pub EachRan : {K : Type 0} → (ℕ → StationSettings) → (ℕ → Course) → List (Entry K) → Crew Station → List ℕ → Type 0
+abbrev pub EachRan : {K : Type 0} → (ℕ → StationSettings) → (ℕ → Course) → List (TurnEntry K) → Crew Station → List ℕ → Type 0
 EachRan settings course log crew text = (station : ℕ) (s : Station) → 1 ≤ station
     → slice_get crew.members (station - 1) ≡ Some s
-    → Comes (end_of (answers_of station log)) (settings station) (course station) []
-    (λ bytes. bytes ≡ lines_of station text) s
+    → TurnsComeTo (end_of_turns (answers_of station log)) (settings station) (course station) []
+    (λ bytes. bytes ≡ station_lines station text) s
 
 -- no station has ended
 abbrev pub NoneEnded : Crew Station → Type 0
 NoneEnded crew = (station : ℕ) (s : Station) → 1 ≤ station → slice_get crew.members (station - 1) ≡ Some s
-    → IsOpen crew station
+    → StationIsOpen crew station
 
 -- the run of a station came to its end, or to a delivery that was unseen
-abbrev pub IsOver : MemberTurn → Type 0
-IsOver More = ⊥
-IsOver Ended = Unit {0}
-IsOver Unseen = Unit {0}
-IsOver WriteFault = ⊥
-IsOver OutOfMemory = ⊥
+abbrev pub RunIsOver : MemberTurn → Type 0
+RunIsOver More = ⊥
+RunIsOver Ended = Unit {0}
+RunIsOver Unseen = Unit {0}
+RunIsOver WriteFault = ⊥
+RunIsOver OutOfMemory = ⊥
 
 -- these are the lines that `replay` writes of these settings and this course: the text of each run of its steps
 abbrev pub IsReplayText : StationSettings → Course → List ℕ → Type 0
-IsReplayText settings c lines = (o : List Item) → IsReplay settings (start_of c) (steps_of settings c) o → lines ≡ text o
+IsReplayText settings c lines = (o : List Item) → IsReplay settings (course_start c) (course_steps settings c) o → lines ≡ text o
 
 -- the lines of each station that is over, without its number, are those that `replay` writes
 abbrev pub EachOverReplays : (ℕ → StationSettings) → (ℕ → Course) → Crew Station → List ℕ → Type 0
 EachOverReplays settings course crew bytes = (station : ℕ) (s : Station) → 1 ≤ station
-    → slice_get crew.members (station - 1) ≡ Some s → IsOver (last_of crew station)
-    → IsReplayText (settings station) (course station) (lines_of station bytes)
+    → slice_get crew.members (station - 1) ≡ Some s → RunIsOver (last_answer_of crew station)
+    → IsReplayText (settings station) (course station) (station_lines station bytes)
 
 -- the lines of each station are
 abbrev pub EachReplays : (ℕ → StationSettings) → (ℕ → Course) → Crew Station → List ℕ → Type 0
 EachReplays settings course crew bytes = (station : ℕ) (s : Station) → 1 ≤ station
     → slice_get crew.members (station - 1) ≡ Some s
-    → IsReplayText (settings station) (course station) (lines_of station bytes)
+    → IsReplayText (settings station) (course station) (station_lines station bytes)
 
 -- the turns of a fleet came to the end of all stations
 abbrev pub AllOver : FleetEnd → Type 0

@@ -6,8 +6,8 @@ use Rattle.settings_file.specs.StationSettings.{StationSettings}
 use Rattle.fleet.specs.declared.member.MemberTurn.{MemberTurn}
 use Rattle.fleet.specs.declared.member.MemberTurn.TheVariants.{More, Ended, Unseen, WriteFault, OutOfMemory}
 use Rattle.station_replay.specs.Kept.{Kept}
-use Rattle.station_replay.specs.Schedule.{Step, records}
-use Rattle.station_replay.specs.Replay.{IsBegun, IsReplay, IsUnseen, Item, Stage, start}
+use Rattle.station_replay.specs.Schedule.{ReplayStep, records}
+use Rattle.station_replay.specs.Replay.{RunIsBegun, IsReplay, IsUnseen, Item, Stage, start}
 use Rattle.station_replay.specs.Texts.{text}
 use Rattle.schedule_replay.specs.Replayed.{TookPart}
 use Rattle.schedule_replay.specs.Replaying.{Course, Replaying}
@@ -15,40 +15,40 @@ use Rattle.schedule_steps.specs.Steps.{steps_for}
 use Rattle.station_fleet.specs.declared.station.Station.{Station}
 
 -- the stage at which a course starts
-abbrev pub start_of : Course → Stage
-start_of c = start c.eeprom c.packet
+abbrev pub course_start : Course → Stage
+course_start c = start c.eeprom c.packet
 
 -- its steps, as those of a run
-abbrev pub steps_of : StationSettings → Course → List Step
-steps_of settings c = steps_for settings.period c.steps
+abbrev pub course_steps : StationSettings → Course → List ReplayStep
+course_steps settings c = steps_for settings.period c.steps
 
 -- The station has these settings and the steps of the course, and its run stands behind these items.
-pub record Stands (settings : StationSettings) (c : Course) (items : List Item) (s : Station) : Type 0 where
+pub record StationStands (settings : StationSettings) (c : Course) (items : List Item) (s : Station) : Type 0 where
   pub settings_are : s.run.settings ≡ settings
   pub steps_are : s.schedule.steps.items ≡ c.steps
   pub stands : Replaying c.eeprom c.packet s.schedule.steps.items items c.before s.line c.made s.disk s.run
 
 -- The run goes on behind more items, of which the text is of this kind.
-pub record GoesOn (settings : StationSettings) (c : Course) (items : List Item) (P : List ℕ → Type 0) (s : Station)
+pub record RunGoesOn (settings : StationSettings) (c : Course) (items : List Item) (P : List ℕ → Type 0) (s : Station)
     : Type 0 where
   pub given : List Item
   pub writes : P (text given)
-  pub stands : Stands settings c (items ++ given) s
+  pub stands : StationStands settings c (items ++ given) s
 
 -- The run came to its end: the items are the run of the schedule, all is kept, and the line and the disk took part.
-pub record Ends (settings : StationSettings) (c : Course) (items : List Item) (P : List ℕ → Type 0) (s : Station)
+pub record RunEnds (settings : StationSettings) (c : Course) (items : List Item) (P : List ℕ → Type 0) (s : Station)
     : Type 0 where
   pub given : List Item
   pub writes : P (text given)
-  pub kept : Kept settings (records (steps_of settings c)) (items ++ given)
-  pub took_part : TookPart settings (start_of c) (steps_of settings c) (items ++ given) c.before s.line s.disk
+  pub kept : Kept settings (records (course_steps settings c)) (items ++ given)
+  pub took_part : TookPart settings (course_start c) (course_steps settings c) (items ++ given) c.before s.line s.disk
 
 -- A delivery was unseen: the items lead up to it, and all is kept.
 pub record Breaks (settings : StationSettings) (c : Course) (items : List Item) (P : List ℕ → Type 0) : Type 0 where
   pub given : List Item
   pub writes : P (text given)
-  pub is_unseen : IsUnseen settings (start_of c) (steps_of settings c) (items ++ given)
-  pub kept : Kept settings (records (steps_of settings c)) (items ++ given)
+  pub is_unseen : IsUnseen settings (course_start c) (course_steps settings c) (items ++ given)
+  pub kept : Kept settings (records (course_steps settings c)) (items ++ given)
 
 -- The run was cut off: a prefix of the text is of this kind, the items are the run or its beginning, and all is kept.
 pub record Cuts (settings : StationSettings) (c : Course) (items : List Item) (P : List ℕ → Type 0) : Type 0 where
@@ -56,35 +56,35 @@ pub record Cuts (settings : StationSettings) (c : Course) (items : List Item) (P
   pub written : List ℕ
   pub front : IsFrontOf written (text given)
   pub writes : P written
-  pub is_begun : IsBegun settings (start_of c) (steps_of settings c) (items ++ given)
-      ⊎ IsReplay settings (start_of c) (steps_of settings c) (items ++ given)
-  pub kept : Kept settings (records (steps_of settings c)) (items ++ given)
+  pub is_begun : RunIsBegun settings (course_start c) (course_steps settings c) (items ++ given)
+      ⊎ IsReplay settings (course_start c) (course_steps settings c) (items ++ given)
+  pub kept : Kept settings (records (course_steps settings c)) (items ++ given)
 
 -- how turns with these answers ended: by the last answer, if none before it was an end
 abbrev pub only : MemberTurn → List MemberTurn → Option MemberTurn
 only answer [] = Some answer
 only answer (next ∷ later) = None
 
-abbrev pub end_of : List MemberTurn → Option MemberTurn
-end_of [] = Some More
-end_of (More ∷ later) = end_of later
-end_of (Ended ∷ later) = only Ended later
-end_of (Unseen ∷ later) = only Unseen later
-end_of (WriteFault ∷ later) = only WriteFault later
-end_of (OutOfMemory ∷ later) = only OutOfMemory later
+abbrev pub end_of_turns : List MemberTurn → Option MemberTurn
+end_of_turns [] = Some More
+end_of_turns (More ∷ later) = end_of_turns later
+end_of_turns (Ended ∷ later) = only Ended later
+end_of_turns (Unseen ∷ later) = only Unseen later
+end_of_turns (WriteFault ∷ later) = only WriteFault later
+end_of_turns (OutOfMemory ∷ later) = only OutOfMemory later
 
 -- what turns that ended so come to; of a turn behind an end nothing is said
-abbrev pub Comes : Option MemberTurn → StationSettings → Course → List Item → (List ℕ → Type 0) → Station → Type 0
-Comes None settings c items P s = Unit {0}
-Comes (Some More) settings c items P s = GoesOn settings c items P s
-Comes (Some Ended) settings c items P s = Ends settings c items P s
-Comes (Some Unseen) settings c items P s = Breaks settings c items P
-Comes (Some WriteFault) settings c items P s = Cuts settings c items P
-Comes (Some OutOfMemory) settings c items P s = Cuts settings c items P
+abbrev pub TurnsComeTo : Option MemberTurn → StationSettings → Course → List Item → (List ℕ → Type 0) → Station → Type 0
+TurnsComeTo None settings c items P s = Unit {0}
+TurnsComeTo (Some More) settings c items P s = RunGoesOn settings c items P s
+TurnsComeTo (Some Ended) settings c items P s = RunEnds settings c items P s
+TurnsComeTo (Some Unseen) settings c items P s = Breaks settings c items P
+TurnsComeTo (Some WriteFault) settings c items P s = Cuts settings c items P
+TurnsComeTo (Some OutOfMemory) settings c items P s = Cuts settings c items P
 
 -- A station became another by turns with these answers, in which it wrote a text of this kind: by none it stays. By some,
 -- wherever its run stood, it comes to what they end with.
 abbrev pub StationTurned : Station → List MemberTurn → (List ℕ → Type 0) → Station → Type 0
 StationTurned old [] P new = (new ≡ old) × P []
 StationTurned old (answer ∷ later) P new = (settings : StationSettings) (c : Course) (items : List Item)
-    → Stands settings c items old → Comes (end_of (answer ∷ later)) settings c items P new
+    → StationStands settings c items old → TurnsComeTo (end_of_turns (answer ∷ later)) settings c items P new

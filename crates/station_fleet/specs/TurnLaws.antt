@@ -8,21 +8,21 @@ use Rattle.fleet.specs.declared.member.MemberTurn.TheVariants.{More, Ended, Unse
 use Rattle.fleet.specs.MemberTurns.{Both}
 use Rattle.station_replay.specs.Kept.{Kept}
 use Rattle.station_replay.specs.Schedule.{records}
-use Rattle.station_replay.specs.Replay.{IsBegun, IsReplay, IsUnseen, Item}
+use Rattle.station_replay.specs.Replay.{RunIsBegun, IsReplay, IsUnseen, Item}
 use Rattle.station_replay.specs.Texts.{text}
 use Rattle.schedule_replay.specs.Replayed.{TookPart}
 use Rattle.schedule_replay.specs.Replaying.{Course}
 use Rattle.schedule_replay.specs.TextTelling.{text_join}
 use Rattle.station_fleet.specs.declared.station.Station.{Station}
-use Rattle.station_fleet.specs.Outcomes.{Comes, Cuts, Stands, StationTurned, end_of, only, start_of, steps_of}
+use Rattle.station_fleet.specs.Outcomes.{TurnsComeTo, Cuts, StationStands, StationTurned, end_of_turns, only, course_start, course_steps}
 
 pub turned_none : (s : Station) → StationTurned s [] (λ bytes. bytes ≡ []) s
 turned_none s = (refl, refl)
 
 -- what is known of the text may be said less exactly
 pub comes_wider : (end : Option MemberTurn) (settings : StationSettings) (c : Course) (items : List Item)
-    (P Q : List ℕ → Type 0) (s : Station) → ((bytes : List ℕ) → P bytes → Q bytes) → Comes end settings c items P s
-    → Comes end settings c items Q s
+    (P Q : List ℕ → Type 0) (s : Station) → ((bytes : List ℕ) → P bytes → Q bytes) → TurnsComeTo end settings c items P s
+    → TurnsComeTo end settings c items Q s
 comes_wider None settings c items P Q s wider came = tt
 comes_wider (Some More) settings c items P Q s wider came =
     record { given = came.given; writes = wider (text came.given) came.writes; stands = came.stands }
@@ -59,7 +59,7 @@ pub turned_wider : (l m : Station) (answers : List MemberTurn) (P Q : List ℕ �
     → ((bytes : List ℕ) → P bytes → Q bytes) → StationTurned l answers P m → StationTurned l answers Q m
 turned_wider l m [] P Q wider turned = (turned.0, wider [] turned.1)
 turned_wider l m (answer ∷ later) P Q wider turned = λ settings c items stands.
-    comes_wider (end_of (answer ∷ later)) settings c items P Q m wider (turned settings c items stands)
+    comes_wider (end_of_turns (answer ∷ later)) settings c items P Q m wider (turned settings c items stands)
 
 -- a text of items behind others
 both_texts : (P Q : List ℕ → Type 0) (first later : List Item) → P (text first) → Q (text later)
@@ -77,34 +77,34 @@ cuts_behind settings c items given P Q p cut = record {
         ∙ (ap (λ (bytes : List ℕ). text given ++ bytes) cut.front.1 ∙ sym (text_join given cut.given)),
   );
   writes = (text given, cut.written, refl, p, cut.writes);
-  is_begun = subst (λ (xs : List Item). IsBegun settings (start_of c) (steps_of settings c) xs
-      ⊎ IsReplay settings (start_of c) (steps_of settings c) xs) (append_assoc items given cut.given) cut.is_begun;
-  kept = subst (λ (xs : List Item). Kept settings (records (steps_of settings c)) xs) (append_assoc items given cut.given) cut.kept;
+  is_begun = subst (λ (xs : List Item). RunIsBegun settings (course_start c) (course_steps settings c) xs
+      ⊎ IsReplay settings (course_start c) (course_steps settings c) xs) (append_assoc items given cut.given) cut.is_begun;
+  kept = subst (λ (xs : List Item). Kept settings (records (course_steps settings c)) xs) (append_assoc items given cut.given) cut.kept;
 }
 
 -- what turns come to that stand behind items which were given
 comes_behind : (end : Option MemberTurn) (settings : StationSettings) (c : Course) (items given : List Item)
-    (P Q : List ℕ → Type 0) (s : Station) → P (text given) → Comes end settings c (items ++ given) Q s
-    → Comes end settings c items (Both P Q) s
+    (P Q : List ℕ → Type 0) (s : Station) → P (text given) → TurnsComeTo end settings c (items ++ given) Q s
+    → TurnsComeTo end settings c items (Both P Q) s
 comes_behind None settings c items given P Q s p came = tt
 comes_behind (Some More) settings c items given P Q s p came = record {
   given = given ++ came.given;
   writes = both_texts P Q given came.given p came.writes;
-  stands = subst (λ (xs : List Item). Stands settings c xs s) (append_assoc items given came.given) came.stands;
+  stands = subst (λ (xs : List Item). StationStands settings c xs s) (append_assoc items given came.given) came.stands;
 }
 comes_behind (Some Ended) settings c items given P Q s p came = record {
   given = given ++ came.given;
   writes = both_texts P Q given came.given p came.writes;
-  kept = subst (λ (xs : List Item). Kept settings (records (steps_of settings c)) xs) (append_assoc items given came.given) came.kept;
-  took_part = subst (λ (xs : List Item). TookPart settings (start_of c) (steps_of settings c) xs c.before s.line s.disk)
+  kept = subst (λ (xs : List Item). Kept settings (records (course_steps settings c)) xs) (append_assoc items given came.given) came.kept;
+  took_part = subst (λ (xs : List Item). TookPart settings (course_start c) (course_steps settings c) xs c.before s.line s.disk)
       (append_assoc items given came.given) came.took_part;
 }
 comes_behind (Some Unseen) settings c items given P Q s p came = record {
   given = given ++ came.given;
   writes = both_texts P Q given came.given p came.writes;
-  is_unseen = subst (λ (xs : List Item). IsUnseen settings (start_of c) (steps_of settings c) xs)
+  is_unseen = subst (λ (xs : List Item). IsUnseen settings (course_start c) (course_steps settings c) xs)
       (append_assoc items given came.given) came.is_unseen;
-  kept = subst (λ (xs : List Item). Kept settings (records (steps_of settings c)) xs) (append_assoc items given came.given) came.kept;
+  kept = subst (λ (xs : List Item). Kept settings (records (course_steps settings c)) xs) (append_assoc items given came.given) came.kept;
 }
 comes_behind (Some WriteFault) settings c items given P Q s p came = cuts_behind settings c items given P Q p came
 comes_behind (Some OutOfMemory) settings c items given P Q s p came = cuts_behind settings c items given P Q p came
@@ -119,7 +119,7 @@ end_behind (Some OutOfMemory) later = None
 end_behind None later = None
 
 none_behind : (answer : MemberTurn) (first : List MemberTurn) (next : MemberTurn) (later : List MemberTurn) → answer ≢ More
-    → only answer (first ++ next ∷ later) ≡ end_behind (only answer first) (end_of (next ∷ later))
+    → only answer (first ++ next ∷ later) ≡ end_behind (only answer first) (end_of_turns (next ∷ later))
 none_behind More first next later goes = absurd (goes refl)
 none_behind Ended [] next later goes = refl
 none_behind Ended (a ∷ first) next later goes = refl
@@ -131,7 +131,7 @@ none_behind OutOfMemory [] next later goes = refl
 none_behind OutOfMemory (a ∷ first) next later goes = refl
 
 end_joins : (first : List MemberTurn) (next : MemberTurn) (later : List MemberTurn)
-    → end_of (first ++ next ∷ later) ≡ end_behind (end_of first) (end_of (next ∷ later))
+    → end_of_turns (first ++ next ∷ later) ≡ end_behind (end_of_turns first) (end_of_turns (next ∷ later))
 end_joins [] next later = refl
 end_joins (More ∷ first) next later = end_joins first next later
 end_joins (Ended ∷ first) next later = none_behind Ended first next later (λ e. absurd (let no : Ended ≡ More = e in cc))
@@ -143,11 +143,11 @@ end_joins (OutOfMemory ∷ first) next later =
 
 -- what turns come to, and then others, by how the first ended
 comes_joins : (end : Option MemberTurn) (next : MemberTurn) (later : List MemberTurn) (settings : StationSettings)
-    (c : Course) (items : List Item) (P Q : List ℕ → Type 0) (m n : Station) → Comes end settings c items P m
+    (c : Course) (items : List Item) (P Q : List ℕ → Type 0) (m n : Station) → TurnsComeTo end settings c items P m
     → StationTurned m (next ∷ later) Q n
-    → Comes (end_behind end (end_of (next ∷ later))) settings c items (Both P Q) n
+    → TurnsComeTo (end_behind end (end_of_turns (next ∷ later))) settings c items (Both P Q) n
 comes_joins (Some More) next later settings c items P Q m n came turned =
-    comes_behind (end_of (next ∷ later)) settings c items came.given P Q n came.writes
+    comes_behind (end_of_turns (next ∷ later)) settings c items came.given P Q n came.writes
     (turned settings c (items ++ came.given) came.stands)
 comes_joins (Some Ended) next later settings c items P Q m n came turned = tt
 comes_joins (Some Unseen) next later settings c items P Q m n came turned = tt
@@ -170,6 +170,6 @@ turned_joins l m n (answer ∷ first) [] P Q one two =
     (λ bytes p. (bytes, [], sym (append-nil bytes), p, two.1)) to in
     subst (λ (answers : List MemberTurn). StationTurned l answers (Both P Q) n) (sym (append-nil (answer ∷ first))) whole
 turned_joins l m n (answer ∷ first) (next ∷ later) P Q one two = λ settings c items stands.
-    subst (λ (end : Option MemberTurn). Comes end settings c items (Both P Q) n)
+    subst (λ (end : Option MemberTurn). TurnsComeTo end settings c items (Both P Q) n)
     (sym (end_joins (answer ∷ first) next later))
-    (comes_joins (end_of (answer ∷ first)) next later settings c items P Q m n (one settings c items stands) two)
+    (comes_joins (end_of_turns (answer ∷ first)) next later settings c items P Q m n (one settings c items stands) two)

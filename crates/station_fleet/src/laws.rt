@@ -5,10 +5,10 @@ ghost use Rattle.fleet.specs.FleetEnds.{RunsFleet};
 ghost use Rattle.fleet.specs.declared.run.FleetEnd.{FleetEnd};
 ghost use Rattle.fleet.specs.Log.{Along};
 ghost use Rattle.fleet.specs.StationLines.{AreUncut};
-ghost use Rattle.fleet.specs.TurnText.{Entry};
+ghost use Rattle.fleet.specs.TurnText.{TurnEntry};
 ghost use Rattle.schedule_replay.specs.Replaying.{Course};
-ghost use Rattle.schedule_file.specs.Answer.{ReadsAs};
-ghost use Rattle.schedule_file.specs.Reading.{steps_of};
+ghost use Rattle.schedule_file.specs.Answer.{ScheduleReadsAs};
+ghost use Rattle.schedule_file.specs.Reading.{said_by_text};
 ghost use Rattle.schedule_file.specs.declared.schedule.Schedule.{Schedule};
 ghost use Rattle.station_fleet.specs.Fleets.{AllOver, Begin, EachOverReplays, EachRan, EachReplays, NoneEnded};
 ghost use Rattle.station_fleet.specs.StationTurns.{station_turning};
@@ -19,7 +19,8 @@ use station_io::Sink;
 /// Whatever the order of the turns, each station runs its own schedule: there is one text that the sink took, and in it the
 /// lines of a station, without its number, are the text of its run. This is so where no turn was cut off.
 pub fn each_station_runs_its_schedule<K: Sink>()
-    ensures { (old new : Crew Station) (before after : K) (log : List (Entry K)) (settings : ℕ → StationSettings) (course : ℕ → Course)
+    ensures { (old new : Crew Station) (before after : K) (log : List (TurnEntry K)) (settings : ℕ
+        → StationSettings) (course : ℕ → Course)
         → Along station_turning K.outlet old before log new after → AreUncut log → Begin settings course old
         → (text : List ℕ) × K.outlet.wrote before text after × EachRan settings course log new text }
 {}
@@ -27,16 +28,21 @@ pub fn each_station_runs_its_schedule<K: Sink>()
 /// The lines of a station that is over, without its number, are those that `replay` writes of the same settings, schedule and
 /// period, whatever the other stations do. If all stations came to their end, so it is of each of them.
 pub fn each_station_prints_its_replay<K: Sink>()
-    ensures over { (old new : Crew Station) (before after : K) (log : List (Entry K)) (settings : ℕ → StationSettings) (course : ℕ → Course)
-        → Along station_turning K.outlet old before log new after → AreUncut log → Begin settings course old → NoneEnded old
+    ensures over { (old new : Crew Station) (before after : K) (log : List (TurnEntry K)) (settings : ℕ
+        → StationSettings) (course : ℕ → Course)
+        → Along station_turning K.outlet old before log new after → AreUncut log → Begin settings course old
+        → NoneEnded old
         → (text : List ℕ) × K.outlet.wrote before text after × EachOverReplays settings course new text }
-    ensures all { (seed : ℕ) (old new : Crew Station) (before after : K) (end : FleetEnd) (settings : ℕ → StationSettings) (course : ℕ → Course)
-        → RunsFleet station_turning K.outlet seed old before end new after → AllOver end → Begin settings course old → NoneEnded old
+    ensures all { (seed : ℕ) (old new : Crew Station) (before after : K) (end : FleetEnd) (settings : ℕ
+        → StationSettings) (course : ℕ → Course)
+        → RunsFleet station_turning K.outlet seed old before end new after → AllOver end → Begin settings course old
+        → NoneEnded old
         → (text : List ℕ) × K.outlet.wrote before text after × EachReplays settings course new text }
 {}
 
 /// A schedule that was read has at most 10,000 steps, so a station of it has fewer than 2^48 turns left.
 pub fn a_schedule_has_few_steps()
-    ensures { (bytes : List ℕ) (period : ℕ) (schedule : Schedule) → ReadsAs (steps_of bytes period) (Ok schedule)
+    ensures { (bytes : List ℕ) (period : ℕ) (schedule : Schedule)
+        → ScheduleReadsAs (said_by_text bytes period) (Ok schedule)
         → length schedule.steps.items ≤ 10000 }
 {}

@@ -1,11 +1,11 @@
 ghost use Rattle.std.specs.Prelude.{◌≡◌, ◌<◌, ◌^◌, ℕ, [], List, length};
 ghost use Rattle.loop_packet.specs.declared.packet.LoopPacket.{LoopPacket};
-ghost use Rattle.schedule_steps.specs.Accepted.{IsAccepted};
+ghost use Rattle.schedule_steps.specs.Accepted.{ScheduleIsAccepted};
 ghost use Rattle.schedule_replay.specs.Replayed.{IsNewDisk};
 ghost use Rattle.schedule_replay.specs.Standing.{LineAt};
 ghost use Rattle.station_replay.specs.Replay.{start};
-ghost use Rattle.station_fleet.specs.Outcomes.{Stands};
-ghost use Rattle.station_fleet.specs.StationTurns.{answer_of};
+ghost use Rattle.station_fleet.specs.Outcomes.{StationStands};
+ghost use Rattle.station_fleet.specs.StationTurns.{member_answer};
 
 use disk_model::{MemDisk, Stopping};
 use fleet::{Member, MemberTurn};
@@ -37,14 +37,16 @@ impl Station {
         disk: Stopping<MemDisk>,
     ) -> Station
         requires period { schedule.period ≡ settings.now.period }
-        requires accepted { IsAccepted schedule }
+        requires accepted { ScheduleIsAccepted schedule }
         requires line { (eeprom : List ℕ) × (packet : LoopPacket) × LineAt (start eeprom packet) line
             × IsNewDisk schedule.records eeprom packet disk }
         ensures may_turn { station_turning.may_turn result }
         ensures left { length schedule.steps.items < 2 ^ 47 → station_turning.left result < 2 ^ 48 }
         ensures begins { (eeprom : List ℕ) (packet : LoopPacket) → LineAt (start eeprom packet) line
             → IsNewDisk schedule.records eeprom packet disk
-            → Stands settings.now (record { eeprom = eeprom; packet = packet; steps = schedule.steps.items; before = line; made = disk }) [] result }
+            → StationStands settings.now
+            (record { eeprom = eeprom; packet = packet; steps = schedule.steps.items; before = line; made = disk }) []
+            result }
     {
         let run = ReplayRun::new(alloc, settings);
         Station {
@@ -72,7 +74,7 @@ impl Member for Station {
 
 // The answer of a member, by what the turn of its run came to.
 fn answer_of(turn: ReplayTurn) -> MemberTurn
-    ensures { result ≡ answer_of turn }
+    ensures { result ≡ member_answer turn }
 {
     match turn {
         ReplayTurn::More => MemberTurn::More,

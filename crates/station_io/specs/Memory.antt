@@ -6,7 +6,7 @@ use Rattle.station_io.specs.declared.files.TextRead.{TextRead}
 use Rattle.station_io.specs.declared.files.TextRead.TheVariants.{Failed}
 use Rattle.station_io.specs.declared.memory.MemFile.{MemFile}
 use Rattle.station_io.specs.Files.{Shelf}
-use Rattle.station_io.specs.Named.{named}
+use Rattle.station_io.specs.Named.{file_named}
 use Rattle.station_io.specs.Sink.{Outlet}
 
 -- the files, the numbers of the calls that fail, and how many calls were made and failed
@@ -18,10 +18,10 @@ pub record Folder : Type 0 where
 
 -- a call of this number for this name fails
 abbrev pub fails : Folder → ℕ → List ℕ → Bool
-fails folder call name = list_any (λ n. n == call) folder.failing || is_none (named folder.files name)
+fails folder call name = list_any (λ n. n == call) folder.failing || is_none (file_named folder.files name)
 
 -- One call was made for the name, and its number and the name alone decide whether it failed.
-pub record IsOneCall (old : Folder) (name : List ℕ) (answer : TextRead) (new : Folder) : Type 0 where
+pub record IsOneFileCall (old : Folder) (name : List ℕ) (answer : TextRead) (new : Folder) : Type 0 where
   pub files : new.files ≡ old.files
   pub failing : new.failing ≡ old.failing
   pub calls : new.calls ≡ min (old.calls + 1) (2 ^ 64 - 1)
@@ -30,9 +30,9 @@ pub record IsOneCall (old : Folder) (name : List ℕ) (answer : TextRead) (new :
 -- what files in memory tell: all of it
 abbrev pub folder_shelf : Shelf Folder
 folder_shelf = record {
-  held = λ folder name. named folder.files name;
+  held = λ folder name. file_named folder.files name;
   faults = λ folder. folder.faults;
-  loaded = IsOneCall;
+  loaded = IsOneFileCall;
 }
 
 -- the bytes that a sink took, how many it takes, and how often it could not

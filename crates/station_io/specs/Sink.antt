@@ -18,15 +18,15 @@ pub record Outlet (S : Type 0) : Type 1 where
   pub wrote_joins : (s t u : S) (xs ys : List ℕ) → wrote s xs t → wrote t ys u → wrote s (xs ++ ys) u
 
 -- what a write of these bytes wrote, by its answer: all of them, or a prefix of them
-abbrev pub Writes : Put → List ℕ → List ℕ → Type 0
-Writes Done bytes written = written ≡ bytes
-Writes Failed bytes written = IsFrontOf written bytes
+abbrev pub SinkWrites : Put → List ℕ → List ℕ → Type 0
+SinkWrites Done bytes written = written ≡ bytes
+SinkWrites Failed bytes written = IsFrontOf written bytes
 
 -- One write of these bytes gave this answer: all of them were taken, or it failed after a prefix of them. This is
 -- said of the bytes, where they are told, and of the call. Only a write that failed is counted.
 pub record Emits {S : Type 0} (outlet : Outlet S) (old : S) (bytes : List ℕ) (answer : Put) (new : S) : Type 0 where
   pub done : answer ≡ Done → Appends (outlet.taken old) (outlet.taken new) bytes
   pub failed : answer ≡ Failed → WritesPart (outlet.taken old) (outlet.taken new) bytes
-  pub call : (written : List ℕ) × Writes answer bytes written × outlet.wrote old written new
+  pub call : (written : List ℕ) × SinkWrites answer bytes written × outlet.wrote old written new
   pub cause : Cause (outlet.faults old) (outlet.faults new) (answer ≡ Failed)
   pub still : answer ≢ Failed → outlet.faults new ≡ outlet.faults old

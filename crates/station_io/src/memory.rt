@@ -1,6 +1,6 @@
 ghost use Rattle.std.specs.Prelude.{◌≡◌, ◌≢◌, ◌≤◌, ◌+◌, ◌⊎◌, ◌++◌, [], length, option_copied};
-ghost use Rattle.station_io.specs.Files.{Gives, most_bytes};
-ghost use Rattle.station_io.specs.Named.{named};
+ghost use Rattle.station_io.specs.Files.{ReadingGives, most_bytes};
+ghost use Rattle.station_io.specs.Named.{file_named};
 
 use crate::files::{Files, LONGEST, TextRead};
 use causes::raised;
@@ -30,7 +30,8 @@ impl Model for MemFiles {
 
     ghost Value = { Folder };
 
-    ghost view = { λ a. record { files = a.files.items; failing = a.failing.items; calls = a.calls; faults = a.faults } };
+    ghost view = { λ a. record
+        { files = a.files.items; failing = a.failing.items; calls = a.calls; faults = a.faults } };
 }
 
 impl MemFiles {
@@ -74,7 +75,7 @@ impl Files for MemFiles {
 
 // The bytes of the first file of that name.
 fn find<'a>(files: &'a [MemFile], name: &str) -> Option<&'a [u8]>
-    ensures { option_copied result ≡ named files.now name.now }
+    ensures { option_copied result ≡ file_named files.now name.now }
 {
     for file in files {
         if file.name.as_str() == name {
@@ -87,7 +88,7 @@ fn find<'a>(files: &'a [MemFile], name: &str) -> Option<&'a [u8]>
 // Copies what a file may have at most.
 fn copy(bytes: &[u8], into: &mut Vec<u8>) -> TextRead
     requires { into.old.items ≡ [] }
-    ensures gives { Gives bytes.now result into.new.items }
+    ensures gives { ReadingGives bytes.now result into.new.items }
     ensures within { length into.new.items ≤ most_bytes }
     ensures full { result ≡ TextRead.TooLong → length into.new.items ≡ most_bytes }
     ensures never { result ≢ TextRead.Failed }
@@ -101,7 +102,8 @@ fn copy(bytes: &[u8], into: &mut Vec<u8>) -> TextRead
 
 // Appends the bytes and answers so, unless memory runs out.
 fn append(bytes: &[u8], into: &mut Vec<u8>, answer: TextRead) -> TextRead
-    ensures answer { (result ≡ TextRead.OutOfMemory) ⊎ ((result ≡ answer) × (into.new.items ≡ into.old.items ++ bytes.now)) }
+    ensures answer { (result ≡ TextRead.OutOfMemory)
+        ⊎ ((result ≡ answer) × (into.new.items ≡ into.old.items ++ bytes.now)) }
     ensures within { length into.new.items ≤ length into.old.items + length bytes.now }
 {
     match into.extend_from_slice(bytes) {

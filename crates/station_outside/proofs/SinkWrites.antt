@@ -3,11 +3,11 @@ use Rattle.std.proofs.Common.{ℕ, ◌≢◌, List, [], None, refl, arith}
 use Rattle.causes.proofs.Writing.{writes_nothing}
 use Rattle.station_io.specs.declared.sink.Put.{Put}
 use Rattle.station_io.specs.declared.sink.Put.TheVariants.{Done, Failed}
-use Rattle.station_io.specs.Sink.{Emits, Writes}
+use Rattle.station_io.specs.Sink.{Emits, SinkWrites}
 use Rattle.station_outside.specs.UntoldSink.{untold_outlet}
 
 -- by the answer all of the bytes, or none, and nothing more is known
-pub some_written : (answer : Put) (bytes : List ℕ) → (written : List ℕ) × Writes answer bytes written × Unit {0}
+pub some_written : (answer : Put) (bytes : List ℕ) → (written : List ℕ) × SinkWrites answer bytes written × Unit {0}
 some_written Done bytes = (bytes, refl, tt)
 some_written Failed bytes = ([], (bytes, refl), tt)
 

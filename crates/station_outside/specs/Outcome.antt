@@ -10,6 +10,6 @@ MeansBy Ended answer = answer ≡ Ok 0
 MeansBy other answer = IsErr answer
 
 -- at least one byte went, and no more than there is room for
-abbrev pub IsWithin : Outcome → ℕ → Type 0
-IsWithin (Moved n) size = (1 ≤ n) × (n ≤ size)
-IsWithin other size = Unit {0}
+abbrev pub OutcomeIsWithin : Outcome → ℕ → Type 0
+OutcomeIsWithin (Moved n) size = (1 ≤ n) × (n ≤ size)
+OutcomeIsWithin other size = Unit {0}

@@ -3,8 +3,8 @@ use Rattle.std.specs.Prelude.{ℕ, None}
 use Rattle.serial_link.specs.Traffic.{Traffic}
 
 -- it tells how often it failed and how many waits passed; it never has a shortage
-abbrev pub untold : {L : Type 0} → (L → ℕ) → (L → ℕ) → Traffic L
-untold faults quiets = record {
+abbrev pub untold_traffic : {L : Type 0} → (L → ℕ) → (L → ℕ) → Traffic L
+untold_traffic faults quiets = record {
   talk = λ l. None;
   goes = λ l t m. Unit {0};
   dialed = λ l side address answer m. Unit {0};

@@ -7,8 +7,8 @@ pub nothing_told : {A : Type 0} (a : A) → None ≡ Some a → ⊥
 nothing_told a told = cc
 
 -- it tells how many changes and reads there were, and how often it failed
-abbrev pub untold : {D : Type 0} → (D → ℕ) → (D → ℕ) → (D → ℕ) → Medium D
-untold moment looks faults = record {
+abbrev pub untold_medium : {D : Type 0} → (D → ℕ) → (D → ℕ) → (D → ℕ) → Medium D
+untold_medium moment looks faults = record {
   seen = λ d. None;
   left = λ d t c. ⊥;
   synced = λ d. None;

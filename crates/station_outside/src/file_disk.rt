@@ -80,9 +80,9 @@ impl<'a, R> FileDisk<'a, R> {
 }
 
 impl<R: Files<File = File> + Alloc> Disk for FileDisk<'_, R> {
-    ghost use Rattle.station_outside.specs.UntoldDisk.{untold};
+    ghost use Rattle.station_outside.specs.UntoldDisk.{untold_medium};
 
-    ghost medium = { untold (λ disk. disk.moment) (λ disk. disk.looks) (λ disk. disk.faults) };
+    ghost medium = { untold_medium (λ disk. disk.moment) (λ disk. disk.looks) (λ disk. disk.faults) };
 
     /// With `make` the file is opened to be written too, and locked, and one that is not there is
     /// made. The lock is the system's advisory one, which falls with the process: where another open

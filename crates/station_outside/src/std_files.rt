@@ -1,6 +1,6 @@
 ghost use Rattle.std.specs.Prelude.{◌≡◌, ◌≤◌, ◌<◌, ◌≢◌, ⊤, [], None, IfOk, IsErr, length, vec_len};
 ghost use Rattle.causes.specs.Told.{WhereTold};
-ghost use Rattle.station_io.specs.Files.{Gives, most_bytes};
+ghost use Rattle.station_io.specs.Files.{ReadingGives, most_bytes};
 
 use crate::outcome::{Outcome, understand};
 use causes::raised;
@@ -47,7 +47,8 @@ pub(crate) fn read_opened<F: Read + Drop>(
 ) -> TextRead
     requires { into.old.items ≡ [] }
     ensures failed { IsErr opened → result ≡ TextRead.Failed }
-    ensures gives { IfOk opened (λ file. WhereTold (F.remaining file) (λ bytes. Gives bytes result into.new.items)) }
+    ensures gives { IfOk opened
+        (λ file. WhereTold (F.remaining file) (λ bytes. ReadingGives bytes result into.new.items)) }
     ensures within { length into.new.items ≤ most_bytes }
     ensures full { result ≡ TextRead.TooLong → length into.new.items ≡ most_bytes }
 {
@@ -60,7 +61,7 @@ pub(crate) fn read_opened<F: Read + Drop>(
 /// Reads to the end, or as much as a file may have. A read that a signal interrupted is made again.
 pub fn read_front<F: Read>(alloc: Global, file: &mut F, into: &mut Vec<u8>) -> TextRead
     requires { into.old.items ≡ [] }
-    ensures gives { WhereTold (F.remaining file.old) (λ bytes. Gives bytes result into.new.items) }
+    ensures gives { WhereTold (F.remaining file.old) (λ bytes. ReadingGives bytes result into.new.items) }
     ensures within { length into.new.items ≤ most_bytes }
     ensures full { result ≡ TextRead.TooLong → length into.new.items ≡ most_bytes }
 {

@@ -1,6 +1,6 @@
 ghost use Rattle.std.specs.Prelude.{◌≡◌, ◌≢◌, ◌↔◌, ℕ, Ok, IfOk, length};
 ghost use Rattle.causes.specs.Cause.{Cause};
-ghost use Rattle.station_outside.specs.Outcome.{IsWithin};
+ghost use Rattle.station_outside.specs.Outcome.{OutcomeIsWithin};
 
 use crate::outcome::{Outcome, understand};
 use causes::raised;
@@ -67,10 +67,10 @@ impl<'a, R> TcpLink<'a, R> {
 }
 
 impl<R: Net<Stream = TcpStream, Listener = TcpListener> + Clock> Link for TcpLink<'_, R> {
-    ghost use Rattle.station_outside.specs.Untold.{untold};
+    ghost use Rattle.station_outside.specs.Untold.{untold_traffic};
 
     // The system's want of memory is a fault of the line.
-    ghost traffic = { untold (λ link. link.faults) (λ link. link.quiets) };
+    ghost traffic = { untold_traffic (λ link. link.faults) (λ link. link.quiets) };
 
     /// A call ends by itself within 10 seconds beside the look-up of a name. To serve is to wait for
     /// one caller, however long; another is refused from then on.
@@ -148,7 +148,7 @@ fn say(clock: &impl Clock, stream: &mut Option<TcpStream>, bytes: &[u8]) -> io::
 // Hears what comes within one quiet wait. What a signal interrupted goes on for the rest of it, and
 // takes at least what has come meanwhile.
 fn hear(clock: &impl Clock, stream: &mut Option<TcpStream>, buf: &mut [u8]) -> io::Result<Outcome>
-    ensures { IfOk result (λ heard. IsWithin heard (length buf.new)) }
+    ensures { IfOk result (λ heard. OutcomeIsWithin heard (length buf.new)) }
 {
     let stream = connected(stream)?;
     let begun = Instant::now(clock)?;

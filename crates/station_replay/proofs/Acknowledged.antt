@@ -7,10 +7,10 @@ use Rattle.vantage_frames.specs.StampFrame.{stamp_frame_of}
 use Rattle.serial_link.specs.declared.talk.TalkItem.{TalkItem}
 use Rattle.serial_link.specs.declared.talk.TalkItem.TheVariants.{Said}
 use Rattle.settings_file.specs.StationSettings.{StationSettings}
-use Rattle.packed_rows.specs.Rising.{last_stamp}
+use Rattle.packed_rows.specs.Rising.{last_row_stamp}
 use Rattle.dmpaft_driver.specs.Attempt.{Attempt, End}
-use Rattle.dmpaft_pump.specs.Batch.{slots, rising, newest, add, batches, records_in, EndsGiving}
-use Rattle.dmpaft_driver.specs.Gathered.{steps_of, RefusesLast}
+use Rattle.dmpaft_pump.specs.Batch.{slots_in_page, rising, newest, add, batches, records_in, EndsGiving}
+use Rattle.dmpaft_driver.specs.Gathered.{dump_batches, RefusesLast}
 use Rattle.dmpaft_pump.specs.Keeper.{kept_in}
 use Rattle.dmpaft_driver.specs.OneAttempt.{Acknowledges}
 use Rattle.dmpaft_driver.specs.Outcome.{Ended, IsCutAfter}
@@ -26,7 +26,7 @@ use Rattle.station_session.proofs.Stamps.{stored_append}
 use Rattle.schedule_file.specs.Fates.{Fates}
 use Rattle.station_sim.specs.Line.{Line}
 use Rattle.station_sim.specs.Talk.{started}
-use Rattle.station_replay.specs.Acknowledged.{rows_behind, rows_with, KeepsAcknowledged, AreAcknowledged, AreJustAcknowledged, KeepsJustAcknowledged, TakesOneMore}
+use Rattle.station_replay.specs.Acknowledged.{rows_after_attempts, rows_with_pages, KeepsAcknowledged, AreAcknowledged, AreJustAcknowledged, KeepsJustAcknowledged, TakesOneMore}
 use Rattle.station_replay.specs.Schedule.{Stop}
 use Rattle.station_replay.specs.Keeping.{Archive}
 use Rattle.station_replay.proofs.Trying.{Keeping, Tries}
@@ -50,22 +50,22 @@ stored_front settings rows xs ys (rest, e) = (
 
 -- An attempt of a round, made behind these rows: the round kept what it kept by its end.
 pub record Within (settings : StationSettings) (rows : List Row) (t : Attempted) (kept : List Row) : Type 0 where
-  pub tried : IsTried (last_stamp rows) t.made
-  pub batches_are : t.batches ≡ batches (last_stamp rows) t.made.place t.made.taken
+  pub tried : IsTried (last_row_stamp rows) t.made
+  pub batches_are : t.batches ≡ batches (last_row_stamp rows) t.made.place t.made.taken
   pub plain : IsPlain t.made.end
   pub keeps : IsFrontOf (and_rows settings rows (kept_batches t.made.end t.batches)) kept
 
 -- what was acknowledged in it was kept
-pub acked_within : (settings : StationSettings) (rows : List Row) (t : Attempted) (kept : List Row) (place : ℕ) (pages : List (List ℕ)) → Within settings rows t kept → Acknowledges (stamp_frame_of (last_stamp rows)) t.made.said place pages → IsFrontOf (rows_with settings rows place pages) kept
+pub acked_within : (settings : StationSettings) (rows : List Row) (t : Attempted) (kept : List Row) (place : ℕ) (pages : List (List ℕ)) → Within settings rows t kept → Acknowledges (stamp_frame_of (last_row_stamp rows)) t.made.said place pages → IsFrontOf (rows_with_pages settings rows place pages) kept
 acked_within settings rows t kept place pages w said =
     let m = t.made in
-    let last = last_stamp rows in
+    let last = last_row_stamp rows in
     let mine = batches last place pages in
     let own = records_in (kept_batches m.end t.batches) in
-    let same : kept_records (steps_of m.end last m.place m.taken) ≡ own = kept_by_end m.end (batches last m.place m.taken) ∙ ap (λ (x : List (List (List ℕ))). records_in (kept_batches m.end x)) (sym w.batches_are) in
-    let all : IsFrontOf mine (kept_in (steps_of m.end last m.place m.taken)) = acknowledged_are_kept last m.said m.place place m.taken pages m.end w.tried said in
-    let front : IsFrontOf (records_in mine) own = subst (λ (x : List (List ℕ)). IsFrontOf (records_in mine) x) same (records_front mine (kept_in (steps_of m.end last m.place m.taken)) all) in
-    front_join (rows_with settings rows place pages) (and_rows settings rows (kept_batches m.end t.batches)) kept (stored_front settings rows (records_in mine) own front) w.keeps
+    let same : kept_records (dump_batches m.end last m.place m.taken) ≡ own = kept_by_end m.end (batches last m.place m.taken) ∙ ap (λ (x : List (List (List ℕ))). records_in (kept_batches m.end x)) (sym w.batches_are) in
+    let all : IsFrontOf mine (kept_in (dump_batches m.end last m.place m.taken)) = acknowledged_are_kept last m.said m.place place m.taken pages m.end w.tried said in
+    let front : IsFrontOf (records_in mine) own = subst (λ (x : List (List ℕ)). IsFrontOf (records_in mine) x) same (records_front mine (kept_in (dump_batches m.end last m.place m.taken)) all) in
+    front_join (rows_with_pages settings rows place pages) (and_rows settings rows (kept_batches m.end t.batches)) kept (stored_front settings rows (records_in mine) own front) w.keeps
 
 nothing : (xs later : List Attempted) (t : Attempted) → [] ≡ xs ++ t ∷ later → ⊥
 nothing [] later t none = cc
@@ -125,7 +125,7 @@ module _ (settings : StationSettings) (f : Fates) (stop : Option Stop) where
       }
 
   within : (n m : ℕ) (a : Archive) (w : Line) (ts : List Attempted) (end : Ending) (kept at : Archive) (v : Line) → Tries settings f stop n m a w ts end kept at v → (earlier : List Attempted) (t : Attempted) (later : List Attempted) → ts ≡ earlier ++ t ∷ later
-      → Within settings (rows_behind settings a.rows earlier) t kept.rows
+      → Within settings (rows_after_attempts settings a.rows earlier) t kept.rows
   within n m a w [] end kept at v h earlier t later is = absurd (nothing earlier later t is)
   within n m a w (y ∷ ts) end kept at v h [] t later is =
       let same : y ≡ t = cc in
@@ -134,7 +134,7 @@ module _ (settings : StationSettings) (f : Fates) (stop : Option Stop) where
       let same : y ≡ z = cc in
       let rest : ts ≡ earlier ++ t ∷ later = cc in
       let p = keeps_part settings stop m a y.batches (Keeping.Goes g b) keeps in
-      subst (λ (rows : List Row). Within settings (rows_behind settings rows earlier) t kept.rows) (p.0 ∙ ap (λ (q : Attempted). and_rows settings a.rows q.batches) same) (within (n + 1) g b x ts end kept at v again earlier t later rest)
+      subst (λ (rows : List Row). Within settings (rows_after_attempts settings rows earlier) t kept.rows) (p.0 ∙ ap (λ (q : Attempted). and_rows settings a.rows q.batches) same) (within (n + 1) g b x ts end kept at v again earlier t later rest)
   within n m a w (y ∷ ts) end kept at v (less, (x, b, k, inr (inl (g, keeps, whole, none, ended, kb, lb, e)))) (z ∷ earlier) t later is =
       let rest : ts ≡ earlier ++ t ∷ later = cc in
       absurd (nothing earlier later t (sym none ∙ rest))
@@ -147,16 +147,16 @@ module _ (settings : StationSettings) (f : Fates) (stop : Option Stop) where
 
   -- each attempt of a round by the rules
   round_within : (left : ℕ → List (List ℕ)) (s : Stage) (x : Rounded) (u : Stage) → IsRound settings f left stop s x u → (earlier : List Attempted) (t : Attempted) (later : List Attempted) → x.tried ≡ earlier ++ t ∷ later
-      → Within settings (rows_behind settings x.before earlier) t x.kept
+      → Within settings (rows_after_attempts settings x.before earlier) t x.kept
   round_within left s x u round earlier t later is =
       let k = followed settings f stop left s x u round in
       let before : x.before ≡ s.archive.rows = k.before_is in
       let kept : x.kept ≡ k.kept.rows = k.kept_is in
       let w = within 0 0 s.archive (started s.line) x.tried x.end k.kept k.archive k.line k.tries earlier t later is in
-      subst (λ (rows : List Row). Within settings (rows_behind settings rows earlier) t x.kept) (sym before) (subst (λ (rows : List Row). Within settings (rows_behind settings s.archive.rows earlier) t rows) (sym kept) w)
+      subst (λ (rows : List Row). Within settings (rows_after_attempts settings rows earlier) t x.kept) (sym before) (subst (λ (rows : List Row). Within settings (rows_after_attempts settings s.archive.rows earlier) t rows) (sym kept) w)
 
   pub keeps_acknowledged : (left : ℕ → List (List ℕ)) (s : Stage) (x : Rounded) (u : Stage) → IsRound settings f left stop s x u → KeepsAcknowledged settings x
-  keeps_acknowledged left s x u k earlier t later place pages is said = acked_within settings (rows_behind settings x.before earlier) t x.kept place pages (round_within left s x u k earlier t later is) said
+  keeps_acknowledged left s x u k earlier t later place pages is said = acked_within settings (rows_after_attempts settings x.before earlier) t x.kept place pages (round_within left s x u k earlier t later is) said
 
 none_or_some : (l : List (List ℕ)) → (l ≡ []) ⊎ (l ≢ [])
 none_or_some [] = inl refl
@@ -181,17 +181,17 @@ add_one : (rows : List (List ℕ)) → rows ≢ [] → add rows [] ≡ rows ∷ 
 add_one [] some = absurd (some refl)
 add_one (r ∷ rows) some = refl
 
-gives_next : (after : Option CivilMinute) (place : ℕ) (page : List ℕ) (first : List (List ℕ)) (last : List ℕ) → EndsGiving after place (page ∷ (first ++ last ∷ [])) → EndsGiving (newest after (slots place page)) 0 (first ++ last ∷ [])
+gives_next : (after : Option CivilMinute) (place : ℕ) (page : List ℕ) (first : List (List ℕ)) (last : List ℕ) → EndsGiving after place (page ∷ (first ++ last ∷ [])) → EndsGiving (newest after (slots_in_page place page)) 0 (first ++ last ∷ [])
 gives_next after place page [] last x = x
 gives_next after place page (next ∷ first) last x = x
 
 -- the batch of the last page is the last batch, where that page gives one
 batches_last : (after : Option CivilMinute) (place : ℕ) (first : List (List ℕ)) (last : List ℕ) → EndsGiving after place (first ++ last ∷ []) → (b : List (List ℕ)) × (batches after place (first ++ last ∷ []) ≡ batches after place first ++ b ∷ [])
-batches_last after place [] last x = (rising after (slots place last), add_one (rising after (slots place last)) x)
+batches_last after place [] last x = (rising after (slots_in_page place last), add_one (rising after (slots_in_page place last)) x)
 batches_last after place (page ∷ first) last x =
-    let n = newest after (slots place page) in
+    let n = newest after (slots_in_page place page) in
     let s = batches_last n 0 first last (gives_next after place page first last x) in
-    (s.0, ap (λ (z : List (List (List ℕ))). add (rising after (slots place page)) z) s.1 ∙ add_before (rising after (slots place page)) (batches n 0 first) s.0)
+    (s.0, ap (λ (z : List (List (List ℕ))). add (rising after (slots_in_page place page)) z) s.1 ∙ add_before (rising after (slots_in_page place page)) (batches n 0 first) s.0)
 
 none_behind : (xs ys : List (List ℕ)) → xs ++ ys ≡ [] → ys ≡ []
 none_behind [] ys e = e
@@ -348,6 +348,6 @@ takes_one_more after t h = most_ended after t.said t.place t.taken t.end h.ends
 pub round_keeps_just : (settings : StationSettings) (f : Fates) (left : ℕ → List (List ℕ)) (stop : Option Stop) (s : Stage) (x : Rounded) (u : Stage) → IsRound settings f left stop s x u → KeepsJustAcknowledged settings x
 round_keeps_just settings f left stop s x u k earlier t later is =
     let w = round_within settings f stop left s x u k earlier t later is in
-    let last = last_stamp (rows_behind settings x.before earlier) in
+    let last = last_row_stamp (rows_after_attempts settings x.before earlier) in
     let q = just_ended last t.made.said t.made.place t.made.taken t.made.end w.plain w.tried.ends w.tried.refused in
     (q.0, q.1, ap (kept_batches t.made.end) w.batches_are ∙ q.2)

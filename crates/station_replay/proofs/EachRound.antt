@@ -2,8 +2,8 @@
 use Rattle.std.proofs.Common.{ℕ, Bool, true, false, inl, inr, List, [], ◌∷◌, ◌++◌, Option, Some, None, sym, subst}
 use Rattle.settings_file.specs.StationSettings.{StationSettings}
 use Rattle.schedule_file.specs.Fates.{Fates}
-use Rattle.station_replay.specs.Schedule.{Stop, Step}
-use Rattle.station_replay.specs.Replay.{Rounded, Item, Stage, IsRound, Does, Runs, Opens, IsReplay, IsBegun, first, opened, stops_opening, closing}
+use Rattle.station_replay.specs.Schedule.{Stop, ReplayStep}
+use Rattle.station_replay.specs.Replay.{Rounded, Item, Stage, IsRound, Does, Runs, Opens, IsReplay, RunIsBegun, opening_if_closed, opened, stops_opening, closing_items}
 use Rattle.station_replay.specs.Acknowledged.{AllRounds}
 
 module _ (settings : StationSettings) (P : Rounded → Type 0) (law : (f : Fates) (left : ℕ → List (List ℕ)) (stop : Option Stop) (s : Stage) (x : Rounded) (u : Stage) → IsRound settings f left stop s x u → P x) where
@@ -16,11 +16,11 @@ module _ (settings : StationSettings) (P : Rounded → Type 0) (law : (f : Fates
   joined (Item.Ended rows ∷ xs) ys h k = joined xs ys h k
 
   -- an opening is no round
-  behind_first : (t : Bool) (s : Stage) (o : List Item) → AllRounds P o → AllRounds P (first t s ++ o)
+  behind_first : (t : Bool) (s : Stage) (o : List Item) → AllRounds P o → AllRounds P (opening_if_closed t s ++ o)
   behind_first true s o h = h
   behind_first false s o h = h
 
-  in_first : (t : Bool) (s : Stage) → AllRounds P (first t s)
+  in_first : (t : Bool) (s : Stage) → AllRounds P (opening_if_closed t s)
   in_first true s = tt
   in_first false s = tt
 
@@ -28,23 +28,23 @@ module _ (settings : StationSettings) (P : Rounded → Type 0) (law : (f : Fates
   in_opening true k s is u (i, n) = subst (AllRounds P) (sym i) tt
   in_opening false k s is u (i, n) = subst (AllRounds P) (sym i) tt
 
-  in_step : (x : Step) (s : Stage) (is : List Item) (u : Stage) → Does settings x s is u → AllRounds P is
-  in_step (Step.Due rs) s is u (i, n) = subst (AllRounds P) (sym i) tt
-  in_step (Step.Idle n) s is u (i, e) = subst (AllRounds P) (sym i) tt
-  in_step (Step.Open None) s is u (i, n) = subst (AllRounds P) (sym i) tt
-  in_step (Step.Open (Some k)) s is u h = in_opening (stops_opening k.change s.archive.size) k s is u h
-  in_step (Step.Round f left stop) s is u (x, k, i) = subst (AllRounds P) (sym i) (behind_first s.is_open s (Item.Ran x ∷ []) (law f left stop (opened s.is_open s) x u k, tt))
+  in_step : (x : ReplayStep) (s : Stage) (is : List Item) (u : Stage) → Does settings x s is u → AllRounds P is
+  in_step (ReplayStep.Due rs) s is u (i, n) = subst (AllRounds P) (sym i) tt
+  in_step (ReplayStep.Idle n) s is u (i, e) = subst (AllRounds P) (sym i) tt
+  in_step (ReplayStep.Open None) s is u (i, n) = subst (AllRounds P) (sym i) tt
+  in_step (ReplayStep.Open (Some k)) s is u h = in_opening (stops_opening k.change s.archive.size) k s is u h
+  in_step (ReplayStep.Round f left stop) s is u (x, k, i) = subst (AllRounds P) (sym i) (behind_first s.is_open s (Item.Ran x ∷ []) (law f left stop (opened s.is_open s) x u k, tt))
 
-  in_steps : (xs : List Step) (s : Stage) (is : List Item) (u : Stage) → Runs settings xs s is u → AllRounds P is
+  in_steps : (xs : List ReplayStep) (s : Stage) (is : List Item) (u : Stage) → Runs settings xs s is u → AllRounds P is
   in_steps [] s is u (none, same) = subst (AllRounds P) (sym none) tt
   in_steps (x ∷ xs) s is u (mid, now, rest, split, does, again) = subst (AllRounds P) (sym split) (joined now rest (in_step x s now mid does) (in_steps xs mid rest u again))
 
-  pub in_replay : (s : Stage) (steps : List Step) (o : List Item) → IsReplay settings s steps o → AllRounds P o
-  in_replay s steps o (inl (is, u, runs, all)) = subst (AllRounds P) (sym all) (joined is (closing u) (in_steps steps s is u runs) (behind_first u.is_open u (Item.Ended u.archive.rows ∷ []) tt))
+  pub in_replay : (s : Stage) (steps : List ReplayStep) (o : List Item) → IsReplay settings s steps o → AllRounds P o
+  in_replay s steps o (inl (is, u, runs, all)) = subst (AllRounds P) (sym all) (joined is (closing_items u) (in_steps steps s is u runs) (behind_first u.is_open u (Item.Ended u.archive.rows ∷ []) tt))
   in_replay s steps o (inr (xs, ys, f, left, stop, is, u, i, split, runs, broken, all)) =
       let unsaid : AllRounds P (i ∷ []) = subst (λ (y : Item). AllRounds P (y ∷ [])) (sym broken.is) tt in
-      subst (AllRounds P) (sym all) (joined is (first u.is_open u ++ i ∷ []) (in_steps xs s is u runs) (behind_first u.is_open u (i ∷ []) unsaid))
+      subst (AllRounds P) (sym all) (joined is (opening_if_closed u.is_open u ++ i ∷ []) (in_steps xs s is u runs) (behind_first u.is_open u (i ∷ []) unsaid))
 
-  pub in_begun : (s : Stage) (steps : List Step) (o : List Item) → IsBegun settings s steps o → AllRounds P o
+  pub in_begun : (s : Stage) (steps : List ReplayStep) (o : List Item) → RunIsBegun settings s steps o → AllRounds P o
   in_begun s steps o (xs, ys, is, u, split, runs, inl z) = subst (AllRounds P) (sym z) (in_steps xs s is u runs)
-  in_begun s steps o (xs, ys, is, u, split, runs, inr z) = subst (AllRounds P) (sym z.1) (joined is (first u.is_open u) (in_steps xs s is u runs) (in_first u.is_open u))
+  in_begun s steps o (xs, ys, is, u, split, runs, inr z) = subst (AllRounds P) (sym z.1) (joined is (opening_if_closed u.is_open u) (in_steps xs s is u runs) (in_first u.is_open u))

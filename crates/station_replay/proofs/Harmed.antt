@@ -20,14 +20,14 @@ use Rattle.station_session.specs.Batches.{last_answer, Fit}
 use Rattle.station_session.proofs.Ends.{last_in, went_on}
 use Rattle.station_session.proofs.Parts.{fit_parts}
 use Rattle.station_session.specs.declared.report.Report.{Report}
-use Rattle.station_session.specs.Round.{RoundHost, Serves, AnswersRound}
-use Rattle.packed_rows.specs.Rising.{last_stamp}
+use Rattle.station_session.specs.Round.{RoundHost, ServesRound, AnswersRound}
+use Rattle.packed_rows.specs.Rising.{last_row_stamp}
 use Rattle.station_base.specs.declared.row.Row.{Row}
 use Rattle.disk_model.specs.Medium.{Medium}
 use Rattle.station_sim.specs.declared.sim.Sim.{Sim}
 use Rattle.schedule_file.specs.Lists.{fates_of}
-use Rattle.station_sim.specs.Standing.{StandsFor}
-use Rattle.station_sim.specs.Telling.{told}
+use Rattle.station_sim.specs.Standing.{SimStandsFor}
+use Rattle.station_sim.specs.Telling.{sim_traffic}
 use Rattle.station_sim.proofs.Falls.{fates_sound}
 use Rattle.station_sim.specs.Calm.{IsCalm}
 use Rattle.schedule_file.specs.Fates.{Fates}
@@ -190,13 +190,13 @@ module _ (f : Fates) (ok : AreSound f) (failed short : Type 0) where
       record { each = q.each; gave_up = λ gave. let z = q.gave_up gave in (omega (arith, z.0), z.1); spared = q.spared; calm = q.calm }
 
 -- a session's round over a line in memory
-pub round_law : {D : Type 0} (medium : Medium D) (rows : List Row) (end : RoundEnd) (old new : RoundHost Sim D) (report : Report) (w : Line) → (round : Serves told medium rows end old new report) →
-    AnswersRound told medium end old new report.attempts → StandsFor old.link w → IsCalm w →
-    (v : Line) × StandsFor new.link v × (v.unseen ≡ None → HarmTells (DiskFailed medium old new) (LinkShort old new) (fates_of old.link.fates) w round.tries end v)
+pub round_law : {D : Type 0} (medium : Medium D) (rows : List Row) (end : RoundEnd) (old new : RoundHost Sim D) (report : Report) (w : Line) → (round : ServesRound sim_traffic medium rows end old new report) →
+    AnswersRound sim_traffic medium end old new report.attempts → SimStandsFor old.link w → IsCalm w →
+    (v : Line) × SimStandsFor new.link v × (v.unseen ≡ None → HarmTells (DiskFailed medium old new) (LinkShort old new) (fates_of old.link.fates) w round.tries end v)
 round_law medium rows end old new report w round answers stands calm =
     let v = round.adds.went.line w stands in (
       v.0,
       v.2,
-      λ un. round_over (fates_of old.link.fates) (fates_sound old.link.fates) (DiskFailed medium old new) (LinkShort old new) _ (length rows) (last_stamp rows) round.tries end w v.0 round.attempts round.stores.fit
+      λ un. round_over (fates_of old.link.fates) (fates_sound old.link.fates) (DiskFailed medium old new) (LinkShort old new) _ (length rows) (last_row_stamp rows) round.tries end w v.0 round.attempts round.stores.fit
           answers.disk_fault.rose (λ some short. answers.shortage.rose (short, (omega (arith, some, round.made)))) (λ fault. absurd (let z : Rose 0 0 = answers.fault.rose fault in omega (arith, z))) stands.sound calm v.1 un,
     )

@@ -8,22 +8,22 @@ use Rattle.dmpaft_pump.specs.Batch.{batches}
 use Rattle.dmpaft_driver.specs.Gathered as outcome
 use Rattle.dmpaft_pump.specs.Keeper.{Handed, join}
 use Rattle.packed_rows.specs.Closing.{closings, begins_day}
-use Rattle.packed_rows.specs.Rising.{last_stamp}
+use Rattle.packed_rows.specs.Rising.{last_row_stamp}
 use Rattle.packed_rows.specs.Rows.{slot_total}
 use Rattle.packed_rows.proofs.RowLaws.{total_push}
 use Rattle.station_session.specs.Attempts.{Tried, all_batches, batches_in, stamp_after}
 use Rattle.station_session.specs.Batches.{all_records, kept_records, last_answer}
-use Rattle.station_session.specs.Holding.{rows_with}
+use Rattle.station_session.specs.Holding.{rows_after_batches}
 use Rattle.station_session.specs.Records.{AllRead}
 use Rattle.station_replay.specs.Keeping.{Archive}
 use Rattle.station_replay.specs.Schedule.{Stop}
-use Rattle.station_replay.specs.Session.{left_after}
+use Rattle.station_replay.specs.Session.{archive_left_after}
 use Rattle.station_replay.proofs.Stamped.{read_front, read_back, batches_read}
 use Rattle.station_replay.proofs.Stops.{rows_kept, left_kept}
 use Rattle.station_replay.proofs.Wanted.{answered_all}
 
 -- the rows after batches none of which met a disk fault
-pub rows_after : (settings : StationSettings) (stop : Option Stop) (n : ℕ) (a : Archive) (steps : Handed) → last_answer steps ≢ kept.DiskFault → (left_after settings stop n a steps).rows ≡ rows_with settings a.rows steps
+pub rows_after : (settings : StationSettings) (stop : Option Stop) (n : ℕ) (a : Archive) (steps : Handed) → last_answer steps ≢ kept.DiskFault → (archive_left_after settings stop n a steps).rows ≡ rows_after_batches settings a.rows steps
 rows_after settings stop n a steps none = ap (λ (x : Archive). x.rows) (left_kept settings stop n a steps none) ∙ sym (rows_kept settings a steps)
 
 -- records that read as rows behind others
@@ -61,7 +61,7 @@ total_more rows [] = let e = ap slot_total (append-nil rows) in omega (arith, e)
 total_more rows (row ∷ more) =
     let e = ap slot_total (append_assoc rows (row ∷ []) more) in
     let rest = total_more (rows ++ row ∷ []) more in
-    omega (arith, e, rest, total_push rows row, few_closings (begins_day (last_stamp rows) row.stamp))
+    omega (arith, e, rest, total_push rows row, few_closings (begins_day (last_row_stamp rows) row.stamp))
 
 pub total_few : (rows : List Row) → slot_total rows ≤ 14 * length rows
 total_few rows = let m = total_more [] rows in omega (arith, m)

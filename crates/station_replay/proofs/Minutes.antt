@@ -15,12 +15,12 @@ use Rattle.archive_record.specs.Reading.{is_unwritten, stamp_in, dated, reading}
 use Rattle.archive_record.specs.Record.{IsRow, ReadsAsRow}
 use Rattle.vantage_frames.specs.StampFrame.{stamp_frame_of}
 use Rattle.loop_packet.specs.declared.packet.LoopPacket.{LoopPacket}
-use Rattle.console_ring.specs.History.{retained, newer, newest_of, is_newer, CanExtend, IsHistory, ring_size}
+use Rattle.console_ring.specs.History.{retained, newer, newest_stamp, record_is_newer, CanExtend, IsHistory, ring_size}
 use Rattle.console_ring.specs.Picture.{plan_of, plan_of_last}
 use Rattle.console_ring.proofs.Histories.{first_follows, later_follows}
 use Rattle.console_ring.proofs.Latest.{plan_newer}
-use Rattle.console_model.specs.Console.{Store, Console, fresh}
-use Rattle.console_model.specs.Console.State.{Command}
+use Rattle.console_model.specs.Console.{Store, Console, fresh_console}
+use Rattle.console_model.specs.Console.ConsoleState.{Command}
 use Rattle.console_model.specs.Due.{due_by, in_the_way, unexceeded}
 use Rattle.console_model.specs.Spelling.{plan_after, time_in}
 use Rattle.console_model.specs.Valid.{EachFollows}
@@ -32,7 +32,7 @@ use Rattle.station_sim.specs.Sound.{AreRecords, IsSound}
 use Rattle.station_sim.proofs.Sounding.{well_due_all, is_well, is_sound}
 use Rattle.line_laws.specs.Gathers.{newer_held}
 use Rattle.station_replay.specs.Minutes.{zeros, time_word, minute_record, minute_records, new_line, filled_line}
-use Rattle.station_replay.specs.Schedule.{Step, IsSchedule}
+use Rattle.station_replay.specs.Schedule.{ReplayStep, IsSchedule}
 use Rattle.line_laws.proofs.Asked.{at_state}
 use Rattle.line_laws.proofs.Batches.{frame_words}
 use Rattle.line_laws.proofs.Levels.{newest_more}
@@ -81,7 +81,7 @@ next_later n small =
 
 -- the newest stamp is that of the minute before, if there is one
 pub Before : ℕ → List (List ℕ) → Type 0
-Before n h = (newest_of h ≡ None) ⊎ ((m : ℕ) × (n ≡ m + 1) × (newest_of h ≡ Some (at_minute m)))
+Before n h = (newest_stamp h ≡ None) ⊎ ((m : ℕ) × (n ≡ m + 1) × (newest_stamp h ≡ Some (at_minute m)))
 
 can_extend : (n : ℕ) (h : List (List ℕ)) → n < 40320 → Before n h → CanExtend h (minute_record n)
 unfolding Before
@@ -139,7 +139,7 @@ minutes_drop (suc d) count n =
     ap (λ k. drop (suc d) (minute_records n k)) (let e : suc d + count ≡ suc (d + count) = omega arith in e)
     ∙ minutes_drop d count (n + 1) ∙ ap (λ k. minute_records k count) (let e : n + 1 + d ≡ n + suc d = omega arith in e)
 
-newer_one : (n : ℕ) → is_newer 0 0 (minute_record n) ≡ true
+newer_one : (n : ℕ) → record_is_newer 0 0 (minute_record n) ≡ true
 unfolding minute_record
 newer_one n = let date : word_at (minute_record n) 0 ≡ 33 + n / 1440 = omega arith in ap (λ d. nat_lt 0 d || (0 == d && nat_lt 0 (word_at (minute_record n) 2))) date ∙ (let x : nat_lt 0 (33 + n / 1440) ≡ true = grind (arith, nat_tests) in rw x refl)
 
@@ -147,7 +147,7 @@ minutes_newer : (count n : ℕ) → newer 0 0 (minute_records n count) ≡ minut
 unfolding minute_records
 minutes_newer zero n = refl
 minutes_newer (suc count) n =
-    ap (λ t. cond t (minute_record n ∷ filter (is_newer 0 0) (minute_records (n + 1) count)) (filter (is_newer 0 0) (minute_records (n + 1) count))) (newer_one n)
+    ap (λ t. cond t (minute_record n ∷ filter (record_is_newer 0 0) (minute_records (n + 1) count)) (filter (record_is_newer 0 0) (minute_records (n + 1) count))) (newer_one n)
     ∙ ap (λ xs. minute_record n ∷ xs) (minutes_newer count (n + 1))
 
 -- the archive has the last of them, and all of these are newer than no stamp
@@ -174,7 +174,7 @@ minutes_plan count many small =
     ap (λ d. plan_of h d (time_in (stamp_frame_of None))) words.0 ∙ ap (λ t. plan_of h 0 t) words.1 ∙ plan_newer h 0 0 (minutes_history count small)
     ∙ ap (λ n. plan_of_last n (length h)) found ∙ ap (plan_of_last ring_size) (minutes_count count 0)
 
-pub minutes_schedule : (count : ℕ) → count ≤ 40320 → IsSchedule (Step.Due (minute_records 0 count) ∷ [])
+pub minutes_schedule : (count : ℕ) → count ≤ 40320 → IsSchedule (ReplayStep.Due (minute_records 0 count) ∷ [])
 unfolding Before
 minutes_schedule count small = record {
   each = (tt, tt);
@@ -192,7 +192,7 @@ pub all_put : (rs h : List (List ℕ)) (d : Store) (i : ℕ) → EachFollows h r
 all_put [] h d i each = ap (λ g. at_state g d [] (Command []) i) (sym (append-nil h))
 all_put (r ∷ rs) h d i each =
     let c = at_state h d [] (Command []) i in
-    let way : in_the_way r c ≡ None = ap (λ g. unexceeded (newest_of g) (stamp_in r)) (append-nil h) ∙ nothing_before (newest_of h) (stamp_in r) each.0 in
+    let way : in_the_way r c ≡ None = ap (λ g. unexceeded (newest_stamp g) (stamp_in r)) (append-nil h) ∙ nothing_before (newest_stamp h) (stamp_in r) each.0 in
     ap (λ w. due_all rs (due_by w r c)) way ∙ all_put rs (h ++ r ∷ []) d i each.1 ∙ ap (λ g. at_state g d [] (Command []) i) (append_assoc h (r ∷ []) rs)
 
 -- a line to a new console is calm and sound
@@ -200,12 +200,12 @@ pub new_calm : (eeprom : List ℕ) (packet : LoopPacket) → IsCalm (new_line ee
 new_calm eeprom packet = record { begun = refl; brief = tt; bytes = omega arith; closed = tt; waits = tt }
 
 pub new_sound : (eeprom : List ℕ) (packet : LoopPacket) → IsSound (new_line eeprom packet)
-new_sound eeprom packet = record { valid = holds_none (fresh eeprom packet) refl no_history (omega arith); rises = tt; records = tt }
+new_sound eeprom packet = record { valid = holds_none (fresh_console eeprom packet) refl no_history (omega arith); rises = tt; records = tt }
 
 pub filled_console : (count : ℕ) (eeprom : List ℕ) (packet : LoopPacket) → count ≤ 40320 →
-    (filled_line count eeprom packet).console ≡ at_state (minute_records 0 count) (fresh eeprom packet).store [] (Command []) 0
+    (filled_line count eeprom packet).console ≡ at_state (minute_records 0 count) (fresh_console eeprom packet).store [] (Command []) 0
 unfolding Before
-filled_console count eeprom packet small = all_put (minute_records 0 count) [] (fresh eeprom packet).store 0 (minutes_follow count 0 [] (omega (arith, small)) (inl refl))
+filled_console count eeprom packet small = all_put (minute_records 0 count) [] (fresh_console eeprom packet).store 0 (minutes_follow count 0 [] (omega (arith, small)) (inl refl))
 
 pub filled_history : (count : ℕ) (eeprom : List ℕ) (packet : LoopPacket) → count ≤ 40320 → (filled_line count eeprom packet).console.history ≡ minute_records 0 count
 filled_history count eeprom packet small = ap (λ c. c.history) (filled_console count eeprom packet small)
@@ -222,4 +222,4 @@ filled_calm count eeprom packet small =
     }
 
 pub filled_sound : (count : ℕ) (eeprom : List ℕ) (packet : LoopPacket) → count ≤ 40320 → IsSound (filled_line count eeprom packet)
-filled_sound count eeprom packet small = is_sound (filled_line count eeprom packet) (well_due_all (minute_records 0 count) (fresh eeprom packet) (are_records count 0 (omega (arith, small))) (is_well (new_line eeprom packet) (new_sound eeprom packet)))
+filled_sound count eeprom packet small = is_sound (filled_line count eeprom packet) (well_due_all (minute_records 0 count) (fresh_console eeprom packet) (are_records count 0 (omega (arith, small))) (is_well (new_line eeprom packet) (new_sound eeprom packet)))

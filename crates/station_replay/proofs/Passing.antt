@@ -3,7 +3,7 @@ use Rattle.std.proofs.Common.{◌≡◌, ◌≢◌, ℕ, ◌+◌, ◌-◌, ◌*�
 use Rattle.std.specs.Prelude.{◌&&◌}
 use Rattle.std.proofs.lemmas.Option.{same_Some}
 use Rattle.disk_model.specs.Calls.{DiskCall, attached, measured, was_read, wrote, synced, answered_failed, is_change}
-use Rattle.disk_model.specs.DiskState.{DiskState, counted, done, next, must_fail, after_call, same_truth, says_size}
+use Rattle.disk_model.specs.DiskState.{DiskState, call_counted, call_done, next_disk_state, must_fail, after_call, same_truth, says_size}
 use Rattle.disk_model.specs.StoppingState.{StoppingState, after_stop, and_stop, after_stops, within_stop, where_failed, go_on}
 use Rattle.disk_model.specs.declared.disk.Disked.TheVariants.{Done}
 use Rattle.gated_log.specs.Calls.{up_to, four_changes}
@@ -12,7 +12,7 @@ use Rattle.settings_file.specs.StationSettings.{StationSettings}
 use Rattle.dmpaft_pump.specs.Keeper.{Refusal, Handed}
 use Rattle.causes.specs.declared.stored.Stored.TheVariants as kept
 use Rattle.packed_rows.specs.Rows.{slot_total}
-use Rattle.packed_rows.specs.Rising.{last_stamp}
+use Rattle.packed_rows.specs.Rising.{last_row_stamp}
 use Rattle.station_session.specs.Batches.{kept_count, kept_records, last_answer, changes_for, slots_more}
 use Rattle.station_session.specs.Records.{stored_rows}
 use Rattle.station_session.specs.Attempts.{Tried, all_batches}
@@ -32,20 +32,20 @@ pub record KeepsLimits (s u : DiskState) : Type 0 where
 keeps_same : (s u : DiskState) → u ≡ s → KeepsLimits s u
 keeps_same s u is = record { limits = ap (λ x. x.limits) is; sure = λ z. ap (λ x. x.fails_at) is ∙ z }
 
-keeps_counted : (s : DiskState) → KeepsLimits s (counted s)
+keeps_counted : (s : DiskState) → KeepsLimits s (call_counted s)
 keeps_counted s = record { limits = refl; sure = λ z. omega (arith, z) }
 
-keeps_done : (s : DiskState) (call : DiskCall) → KeepsLimits s (done (counted s) call)
+keeps_done : (s : DiskState) (call : DiskCall) → KeepsLimits s (call_done (call_counted s) call)
 keeps_done s (attached name make answer) = keeps_counted s
 keeps_done s (measured answer) = keeps_counted s
 keeps_done s (was_read at n answer) = keeps_counted s
 keeps_done s (wrote at len byte answer) = record { limits = refl; sure = λ z. omega (arith, z) }
 keeps_done s (synced answer) = record { limits = refl; sure = λ z. omega (arith, z) }
 
-keeps_next : (s : DiskState) (call : DiskCall) → KeepsLimits s (next s call)
+keeps_next : (s : DiskState) (call : DiskCall) → KeepsLimits s (next_disk_state s call)
 keeps_next s call = go (must_fail s call)
   where
-    go : (t : Bool) → KeepsLimits s (if t then counted s else done (counted s) call)
+    go : (t : Bool) → KeepsLimits s (if t then call_counted s else call_done (call_counted s) call)
     go true = keeps_counted s
     go false = keeps_done s call
 
@@ -66,17 +66,17 @@ keeps_failed call s x u k h = go (answered_failed call) h
 keeps_on : (s : StoppingState) (call : DiskCall) (armed : ℕ) (u : StoppingState) → go_on armed s.pick (after_call s.inner call) ≡ Some u → KeepsLimits s.inner u.inner
 keeps_on s call armed u h = go (same_truth (must_fail s.inner call) (answered_failed call) && says_size s.inner.size call) h
   where
-    go : (t : Bool) → go_on armed s.pick (if t then Some (next s.inner call) else None) ≡ Some u → KeepsLimits s.inner u.inner
-    go true e = subst (λ (y : StoppingState). KeepsLimits s.inner y.inner) (same_Some (record { inner = next s.inner call; armed = armed; pick = s.pick; stopped = false }) u e) (keeps_next s.inner call)
+    go : (t : Bool) → go_on armed s.pick (if t then Some (next_disk_state s.inner call) else None) ≡ Some u → KeepsLimits s.inner u.inner
+    go true e = subst (λ (y : StoppingState). KeepsLimits s.inner y.inner) (same_Some (record { inner = next_disk_state s.inner call; armed = armed; pick = s.pick; stopped = false }) u e) (keeps_next s.inner call)
     go false e = absurd cc
 
 keeps_call : (s u : StoppingState) (call : DiskCall) → after_stop s call ≡ Some u → KeepsLimits s.inner u.inner
 keeps_call s u call h = go s.stopped (is_change call && (s.armed == 1)) h
   where
-    go : (t b : Bool) → (if t then where_failed call (record s { inner = counted s.inner; stopped = true })
+    go : (t b : Bool) → (if t then where_failed call (record s { inner = call_counted s.inner; stopped = true })
         else if b then where_failed call (record s { inner = within_stop s.inner call; armed = 0; stopped = true })
         else go_on (if is_change call then s.armed - 1 else s.armed) s.pick (after_call s.inner call)) ≡ Some u → KeepsLimits s.inner u.inner
-    go true b e = keeps_failed call s.inner (record s { inner = counted s.inner; stopped = true }) u (keeps_counted s.inner) e
+    go true b e = keeps_failed call s.inner (record s { inner = call_counted s.inner; stopped = true }) u (keeps_counted s.inner) e
     go false true e = keeps_failed call s.inner (record s { inner = within_stop s.inner call; armed = 0; stopped = true }) u (keeps_within s.inner call) e
     go false false e = keeps_on s call (if is_change call then s.armed - 1 else s.armed) u e
 
@@ -124,10 +124,10 @@ chain_passes settings rows (Handed.Kept records more) failed s u h some =
 
 -- a round passes over no stop, whatever room its disk has
 pub round_passes : (settings : StationSettings) (rows : List Row) (ts : List Tried) (stop : Option Stop) (failed : ℕ) (s u : StoppingState) → IsStop stop → s.armed ≡ armed_by stop
-    → after_stops (Some s) (changes_for settings failed rows (all_batches (last_stamp rows) ts)) ≡ Some u → NotPast stop (kept_count (all_batches (last_stamp rows) ts))
+    → after_stops (Some s) (changes_for settings failed rows (all_batches (last_row_stamp rows) ts)) ≡ Some u → NotPast stop (kept_count (all_batches (last_row_stamp rows) ts))
 round_passes settings rows ts stop failed s u is armed h =
-    not_past stop (kept_count (all_batches (last_stamp rows) ts)) is
-    (λ some. omega (arith, armed, chain_passes settings rows (all_batches (last_stamp rows) ts) failed s u h (omega (arith, armed, some))))
+    not_past stop (kept_count (all_batches (last_row_stamp rows) ts)) is
+    (λ some. omega (arith, armed, chain_passes settings rows (all_batches (last_row_stamp rows) ts) failed s u h (omega (arith, armed, some))))
 
 -- what a batch that was kept takes of the record's room
 batch_takes : (s u : StoppingState) (gate len : ℕ) → after_stops (Some s) (up_to (four_changes gate len) Done) ≡ Some u → (s.inner.changes ≤ u.inner.changes + 4) × (s.inner.bytes ≤ u.inner.bytes + (len + 1))

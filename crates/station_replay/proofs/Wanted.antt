@@ -8,14 +8,14 @@ use Rattle.causes.specs.declared.stored.Stored.{Stored}
 use Rattle.causes.specs.declared.stored.Stored.TheVariants as kept
 use Rattle.console_model.specs.Valid.{EachFollows}
 use Rattle.dmpaft_driver.specs.Attempt.{Attempt, End}
-use Rattle.dmpaft_pump.specs.Batch.{batches, records_in, answered}
+use Rattle.dmpaft_pump.specs.Batch.{batches, records_in, answered_batches}
 use Rattle.dmpaft_driver.specs.Gathered as outcome
 use Rattle.dmpaft_pump.specs.Keeper.{Handed, one_batch, kept_all, join, count}
 use Rattle.dmpaft_pump.specs.declared.outcome.DumpEnd.{DumpEnd}
 use Rattle.dmpaft_pump.specs.declared.outcome.DumpEnd.TheVariants as dump_end
 use Rattle.dmpaft_pump.proofs.Keeping.{join_none, one_size, count_join}
 use Rattle.dmpaft_driver.proofs.Bounding.{frame_long}
-use Rattle.packed_rows.specs.Rising.{last_stamp}
+use Rattle.packed_rows.specs.Rising.{last_row_stamp}
 use Rattle.station_session.specs.declared.round_end.RoundEnd.{RoundEnd}
 use Rattle.station_session.specs.declared.round_end.RoundEnd.TheVariants as round_end
 use Rattle.station_session.specs.Attempts.{Tried, Attempts, IsTried, all_said, all_batches, batches_in, end_after, stamp_after}
@@ -32,7 +32,7 @@ use Rattle.station_sim.specs.Calm.{IsCalm}
 use Rattle.station_sim.specs.Sound.{AreRecords, IsSound, AreSound}
 use Rattle.line_laws.specs.Records.{Now}
 use Rattle.station_replay.specs.Keeping.{Archive}
-use Rattle.station_replay.specs.Pairs.{Pair, Gathered, pairs_of}
+use Rattle.station_replay.specs.Pairs.{Pair, DumpsGather, dump_pairs}
 use Rattle.station_replay.specs.Room.{AreFew}
 use Rattle.station_replay.specs.Round.{Attempted, IsAttempted}
 use Rattle.line_laws.proofs.Attempts.{attempt_dry}
@@ -51,7 +51,7 @@ one_all kept.Stale b = sym (append-nil b)
 one_all kept.DiskFault b = sym (append-nil b)
 
 -- and of some of which the last was answered so
-pub answered_all : (a : Stored) (bs : List (List (List ℕ))) → all_records (answered a bs) ≡ records_in bs
+pub answered_all : (a : Stored) (bs : List (List (List ℕ))) → all_records (answered_batches a bs) ≡ records_in bs
 answered_all a [] = refl
 answered_all a (b ∷ []) = one_all a b
 answered_all a (b ∷ c ∷ bs) = ap (λ x. b ++ x) (answered_all a (c ∷ bs))
@@ -64,16 +64,16 @@ one_kept kept.Stale b h = omega arith
 one_kept kept.DiskFault b h = omega arith
 
 -- batches of which none is empty are no more than their records, however the last was answered
-answered_count : (a : Stored) (bs : List (List (List ℕ))) → AllSome bs → count (answered a bs) ≤ length (records_in bs)
+answered_count : (a : Stored) (bs : List (List (List ℕ))) → AllSome bs → count (answered_batches a bs) ≤ length (records_in bs)
 answered_count a [] h = omega arith
 answered_count a (b ∷ []) h = omega (arith, h.0, one_size a b, length-append b [])
 answered_count a (b ∷ c ∷ bs) h = omega (arith, h.0, length-append b (records_in (c ∷ bs)), answered_count a (c ∷ bs) h.1)
 
 -- and of those that were kept the same is so
-answered_kept : (a : Stored) (bs : List (List (List ℕ))) → AllSome bs → kept_count (answered a bs) ≤ length (kept_records (answered a bs))
+answered_kept : (a : Stored) (bs : List (List (List ℕ))) → AllSome bs → kept_count (answered_batches a bs) ≤ length (kept_records (answered_batches a bs))
 answered_kept a [] h = omega arith
 answered_kept a (b ∷ []) h = one_kept a b h.0
-answered_kept a (b ∷ c ∷ bs) h = omega (arith, h.0, length-append b (kept_records (answered a (c ∷ bs))), answered_kept a (c ∷ bs) h.1)
+answered_kept a (b ∷ c ∷ bs) h = omega (arith, h.0, length-append b (kept_records (answered_batches a (c ∷ bs))), answered_kept a (c ∷ bs) h.1)
 
 -- the records of batches behind others that were kept
 all_append : (xs : List (List (List ℕ))) (ys : Handed) → all_records (join (kept_all xs) ys) ≡ records_in xs ++ all_records ys
@@ -112,13 +112,13 @@ none_floods end gave floods = let y : round_end.GaveUp ≡ round_end.Flood = sym
 
 module _ (settings : StationSettings) (f : Fates) (ok : AreSound f) (left : ℕ → List (List ℕ)) (falls : FallDue f left) (all more : List (List ℕ)) (up : EachFollows [] all) (r : List (List ℕ)) (whole : all ++ more ≡ r) (rises : EachFollows [] r) (are : AreRecords r) where
   pub some_of : (rows after : List Row) (w u : Line) (t : Attempted) → IsAttempted f rows w t after u → AllSome t.batches
-  some_of rows after w u t k = subst AllSome (sym k.batches) (batches_some (last_stamp rows) t.made.place t.made.taken)
+  some_of rows after w u t k = subst AllSome (sym k.batches) (batches_some (last_row_stamp rows) t.made.place t.made.taken)
 
   pub read_of_batches : (rows after : List Row) (w u : Line) (t : Attempted) → IsAttempted f rows w t after u → AllRead (records_in t.batches)
   read_of_batches rows after w u t k = batches_of settings f ok left falls all up r more whole rows after w u t k
 
   -- all that an attempt gives has room, kept or not
-  pub all_fit : (d : List Pair) (a b : List Row) (w u : Line) (t : Attempted) → IsCalm w → IsSound w → Now left all w → IsAttempted f a w t b u → IsPlain t.made.end → u.unseen ≡ None → Gathered settings r d [] a → length a + length (records_in t.batches) ≤ length r
+  pub all_fit : (d : List Pair) (a b : List Row) (w u : Line) (t : Attempted) → IsCalm w → IsSound w → Now left all w → IsAttempted f a w t b u → IsPlain t.made.end → u.unseen ≡ None → DumpsGather settings r d [] a → length a + length (records_in t.batches) ≤ length r
   all_fit d a b w u t calm sound now k plain un g =
       let bs = records_in t.batches in
       let l : length (a ++ stored_rows settings (records_in t.batches)) ≡ length a + length (records_in t.batches)
@@ -126,28 +126,28 @@ module _ (settings : StationSettings) (f : Fates) (ok : AreSound f) (left : ℕ 
       let t2 : Attempted = record { made = t.made; batches = t.batches; dumps = t.dumps; harmed = t.harmed; gained = length (records_in t.batches) } in
       let k2 : IsAttempted f a w t2 (a ++ stored_rows settings (records_in t.batches)) u = record { attempt = k.attempt; talks = k.talks; batches = k.batches; dumps = k.dumps; harmed = k.harmed; gained = l } in
       let one = one_law settings f ok left falls all up r more whole a (a ++ stored_rows settings (records_in t.batches)) w u t2 calm sound now (stamp_of settings r rises are d a g) k2 plain un (records_in t.batches) refl ([], append-nil (records_in t.batches)) in
-      let n = few_of settings r rises are (d ++ pairs_of t.dumps (length (records_in t.batches))) (a ++ stored_rows settings (records_in t.batches))
-      (gathered_join settings r d (pairs_of t.dumps (length (records_in t.batches))) [] a (a ++ stored_rows settings (records_in t.batches)) g one.gathers) in
+      let n = few_of settings r rises are (d ++ dump_pairs t.dumps (length (records_in t.batches))) (a ++ stored_rows settings (records_in t.batches))
+      (gathered_join settings r d (dump_pairs t.dumps (length (records_in t.batches))) [] a (a ++ stored_rows settings (records_in t.batches)) g one.gathers) in
       omega (arith, l, n)
 
   -- what one attempt gives, kept or not, is counted
-  one_few : (d : List Pair) (a : Archive) (w v : Line) (t : Tried) → IsTried (last_stamp a.rows) t → IsPlain t.end → ConsoleTalk f t.said w v → IsCalm w → IsSound w → Now left all w → v.unseen ≡ None → Gathered settings r d [] a.rows
-      → AreFew (length r) a.rows (batches_in (last_stamp a.rows) t)
+  one_few : (d : List Pair) (a : Archive) (w v : Line) (t : Tried) → IsTried (last_row_stamp a.rows) t → IsPlain t.end → ConsoleTalk f t.said w v → IsCalm w → IsSound w → Now left all w → v.unseen ≡ None → DumpsGather settings r d [] a.rows
+      → AreFew (length r) a.rows (batches_in (last_row_stamp a.rows) t)
   one_few d a w v t tried plain talks calm sound now un g =
-      let bs = batches (last_stamp a.rows) t.place t.taken in
+      let bs = batches (last_row_stamp a.rows) t.place t.taken in
       let x = attempted_by f a.rows a.rows w v t tried talks (omega arith) in
       let n = all_fit d a.rows a.rows w v x.0 calm sound now x.1 (subst IsPlain (sym (ap (λ y. y.end) x.3)) plain) un g in
       let all_are = answered_all (outcome.keeper_answer t.end) bs in
       record {
         few = omega (arith, n, ap length all_are, ap (λ y. length (records_in y)) x.2);
-        kept = answered_kept (outcome.keeper_answer t.end) bs (batches_some (last_stamp a.rows) t.place t.taken);
-        each = omega (arith, answered_count (outcome.keeper_answer t.end) bs (batches_some (last_stamp a.rows) t.place t.taken), ap length all_are);
+        kept = answered_kept (outcome.keeper_answer t.end) bs (batches_some (last_row_stamp a.rows) t.place t.taken);
+        each = omega (arith, answered_count (outcome.keeper_answer t.end) bs (batches_some (last_row_stamp a.rows) t.place t.taken), ap length all_are);
       }
 
   -- the attempts of a round: they do not flood, and what they give is counted
-  pub round_few : (n m : ℕ) (d : List Pair) (a : Archive) (w v : Line) (ts : List Tried) (end : RoundEnd) → Attempts n (last_stamp a.rows) ts end → Fit settings.most (length a.rows) (all_batches (last_stamp a.rows) ts) → ConsoleTalk f (all_said ts) w v
-      → end ≢ round_end.LinkFault → end ≢ round_end.OutOfMemory → end ≢ round_end.Stale → IsCalm w → IsSound w → Now left all w → v.unseen ≡ None → Gathered settings r d [] a.rows
-      → (end ≢ round_end.Flood) × AreFew (length r) a.rows (all_batches (last_stamp a.rows) ts)
+  pub round_few : (n m : ℕ) (d : List Pair) (a : Archive) (w v : Line) (ts : List Tried) (end : RoundEnd) → Attempts n (last_row_stamp a.rows) ts end → Fit settings.most (length a.rows) (all_batches (last_row_stamp a.rows) ts) → ConsoleTalk f (all_said ts) w v
+      → end ≢ round_end.LinkFault → end ≢ round_end.OutOfMemory → end ≢ round_end.Stale → IsCalm w → IsSound w → Now left all w → v.unseen ≡ None → DumpsGather settings r d [] a.rows
+      → (end ≢ round_end.Flood) × AreFew (length r) a.rows (all_batches (last_row_stamp a.rows) ts)
   round_few n m d a w v [] end (inl (none, before)) fit talks link memory fresh calm sound now un g = absurd (stale_or end before fresh memory)
     where
       stale_or : (end : RoundEnd) → Rattle.station_session.specs.Attempts.EndsBefore end → end ≢ round_end.Stale → end ≢ round_end.OutOfMemory → ⊥
@@ -162,9 +162,9 @@ module _ (settings : StationSettings) (f : Fates) (ok : AreSound f) (left : ℕ 
   round_few n m d a w v [] end (inr (three, gave)) fit talks link memory fresh calm sound now un g =
       (none_floods end gave, record { few = omega (arith, few_of settings r rises are d a.rows g); each = omega arith; kept = omega arith })
   round_few n m d a w v (t ∷ ts) end (less, tried, inl (none, again)) fit talks link memory fresh calm sound now un g =
-      let bs = batches (last_stamp a.rows) t.place t.taken in
-      let rest = all_batches (stamp_after (last_stamp a.rows) t) ts in
-      let parted : all_batches (last_stamp a.rows) (t ∷ ts) ≡ join (kept_all bs) rest = ap (λ (h : Handed). join h rest) (went_on (last_stamp a.rows) t none) in
+      let bs = batches (last_row_stamp a.rows) t.place t.taken in
+      let rest = all_batches (stamp_after (last_row_stamp a.rows) t) ts in
+      let parted : all_batches (last_row_stamp a.rows) (t ∷ ts) ≡ join (kept_all bs) rest = ap (λ (h : Handed). join h rest) (went_on (last_row_stamp a.rows) t none) in
       let parts = fit_parts settings.most (length a.rows) bs rest (subst (λ (h : Handed). Fit settings.most (length a.rows) h) parted fit) in
       let p = talks_part f t.said (all_said ts) w v talks in
       let o = went settings f None m a w p.0 t tried none parts.0 tt p.1 in
@@ -172,12 +172,12 @@ module _ (settings : StationSettings) (f : Fates) (ok : AreSound f) (left : ℕ 
       let u = goes_unseen f (all_said ts) p.0 v p.2 un in
       let k = keeps_part settings None m a o.x.batches (Rattle.station_replay.proofs.Trying.Keeping.Goes o.count o.b) o.keeps in
       let one = one_law settings f ok left falls all up r more whole a.rows o.b.rows w p.0 o.x calm sound now (stamp_of settings r rises are d a.rows g) o.is_attempted plain u (records_in o.x.batches) k.0 ([], append-nil (records_in o.x.batches)) in
-      let q = round_few (n + 1) o.count (d ++ pairs_of o.x.dumps o.x.gained) o.b p.0 v ts end
+      let q = round_few (n + 1) o.count (d ++ dump_pairs o.x.dumps o.x.gained) o.b p.0 v ts end
       (subst (λ z. Attempts (n + 1) z ts end) o.stamp again)
       (subst (λ z. Fit settings.most (length o.b.rows) (all_batches z ts)) o.stamp (subst (λ (z : ℕ). Fit settings.most z rest) o.long parts.1))
-      p.2 link memory fresh one.calm one.sound one.now un (gathered_join settings r d (pairs_of o.x.dumps o.x.gained) [] a.rows o.b.rows g one.gathers) in
+      p.2 link memory fresh one.calm one.sound one.now un (gathered_join settings r d (dump_pairs o.x.dumps o.x.gained) [] a.rows o.b.rows g one.gathers) in
       let later : AreFew (length r) o.b.rows rest = subst (λ z. AreFew (length r) o.b.rows (all_batches z ts)) (sym o.stamp) q.1 in
-      let many = some_many bs (batches_some (last_stamp a.rows) t.place t.taken) in (
+      let many = some_many bs (batches_some (last_row_stamp a.rows) t.place t.taken) in (
         q.0,
         subst (AreFew (length r) a.rows) (sym parted) (record {
           few = omega (arith, later.few, o.long, ap length (all_append bs rest), length-append (records_in bs) (all_records rest));
@@ -188,11 +188,11 @@ module _ (settings : StationSettings) (f : Fates) (ok : AreSound f) (left : ℕ 
   round_few n m d a w v (t ∷ ts) end (less, tried, inr (ends, none)) fit talks link memory fresh calm sound now un g =
       let plain = plain_last t.end end ends link memory in
       let said = said_one f t w v (ap (λ z. console_talk f (all_said (t ∷ z)) w) (sym none) ∙ talks) in
-      let one : batches_in (last_stamp a.rows) t ≡ all_batches (last_stamp a.rows) (t ∷ ts) = sym (ap (λ z. all_batches (last_stamp a.rows) (t ∷ z)) none ∙ join_none (batches_in (last_stamp a.rows) t)) in (
+      let one : batches_in (last_row_stamp a.rows) t ≡ all_batches (last_row_stamp a.rows) (t ∷ ts) = sym (ap (λ z. all_batches (last_row_stamp a.rows) (t ∷ z)) none ∙ join_none (batches_in (last_row_stamp a.rows) t)) in (
         (λ floods.
             let is = flood_last t.end (ends ∙ ap Some floods) in
-            let at : Attempt (stamp_frame_of (last_stamp a.rows)) t.said t.place t.taken End.Flooded
-            = plain_ended (λ said taken end. Attempt (stamp_frame_of (last_stamp a.rows)) said t.place taken end) dump_end.Flood t.said t.taken tt (subst (λ z. Rattle.dmpaft_driver.specs.Outcome.Ended (λ said taken end. Attempt (stamp_frame_of (last_stamp a.rows)) said t.place taken end) z t.said t.taken) is tried.ends) in
-            attempt_dry f ok (stamp_frame_of (last_stamp a.rows)) (frame_long (last_stamp a.rows)) t.said t.place t.taken w v sound calm at said un),
+            let at : Attempt (stamp_frame_of (last_row_stamp a.rows)) t.said t.place t.taken End.Flooded
+            = plain_ended (λ said taken end. Attempt (stamp_frame_of (last_row_stamp a.rows)) said t.place taken end) dump_end.Flood t.said t.taken tt (subst (λ z. Rattle.dmpaft_driver.specs.Outcome.Ended (λ said taken end. Attempt (stamp_frame_of (last_row_stamp a.rows)) said t.place taken end) z t.said t.taken) is tried.ends) in
+            attempt_dry f ok (stamp_frame_of (last_row_stamp a.rows)) (frame_long (last_row_stamp a.rows)) t.said t.place t.taken w v sound calm at said un),
         subst (AreFew (length r) a.rows) one (one_few d a w v t tried plain said calm sound now un g),
       )

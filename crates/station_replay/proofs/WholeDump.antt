@@ -14,14 +14,14 @@ use Rattle.console_ring.specs.declared.plan.Plan.{Plan}
 use Rattle.console_ring.specs.Picture.{page_of}
 use Rattle.console_model.specs.declared.frame.FrameKind.TheVariants.{ForDump}
 use Rattle.console_model.specs.declared.reply.ReplyKind.TheVariants.{Page}
-use Rattle.console_model.specs.Console.{Store, Console, Outcome, Begun, fresh}
-use Rattle.console_model.specs.Console.State.{Command, Frame, Dump}
-use Rattle.console_model.specs.Hear.{ended}
-use Rattle.console_model.specs.Line.{says as replies, silent, to}
-use Rattle.console_model.specs.Reading.{read_line}
-use Rattle.console_model.specs.Spelling.{plan_after, header_of}
+use Rattle.console_model.specs.Console.{Store, Console, Outcome, Begun, fresh_console}
+use Rattle.console_model.specs.Console.ConsoleState.{Command, Frame, Dump}
+use Rattle.console_model.specs.Hear.{dump_ended}
+use Rattle.console_model.specs.Line.{says_reply, silent, to}
+use Rattle.console_model.specs.Reading.{read_order}
+use Rattle.console_model.specs.Spelling.{plan_after, plan_header}
 use Rattle.wake_retry.specs.Parts.{heard, IsFull, Awaits, answer_waits}
-use Rattle.dmpaft_driver.specs.Attempt.{Takes, Pages, Attempt, End}
+use Rattle.dmpaft_driver.specs.Attempt.{TakesPage, Pages, Attempt, End}
 use Rattle.dmpaft_pump.specs.Command.{dmpaft}
 use Rattle.dmpaft_pump.specs.Batch.{batches, records_in}
 use Rattle.dmpaft_pump.specs.Header.{IsHeader}
@@ -32,12 +32,12 @@ use Rattle.console_ring.specs.History.{ring_size}
 use Rattle.dmpaft_pump.specs.Pump.{most_askings}
 use Rattle.schedule_file.specs.Fates.{Fates}
 use Rattle.station_sim.specs.Delivery.{delivered, all_bytes, late}
-use Rattle.station_sim.specs.Line.{Line, flies, happens, replied, unanswered, hears, counted, sends, says, is_harmed, earlier}
+use Rattle.station_sim.specs.Line.{Line, flies, happens, reply_joins, unanswered, hears, message_counted, sends_message, says_byte, is_harmed, earlier}
 use Rattle.schedule_file.specs.Lists.{no_fates}
 use Rattle.station_sim.specs.Sound.{AreRecords}
 use Rattle.station_sim.specs.Talk.{console_talk, ConsoleTalk, hearing, and_then, fresh_line}
 use Rattle.station_sim.specs.declared.unseen.Unseen.{Unseen}
-use Rattle.line_laws.specs.Gathers.{newer_held, begun_after, Gives}
+use Rattle.line_laws.specs.Gathers.{newer_held, begun_after, AttemptGives}
 use Rattle.station_replay.specs.Minutes.{minute_records, filled_line}
 use Rattle.station_replay.specs.WholeAttempt.{WholeAttempt}
 use Rattle.line_laws.proofs.Asked.{at_state}
@@ -107,7 +107,7 @@ awaiting h d = record {
 
 comes_to : (h : List (List ℕ)) (d : Store) (rest : List TalkItem) →
     console_talk no_fates (six ++ (wake ++ (message dmpaft ++ (Heard 6 ∷ [] ++ rest)))) (fresh_line (at_state h d [] (Command []) 0)) ≡ console_talk no_fates rest (awaiting h d)
-unfolding awaiting six wake dmpaft read_line command_of plain_command_of delivered
+unfolding awaiting six wake dmpaft read_order command_of plain_command_of delivered
 comes_to h d rest = refl
 
 -- a reply that comes as it was sent, to a line on which nothing is in flight
@@ -119,7 +119,7 @@ record Answered (o : Outcome) (w v : Line) : Type 0 where
   harmed : v.harmed ≡ w.harmed
   unseen : v.unseen ≡ None
 
-answered_by : (o : Outcome) (m : List ℕ) (w v : Line) → v ≡ replied no_fates o (counted no_fates m w) → w.flight ≡ [] → w.unseen ≡ None → Answered o w v
+answered_by : (o : Outcome) (m : List ℕ) (w v : Line) → v ≡ reply_joins no_fates o (message_counted no_fates m w) → w.flight ≡ [] → w.unseen ≡ None → Answered o w v
 unfolding delivered
 answered_by o m w v is none seen = record {
   console = ap (λ x. x.console) is;
@@ -132,13 +132,13 @@ answered_by o m w v is none seen = record {
 
 -- the header is the answer to the frame
 header_sent : (h : List (List ℕ)) (d : Store) (after : Option CivilMinute) →
-    Answered (heading (stamp_frame_of after) (at_state h d [] (Frame ForDump []) 0)) (awaiting h d) (sends no_fates (stamp_frame_of after) (awaiting h d))
+    Answered (heading (stamp_frame_of after) (at_state h d [] (Frame ForDump []) 0)) (awaiting h d) (sends_message no_fates (stamp_frame_of after) (awaiting h d))
 unfolding delivered awaiting
 header_sent h d after =
     let frame = stamp_frame_of after in
-    let c = counted no_fates frame (awaiting h d) in
+    let c = message_counted no_fates frame (awaiting h d) in
     let o = heading frame (at_state h d [] (Frame ForDump []) 0) in
-    answered_by o frame (awaiting h d) (sends no_fates frame (awaiting h d))
+    answered_by o frame (awaiting h d) (sends_message no_fates frame (awaiting h d))
     ((whole_frame h d [] no_fates frame 0 c (frame_long after)).0 ∙ ap (λ o. happens no_fates o c) (good_frame frame (at_state h d [] (Frame ForDump []) 0) (frame_good after))) refl refl
 
 module _ (h : List (List ℕ)) (records : AreRecords h) (d : Store) (p : Plan) where
@@ -150,16 +150,16 @@ module _ (h : List (List ℕ)) (records : AreRecords h) (d : Store) (p : Plan) w
     harmed : w.harmed ≡ 0
     unseen : w.unseen ≡ None
 
-  page_sent : (k : ℕ) (w : Line) → k < p.pages → Paging k w → Answered (replies Page (page_of h p k) (at_state h d [] (Dump p (k + 1)) 0)) w (says no_fates 6 true w)
+  page_sent : (k : ℕ) (w : Line) → k < p.pages → Paging k w → Answered (says_reply Page (page_of h p k) (at_state h d [] (Dump p (k + 1)) 0)) w (says_byte no_fates 6 true w)
   unfolding delivered
   page_sent k w less a =
       let m = w.begun ++ 6 ∷ [] in
       let is : m ≡ 6 ∷ [] = ap (λ x. x ++ 6 ∷ []) a.begun in
-      let c = counted no_fates m w in
-      answered_by (replies Page (page_of h p k) (at_state h d [] (Dump p (k + 1)) 0)) m w (says no_fates 6 true w)
+      let c = message_counted no_fates m w in
+      answered_by (says_reply Page (page_of h p k) (at_state h d [] (Dump p (k + 1)) 0)) m w (says_byte no_fates 6 true w)
       (ap (λ y. hears no_fates y c) is ∙ ap (λ z. hears no_fates (6 ∷ []) (record c { console = z })) a.console ∙ next_page no_fates c h d 0 [] p k (grind (arith, nat_tests, less))) a.flight a.unseen
 
-  paged : (k : ℕ) (w : Line) → k < p.pages → Paging k w → Paging (k + 1) (flies (says no_fates 6 true w) [])
+  paged : (k : ℕ) (w : Line) → k < p.pages → Paging k w → Paging (k + 1) (flies (says_byte no_fates 6 true w) [])
   paged k w less a =
       let q = page_sent k w less a in
       record { console = q.console; flight = refl; begun = q.begun; harmed = q.harmed ∙ a.harmed; unseen = q.unseen }
@@ -170,17 +170,17 @@ module _ (h : List (List ℕ)) (records : AreRecords h) (d : Store) (p : Plan) w
     harmed : v.harmed ≡ 0
     unseen : v.unseen ≡ None
 
-  last_sent : (k : ℕ) (w : Line) → k ≡ p.pages → Paging k w → Ended w (says no_fates 6 true w)
+  last_sent : (k : ℕ) (w : Line) → k ≡ p.pages → Paging k w → Ended w (says_byte no_fates 6 true w)
   unfolding delivered
   last_sent k w all a =
       let m = w.begun ++ 6 ∷ [] in
       let is : m ≡ 6 ∷ [] = ap (λ x. x ++ 6 ∷ []) a.begun in
-      let c = counted no_fates m w in
+      let c = message_counted no_fates m w in
       let s = at_state h d [] (Dump p k) 0 in
       let more : nat_lt k p.pages ≡ false = grind (arith, nat_tests, all) in
-      let o : Outcome = silent (to (ended s) (Command [])) in
+      let o : Outcome = silent (to (dump_ended s) (Command [])) in
       let y : hears no_fates m c ≡ unanswered o c = ap (λ y. hears no_fates y c) is ∙ ap (λ z. hears no_fates (6 ∷ []) (record c { console = z })) a.console
-      ∙ ap (λ t. happens no_fates (if t then replies Page (page_of h p k) (at_state h d [] (Dump p (k + 1)) 0) else silent (to (ended s) (Command []))) (record c { console = s })) more in
+      ∙ ap (λ t. happens no_fates (if t then says_reply Page (page_of h p k) (at_state h d [] (Dump p (k + 1)) 0) else silent (to (dump_ended s) (Command []))) (record c { console = s })) more in
       record {
         dumps = ap (λ x. x.dumps) y;
         harmed = ap (λ x. x.harmed) y ∙ harm_if (is_harmed m m) w.harmed (unharmed_self m) ∙ a.harmed;
@@ -205,7 +205,7 @@ module _ (h : List (List ℕ)) (records : AreRecords h) (d : Store) (p : Plan) w
   all_paged zero (suc k) w sum some a = record {
     talk = Said 6 true ∷ [];
     taken = [];
-    line = says no_fates 6 true w;
+    line = says_byte no_fates 6 true w;
     pages = (refl, refl, refl);
     goes = refl;
     ended = last_sent (suc k) w (omega (arith, sum)) a;
@@ -213,12 +213,12 @@ module _ (h : List (List ℕ)) (records : AreRecords h) (d : Store) (p : Plan) w
   all_paged (suc left) k w sum some a =
       let bytes = page_of h p k in
       let less : k < p.pages = omega (arith, sum) in
-      let x = says no_fates 6 true w in
+      let x = says_byte no_fates 6 true w in
       let sent = page_sent k w less a in
       let t = Said 6 true ∷ hearing_of bytes in
       let next = all_paged left (k + 1) (flies x []) (omega (arith, sum)) some (paged k w less a) in
       let same : heard (hearing_of bytes) ≡ bytes = heard_of bytes in
-      let takes : Takes most_askings k 6 (Said 6 true ∷ hearing_of (page_of h p k)) (page_of h p k) = (
+      let takes : TakesPage most_askings k 6 (Said 6 true ∷ hearing_of (page_of h p k)) (page_of h p k) = (
         hearing_of bytes,
         [],
         ap (λ xs. Said 6 true ∷ xs) (sym (append-nil (hearing_of bytes))),
@@ -307,12 +307,12 @@ unfolding awaiting
 whole_over h records d after =
     let frame = stamp_frame_of after in
     let p = plan_after h frame in
-    let hd = 6 ∷ header_of p in
-    let x = sends no_fates frame (awaiting h d) in
+    let hd = 6 ∷ plan_header p in
+    let x = sends_message no_fates frame (awaiting h d) in
     let sent = header_sent h d after in
     let q = has_pages h records d p p.pages (flies x []) refl sent.console refl sent.begun sent.harmed sent.unseen in
     let whole : WholeAttempt after (fresh_line (at_state h d [] (Command []) 0)) = record {
-      talk = six ++ (wake ++ (message dmpaft ++ (Heard 6 ∷ [] ++ (message (stamp_frame_of after) ++ (hearing_of (6 ∷ header_of (plan_after h (stamp_frame_of after))) ++ q.talk)))));
+      talk = six ++ (wake ++ (message dmpaft ++ (Heard 6 ∷ [] ++ (message (stamp_frame_of after) ++ (hearing_of (6 ∷ plan_header (plan_after h (stamp_frame_of after))) ++ q.talk)))));
       place = p.place;
       taken = q.taken;
       line = q.line;
@@ -343,10 +343,10 @@ unfolding first_history
 overflow_taken count many small eeprom packet =
     let h = minute_records 0 count in
     let w = filled_line count eeprom packet in
-    let z = whole_over h (are_records count 0 (omega (arith, small))) (fresh eeprom packet).store None in
+    let z = whole_over h (are_records count 0 (omega (arith, small))) (fresh_console eeprom packet).store None in
     let a = z.whole in
     let goes : ConsoleTalk no_fates a.talk (filled_line count eeprom packet) a.line = ap (λ c. console_talk no_fates a.talk (fresh_line c)) (filled_console count eeprom packet small) ∙ a.goes in
-    let gives : Gives None w (batches None a.place a.taken) End.Whole a.line =
+    let gives : AttemptGives None w (batches None a.place a.taken) End.Whole a.line =
     (attempt_gives no_fates sound_fates None tt a.talk a.place a.taken End.Whole w a.line (filled_sound count eeprom packet small) (filled_calm count eeprom packet small) a.attempt goes a.unseen).1 in
     let all : records_in (batches None a.place a.taken) ≡ newer_held None h = elim gives [
       | inl x ↦ absurd (x.2 refl)

@@ -7,7 +7,7 @@ use Rattle.station_base.specs.declared.row.Row.{Row}
 use Rattle.vantage_frames.specs.StampFrame.{stamp_frame_of}
 use Rattle.serial_link.specs.declared.talk.TalkItem.{TalkItem}
 use Rattle.settings_file.specs.StationSettings.{StationSettings}
-use Rattle.packed_rows.specs.Rising.{last_stamp}
+use Rattle.packed_rows.specs.Rising.{last_row_stamp}
 use Rattle.dmpaft_pump.specs.Batch.{batches, records_in}
 use Rattle.dmpaft_driver.specs.OneAttempt.{Acknowledges}
 use Rattle.station_session.specs.Attempts.{Tried, kept_batches}
@@ -16,23 +16,23 @@ use Rattle.station_replay.specs.Round.{Attempted}
 use Rattle.station_replay.specs.Replay.{Rounded, Item}
 
 -- the rows behind some attempts of which each kept all its batches
-abbrev pub rows_behind : StationSettings → List Row → List Attempted → List Row
-rows_behind settings rows [] = rows
-rows_behind settings rows (t ∷ ts) = rows_behind settings (rows ++ stored_rows settings (records_in t.batches)) ts
+abbrev pub rows_after_attempts : StationSettings → List Row → List Attempted → List Row
+rows_after_attempts settings rows [] = rows
+rows_after_attempts settings rows (t ∷ ts) = rows_after_attempts settings (rows ++ stored_rows settings (records_in t.batches)) ts
 
 -- these rows, and behind them those of the batches of these pages, the first of which is read from this place on
-abbrev pub rows_with : StationSettings → List Row → ℕ → List (List ℕ) → List Row
-rows_with settings rows place pages =
-    rows ++ stored_rows settings (records_in (batches (last_stamp rows) place pages))
+abbrev pub rows_with_pages : StationSettings → List Row → ℕ → List (List ℕ) → List Row
+rows_with_pages settings rows place pages =
+    rows ++ stored_rows settings (records_in (batches (last_row_stamp rows) place pages))
 
 -- wherever 0x06 was said right after pages were taken in an attempt, the round kept the rows of their batches, behind
 -- those that it had before that attempt
 abbrev pub KeepsAcknowledged : StationSettings → Rounded → Type 0
 KeepsAcknowledged settings x =
     (earlier : List Attempted) (t : Attempted) (later : List Attempted) (place : ℕ) (pages : List (List ℕ))
-    → x.tried ≡ earlier ++ t ∷ later → let rows = rows_behind settings x.before earlier in
-    Acknowledges (stamp_frame_of (last_stamp rows)) t.made.said place pages
-    → IsFrontOf (rows_with settings rows place pages) x.kept
+    → x.tried ≡ earlier ++ t ∷ later → let rows = rows_after_attempts settings x.before earlier in
+    Acknowledges (stamp_frame_of (last_row_stamp rows)) t.made.said place pages
+    → IsFrontOf (rows_with_pages settings rows place pages) x.kept
 
 -- These are the pages that were acknowledged in a talk: 0x06 was said right after the last of them, if there is one,
 -- and pages after which it was said are the first of them.
@@ -60,7 +60,7 @@ AllRounds p (Item.Ended rows ∷ items) = AllRounds p items
 abbrev pub KeepsJustAcknowledged : StationSettings → Rounded → Type 0
 KeepsJustAcknowledged settings x =
     (earlier : List Attempted) (t : Attempted) (later : List Attempted) → x.tried ≡ earlier ++ t ∷ later
-    → AreJustAcknowledged (last_stamp (rows_behind settings x.before earlier)) t.made
+    → AreJustAcknowledged (last_row_stamp (rows_after_attempts settings x.before earlier)) t.made
     (kept_batches t.made.end t.batches)
 
 -- the pages taken in an attempt after this stamp are those that were acknowledged, and at most one more

@@ -13,7 +13,7 @@ use Rattle.station_sim.specs.Calm.{IsCalm}
 use Rattle.schedule_file.specs.Fates.{Fates}
 use Rattle.station_sim.specs.Line.{Line}
 use Rattle.station_sim.specs.Talk.{ConsoleTalk}
-use Rattle.station_sim.specs.Telling.{told}
+use Rattle.station_sim.specs.Telling.{sim_traffic}
 
 -- the disk of a round failed
 abbrev pub DiskFailed : {D : Type 0} → Medium D → RoundHost Sim D → RoundHost Sim D → Type 0
@@ -21,7 +21,7 @@ DiskFailed medium old new = Rose (medium.faults old.disk) (medium.faults new.dis
 
 -- its link was short of memory
 abbrev pub LinkShort : {D : Type 0} → RoundHost Sim D → RoundHost Sim D → Type 0
-LinkShort old new = Rose (told.shortages old.link) (told.shortages new.link)
+LinkShort old new = Rose (sim_traffic.shortages old.link) (sim_traffic.shortages new.link)
 
 -- an attempt ends so without a harmed delivery: whole, or by a full archive, a failed disk or a short link
 abbrev pub EndsUnharmed : Type 0 → Type 0 → DumpEnd → Type 0

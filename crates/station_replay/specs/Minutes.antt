@@ -1,7 +1,7 @@
 -- Records of one minute after another, of which there can be more than an archive keeps.
 use Rattle.std.specs.Prelude.{ℕ, zero, suc, ◌+◌, ◌*◌, ◌/◌, ◌%◌, List, [], ◌∷◌}
 use Rattle.loop_packet.specs.declared.packet.LoopPacket.{LoopPacket}
-use Rattle.console_model.specs.Console.{fresh}
+use Rattle.console_model.specs.Console.{fresh_console}
 use Rattle.station_sim.specs.Line.{Line, waited}
 use Rattle.station_sim.specs.Talk.{fresh_line}
 
@@ -25,7 +25,7 @@ minute_records n (suc count) = minute_record n ∷ minute_records (n + 1) count
 
 -- a line to a new console, on which nothing was said
 abbrev pub new_line : List ℕ → LoopPacket → Line
-new_line eeprom packet = fresh_line (fresh eeprom packet)
+new_line eeprom packet = fresh_line (fresh_console eeprom packet)
 
 -- that line, after the records of so many minutes fell due
 abbrev pub filled_line : ℕ → List ℕ → LoopPacket → Line

@@ -5,7 +5,7 @@ ghost use Rattle.vantage_frames.specs.StampFrame.{stamp_frame_of};
 ghost use Rattle.console_ring.specs.Picture.{plan_of_last};
 ghost use Rattle.console_ring.specs.History.{ring_size};
 ghost use Rattle.console_model.specs.Console.{Console};
-ghost use Rattle.console_model.specs.Console.State.{Command};
+ghost use Rattle.console_model.specs.Console.ConsoleState.{Command};
 ghost use Rattle.console_model.specs.Spelling.{plan_after};
 ghost use Rattle.dmpaft_pump.specs.Batch.{batches, records_in};
 ghost use Rattle.station_sim.specs.Calm.{IsCalm};
@@ -14,12 +14,13 @@ ghost use Rattle.station_sim.specs.Sound.{AreRecords, IsSound, AreSound};
 ghost use Rattle.station_sim.specs.Talk.{fresh_line};
 ghost use Rattle.line_laws.specs.Gathers.{newer_held};
 ghost use Rattle.station_replay.specs.Minutes.{minute_records, new_line, filled_line};
-ghost use Rattle.station_replay.specs.Schedule.{Step, IsSchedule};
+ghost use Rattle.station_replay.specs.Schedule.{ReplayStep, IsSchedule};
 ghost use Rattle.station_replay.specs.WholeAttempt.{WholeAttempt};
 
 /// There is a calm line, and there are fates: those of a new console, where nothing befalls a message.
 pub fn a_new_line_is_calm()
-    ensures line { (eeprom : List ℕ) (packet : LoopPacket) → IsCalm (new_line eeprom packet) × IsSound (new_line eeprom packet) }
+    ensures line { (eeprom : List ℕ) (packet : LoopPacket) → IsCalm (new_line eeprom packet)
+        × IsSound (new_line eeprom packet) }
     ensures fates { AreSound no_fates }
 {}
 
@@ -33,8 +34,9 @@ pub fn an_attempt_can_be_whole()
 /// More records can be put than an archive keeps. Those of minutes in a row, from 2000-01-01 00:00 on, are a schedule's, and a new
 /// console puts them all. Of more than 2,560 the last 2,560 are held, and the dump of all that is held has just these.
 pub fn an_archive_can_overflow()
-    ensures schedule { (count : ℕ) → count ≤ 40320 → IsSchedule (Step.Due (minute_records 0 count) ∷ []) }
-    ensures put { (count : ℕ) → count ≤ 40320 → (eeprom : List ℕ) (packet : LoopPacket) → let w = filled_line count eeprom packet in
+    ensures schedule { (count : ℕ) → count ≤ 40320 → IsSchedule (ReplayStep.Due (minute_records 0 count) ∷ []) }
+    ensures put { (count : ℕ) → count ≤ 40320 → (eeprom : List ℕ) (packet : LoopPacket)
+        → let w = filled_line count eeprom packet in
         (w.console.history ≡ minute_records 0 count) × IsCalm w × IsSound w }
     ensures held { (count : ℕ) → ring_size < count
         → newer_held None (minute_records 0 count) ≡ minute_records (count - ring_size) ring_size }

@@ -15,7 +15,8 @@ pub fn unseen_rounds()
     ensures named { (settings : StationSettings) (f : Fates) (stop : Option Stop) (s : Stage) (i : Item)
         → (broken : IsBroken settings f stop s i)
         → HasUnseen f (all_said broken.tried) (started s.line) broken.which }
-    ensures none { (settings : StationSettings) (f : Fates) (left : ℕ → List (List ℕ)) (stop : Option Stop) (s u : Stage) (r : Rounded)
+    ensures none { (settings : StationSettings) (f : Fates) (left : ℕ
+        → List (List ℕ)) (stop : Option Stop) (s u : Stage) (r : Rounded)
         → IsRound settings f left stop s r u → (which : Unseen)
         → ¬ (HasUnseen f (all_said (tried_of r.tried)) (started s.line) which) }
 {}

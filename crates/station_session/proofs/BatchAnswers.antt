@@ -11,7 +11,7 @@ use Rattle.weather_book.specs.declared.book.Book.{Book}
 use Rattle.packed_rows.specs.Adding.{OnUndone, rows_after}
 use Rattle.causes.specs.Stored.{stale_after}
 use Rattle.disk_model.specs.Stored.{disk_answer}
-use Rattle.weather_book.specs.Book.{StandsFor, len_of, last_of, most_of, is_stale}
+use Rattle.weather_book.specs.Book.{BookStandsFor, len_of, last_stamp_of, most_rows_of, book_is_stale}
 use Rattle.packed_rows.specs.Rising as book
 use Rattle.packed_rows.specs.Rows.{slot_total}
 use Rattle.gated_log.specs.Appending.{ByGate, Moved, OnAppended, OnRefused}
@@ -30,16 +30,16 @@ use Rattle.station_session.proofs.Stamps.{same_count, last_is}
 -- what an add of these rows tells
 pub record Tells {D : Type 0} (medium : Medium D)
     (a : Stored) (rows : List Row) (old : Book) (disk : D) (new : Book) (disk' : D) : Type 0 where
-  pub stale : (a ≡ stored.Stale) ↔ (is_stale old ≡ true)
-  pub full : (a ≡ stored.Full) ↔ ((is_stale old ≡ false) × (most_of old < len_of old + length rows))
+  pub stale : (a ≡ stored.Stale) ↔ (book_is_stale old ≡ true)
+  pub full : (a ≡ stored.Full) ↔ ((book_is_stale old ≡ false) × (most_rows_of old < len_of old + length rows))
   pub cause : Faults medium disk disk' (a ≡ stored.DiskFault)
-  pub marked : is_stale new ≡ stale_after a (is_stale old)
-  pub most : most_of new ≡ most_of old
-  pub rows_are : (l : List Row) → StandsFor old l → StandsFor new (rows_after a l rows)
-  pub newest : last_of new ≡ book.last_after (last_of old) (rows_after a [] rows)
+  pub marked : book_is_stale new ≡ stale_after a (book_is_stale old)
+  pub most : most_rows_of new ≡ most_rows_of old
+  pub rows_are : (l : List Row) → BookStandsFor old l → BookStandsFor new (rows_after a l rows)
+  pub newest : last_stamp_of new ≡ book.last_stamp_after (last_stamp_of old) (rows_after a [] rows)
   pub moved : Moved a (medium.moment disk) (medium.moment disk')
   pub untouched : OnRefused a ((new ≡ old) × (disk' ≡ disk))
-  pub went_on : (l : List Row) → StandsFor old l → medium.went disk (up_to (take (medium.moment disk' - medium.moment disk) (four_changes (slot_size * (slot_total l + 1)) (slot_size * (slot_total (l ++ rows) - slot_total l)))) (disk_answer a)) disk'
+  pub went_on : (l : List Row) → BookStandsFor old l → medium.went disk (up_to (take (medium.moment disk' - medium.moment disk) (four_changes (slot_size * (slot_total l + 1)) (slot_size * (slot_total (l ++ rows) - slot_total l)))) (disk_answer a)) disk'
   pub images : (l : List Row) → StandsOn medium old disk l → LeavesOnly medium (RowsOldOrAll l rows (medium.moment disk + 3 ≤ medium.moment disk')) disk disk'
   pub gate : a ≡ stored.DiskFault → (l : List Row) → StandsOn medium old disk l
       → ByGate medium (medium.moment disk + 3 ≤ medium.moment disk') (slot_size * (slot_total l + 1)) (HasRows l) (HasRows (l ++ rows)) disk'
@@ -69,11 +69,11 @@ module _ {D : Type 0} (medium : Medium D)
   count : length (stored_rows settings records) ≡ length records
   count = same_count settings records read
 
-  not_stale : (a : Stored) → AreTold a → (a ≡ stored.Stale → ⊥) → is_stale old ≡ false
-  not_stale a t h = false_true (is_stale old) (λ s. h (t.stale.1 s))
+  not_stale : (a : Stored) → AreTold a → (a ≡ stored.Stale → ⊥) → book_is_stale old ≡ false
+  not_stale a t h = false_true (book_is_stale old) (λ s. h (t.stale.1 s))
 
-  fits : (a : Stored) → AreTold a → (a ≡ stored.Stale → ⊥) → (a ≡ stored.Full → ⊥) → len_of old + length records ≤ most_of old
-  fits a t h k = let m = most_le (most_of old) (len_of old + length (stored_rows settings records)) (λ less. k (t.full.1 (not_stale a t h, less))) in omega (arith, m, count)
+  fits : (a : Stored) → AreTold a → (a ≡ stored.Stale → ⊥) → (a ≡ stored.Full → ⊥) → len_of old + length records ≤ most_rows_of old
+  fits a t h k = let m = most_le (most_rows_of old) (len_of old + length (stored_rows settings records)) (λ less. k (t.full.1 (not_stale a t h, less))) in omega (arith, m, count)
 
   book_same : (P : Book → Type 0) → new ≡ old → P old → P new
   book_same P e h = subst P (sym e) h
@@ -84,7 +84,7 @@ module _ {D : Type 0} (medium : Medium D)
 
   taken_done : AreTold stored.Done → AreTaken stored.Done
   taken_done t noted = record {
-    newest = t.newest ∙ last_is settings records (last_of old) read;
+    newest = t.newest ∙ last_is settings records (last_stamp_of old) read;
     judged = (not_stale stored.Done t (λ e. cc), fits stored.Done t (λ e. cc) (λ e. cc));
     stale = t.marked;
     most = t.most;
@@ -110,7 +110,7 @@ module _ {D : Type 0} (medium : Medium D)
     stale = t.marked;
     most = t.most;
     cause = record { never_falls = t.cause.never_falls; rose = λ e. t.cause.rose refl };
-    rows = λ l h. subst (λ (x : List Row). StandsFor new x) (kept_same settings l) (t.rows_are l h);
+    rows = λ l h. subst (λ (x : List Row). BookStandsFor new x) (kept_same settings l) (t.rows_are l h);
     count = refl;
     failed = medium.moment disk' - medium.moment disk;
     begun = (omega (arith, t.moved.0), omega (arith, t.moved.0, t.moved.1));
@@ -135,7 +135,7 @@ module _ {D : Type 0} (medium : Medium D)
     stale = t.marked;
     most = t.most;
     cause = record { never_falls = t.cause.never_falls; rose = λ e. cc };
-    rows = λ l h. subst (λ (x : List Row). StandsFor new x) (kept_same settings l) (t.rows_are l h);
+    rows = λ l h. subst (λ (x : List Row). BookStandsFor new x) (kept_same settings l) (t.rows_are l h);
     count = refl;
     failed = 0;
     begun = refl;
@@ -156,7 +156,7 @@ module _ {D : Type 0} (medium : Medium D)
     stale = t.marked;
     most = t.most;
     cause = record { never_falls = t.cause.never_falls; rose = λ e. cc };
-    rows = λ l h. subst (λ (x : List Row). StandsFor new x) (kept_same settings l) (t.rows_are l h);
+    rows = λ l h. subst (λ (x : List Row). BookStandsFor new x) (kept_same settings l) (t.rows_are l h);
     count = refl;
     failed = 0;
     begun = refl;

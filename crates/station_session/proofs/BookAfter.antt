@@ -4,12 +4,12 @@ use Rattle.disk_model.specs.Medium.{Medium}
 use Rattle.causes.specs.Cause.{Rose}
 use Rattle.station_base.specs.CivilMinute.{CivilMinute}
 use Rattle.settings_file.specs.StationSettings.{StationSettings}
-use Rattle.weather_book.specs.Book.{last_of, len_of, most_of, is_stale}
+use Rattle.weather_book.specs.Book.{last_stamp_of, len_of, most_rows_of, book_is_stale}
 use Rattle.causes.specs.declared.stored.Stored.{Stored}
 use Rattle.causes.specs.declared.stored.Stored.TheVariants.{Done, Full, Stale, DiskFault}
 use Rattle.dmpaft_pump.specs.Keeper.{Handed, Refusal, answer_for, one_batch, count, last_kept}
 use Rattle.causes.specs.Stored.{stale_after}
-use Rattle.station_session.specs.Batches.{IsBegun, begun_for, last_answer}
+use Rattle.station_session.specs.Batches.{ChangesAreBegun, begun_for, last_answer}
 use Rattle.station_session.specs.Holding.{Holding}
 use Rattle.station_session.specs.OneBatch.{AddsBatch, JudgesBatch, Chain}
 
@@ -19,20 +19,20 @@ one_refused Refusal.Full rows = refl
 one_refused Refusal.Stale rows = refl
 one_refused Refusal.DiskFault rows = refl
 
-few_begun : (a : Stored) (failed : ℕ) → IsBegun a failed → begun_for a failed ≤ 4
+few_begun : (a : Stored) (failed : ℕ) → ChangesAreBegun a failed → begun_for a failed ≤ 4
 few_begun Done failed h = omega arith
 few_begun Full failed h = omega arith
 few_begun Stale failed h = omega arith
 few_begun DiskFault failed h = h.1
 
 module _ {D : Type 0} (medium : Medium D) (settings : StationSettings) where
-  pub chain_last : (k : Holding D) (h : Handed) (l : Holding D) → Chain (AddsBatch medium settings) k h l → last_of l.book ≡ last_kept h (last_of k.book)
-  chain_last k Handed.Nothing l c = ap (λ (x : Holding D). last_of x.book) c
+  pub chain_last : (k : Holding D) (h : Handed) (l : Holding D) → Chain (AddsBatch medium settings) k h l → last_stamp_of l.book ≡ last_kept h (last_stamp_of k.book)
+  chain_last k Handed.Nothing l c = ap (λ (x : Holding D). last_stamp_of x.book) c
   chain_last k (Handed.Kept rows more) l c = chain_last c.0 more l c.2 ∙ ap (λ (x : Option CivilMinute). last_kept more x) c.1.newest
-  chain_last k (Handed.Refused rows why) l c = c.newest ∙ ap (λ (x : Handed). last_kept x (last_of k.book)) (one_refused why rows)
+  chain_last k (Handed.Refused rows why) l c = c.newest ∙ ap (λ (x : Handed). last_kept x (last_stamp_of k.book)) (one_refused why rows)
 
-  pub chain_most : (k : Holding D) (h : Handed) (l : Holding D) → Chain (AddsBatch medium settings) k h l → most_of l.book ≡ most_of k.book
-  chain_most k Handed.Nothing l c = ap (λ (x : Holding D). most_of x.book) c
+  pub chain_most : (k : Holding D) (h : Handed) (l : Holding D) → Chain (AddsBatch medium settings) k h l → most_rows_of l.book ≡ most_rows_of k.book
+  chain_most k Handed.Nothing l c = ap (λ (x : Holding D). most_rows_of x.book) c
   chain_most k (Handed.Kept rows more) l c = chain_most c.0 more l c.2 ∙ c.1.most
   chain_most k (Handed.Refused rows why) l c = c.most
 
@@ -51,8 +51,8 @@ module _ {D : Type 0} (medium : Medium D) (settings : StationSettings) where
   chain_moved k (Handed.Kept rows more) l c = omega (arith, chain_moved c.0 more l c.2, c.1.moved)
   chain_moved k (Handed.Refused rows why) l c = omega (arith, c.moved, few_begun (answer_for why) c.failed c.begun)
 
-  pub chain_stale : (k : Holding D) (h : Handed) (l : Holding D) → Chain (AddsBatch medium settings) k h l → is_stale l.book ≡ stale_after (last_answer h) (is_stale k.book)
-  chain_stale k Handed.Nothing l c = ap (λ (x : Holding D). is_stale x.book) c
+  pub chain_stale : (k : Holding D) (h : Handed) (l : Holding D) → Chain (AddsBatch medium settings) k h l → book_is_stale l.book ≡ stale_after (last_answer h) (book_is_stale k.book)
+  chain_stale k Handed.Nothing l c = ap (λ (x : Holding D). book_is_stale x.book) c
   chain_stale k (Handed.Kept rows more) l c = chain_stale c.0 more l c.2 ∙ ap (λ (b : Bool). stale_after (last_answer more) b) c.1.stale
   chain_stale k (Handed.Refused rows why) l c = c.stale
 
@@ -62,8 +62,8 @@ module _ {D : Type 0} (medium : Medium D) (settings : StationSettings) where
   chain_rose k (Handed.Refused rows why) l e c = c.cause.rose e
 
   -- a book that was not stale refuses no batch as stale
-  pub chain_never_stale : (k : Holding D) (h : Handed) (l : Holding D) → is_stale k.book ≡ false → last_answer h ≡ Stale → Chain (AddsBatch medium settings) k h l → ⊥
+  pub chain_never_stale : (k : Holding D) (h : Handed) (l : Holding D) → book_is_stale k.book ≡ false → last_answer h ≡ Stale → Chain (AddsBatch medium settings) k h l → ⊥
   chain_never_stale k Handed.Nothing l fresh e c = cc
   chain_never_stale k (Handed.Kept rows more) l fresh e c = chain_never_stale c.0 more l (c.1.stale ∙ fresh) e c.2
   chain_never_stale k (Handed.Refused rows why) l fresh e c =
-      let stale : is_stale k.book ≡ true = subst (λ (a : Stored). JudgesBatch a (is_stale k.book) (most_of k.book) (len_of k.book + length rows)) e c.judged in cc
+      let stale : book_is_stale k.book ≡ true = subst (λ (a : Stored). JudgesBatch a (book_is_stale k.book) (most_rows_of k.book) (len_of k.book + length rows)) e c.judged in cc

@@ -13,7 +13,7 @@ use Rattle.station_session.specs.declared.report.Report.{Report}
 use Rattle.station_session.specs.declared.round_end.RoundEnd.{RoundEnd}
 use Rattle.station_session.specs.Attempts.{Tried, IsTried, Attempts, all_said, stamp_after, most_attempts}
 use Rattle.station_session.specs.Bounds.{GrowsWithin}
-use Rattle.station_session.specs.Round.{RoundHost, Serves}
+use Rattle.station_session.specs.Round.{RoundHost, ServesRound}
 use Rattle.dmpaft_driver.specs.Bounds.{most_heard, most_said}
 
 -- so many attempts
@@ -43,7 +43,7 @@ attempts_bounded made left last (t ∷ ts) end three (less, tried, inr (ends, no
     (one_before 0 t.said [] (one_attempt last t tried) (none_after 0) left (omega (arith, three, less)))
 
 -- what one round adds to its link's talk
-pub round_is_bounded : {L D : Type 0} (traffic : Traffic L) (medium : Medium D) (rows : List Row) (end : RoundEnd) (old new : RoundHost L D) (report : Report) → Serves traffic medium rows end old new report
+pub round_is_bounded : {L D : Type 0} (traffic : Traffic L) (medium : Medium D) (rows : List Row) (end : RoundEnd) (old new : RoundHost L D) (report : Report) → ServesRound traffic medium rows end old new report
     → GrowsWithin traffic (most_attempts * most_heard) (most_attempts * most_said) old.link new.link
 round_is_bounded traffic medium rows end old new report s before told =
     (all_said s.tries, s.adds.told ∙ ap (with_items (all_said s.tries)) told, attempts_bounded 0 most_attempts _ s.tries end (omega arith) s.attempts)

@@ -1,7 +1,7 @@
 -- The records that a round keeps are those that rise among all slots that its attempts took.
 use Rattle.std.proofs.Common.{◌≡◌, ℕ, ◌+◌, Bool, true, false, inl, inr, List, [], ◌∷◌, ◌++◌, refl, sym, ◌∙◌, ap, subst, append-nil, append_assoc, Option}
 use Rattle.station_base.specs.CivilMinute.{CivilMinute}
-use Rattle.dmpaft_pump.specs.Batch.{slots, is_newer, one_if, last_if, rising, newest, batches, records_in, all_slots, answered, add}
+use Rattle.dmpaft_pump.specs.Batch.{slots_in_page, slot_is_newer, one_if, last_if, rising, newest, batches, records_in, all_slots, answered_batches, add}
 use Rattle.station_base.specs.LastStamp.{last_stamp}
 use Rattle.archive_record.specs.Reading.{stamp_in}
 use Rattle.dmpaft_pump.specs.Keeper.{Handed, kept_all, join, last_kept}
@@ -27,9 +27,9 @@ joined_rise last place taken = batches_rise last place taken
 -- the last of the records that rise has the greatest stamp
 last_rising : (a : Option CivilMinute) (ss : List (List ℕ)) → last_stamp stamp_in (rising a ss) a ≡ newest a ss
 last_rising a [] = refl
-last_rising a (s ∷ ss) = by_test (is_newer a s) refl (λ b. last_rising b ss)
+last_rising a (s ∷ ss) = by_test (slot_is_newer a s) refl (λ b. last_rising b ss)
   where
-    by_test : (t : Bool) → is_newer a s ≡ t → ((b : Option CivilMinute) → last_stamp stamp_in (rising b ss) b ≡ newest b ss) → last_stamp stamp_in (rising a (s ∷ ss)) a ≡ newest a (s ∷ ss)
+    by_test : (t : Bool) → slot_is_newer a s ≡ t → ((b : Option CivilMinute) → last_stamp stamp_in (rising b ss) b ≡ newest b ss) → last_stamp stamp_in (rising a (s ∷ ss)) a ≡ newest a (s ∷ ss)
     by_test true e behind = ap (λ (t : Bool). last_stamp stamp_in (one_if t s ++ rising (last_if t a s) ss) a) e ∙ behind (last_if true a s) ∙ ap (λ (t : Bool). newest (last_if t a s) ss) (sym e)
     by_test false e behind = ap (λ (t : Bool). last_stamp stamp_in (one_if t s ++ rising (last_if t a s) ss) a) e ∙ behind a ∙ ap (λ (t : Bool). newest (last_if t a s) ss) (sym e)
 
@@ -41,10 +41,10 @@ kept_first (x ∷ r) bs a = refl
 newest_kept : (a : Option CivilMinute) (place : ℕ) (taken : List (List ℕ)) → last_kept (kept_all (batches a place taken)) a ≡ newest a (all_slots place taken)
 newest_kept a place [] = refl
 newest_kept a place (page ∷ more) =
-    let b = newest a (slots place page) in
-    kept_first (rising a (slots place page)) (batches b 0 more) a
-    ∙ ap (λ (x : Option CivilMinute). last_kept (kept_all (batches b 0 more)) x) (last_rising a (slots place page))
-    ∙ newest_kept b 0 more ∙ sym (newest_joins a (slots place page) (all_slots 0 more))
+    let b = newest a (slots_in_page place page) in
+    kept_first (rising a (slots_in_page place page)) (batches b 0 more) a
+    ∙ ap (λ (x : Option CivilMinute). last_kept (kept_all (batches b 0 more)) x) (last_rising a (slots_in_page place page))
+    ∙ newest_kept b 0 more ∙ sym (newest_joins a (slots_in_page place page) (all_slots 0 more))
 
 front_whole : (xs ys : List (List ℕ)) → xs ≡ ys → IsFrontOf xs ys
 front_whole xs ys e = ([], append-nil xs ∙ e)
@@ -77,7 +77,7 @@ front_of_one last t =
 
 module _ (last : Option CivilMinute) (t : Tried) (all : gathered.keeper_answer t.end ≡ Done) where
   all_kept : batches_in last t ≡ kept_all (batches last t.place t.taken)
-  all_kept = ap (λ (a : Stored). answered a (batches last t.place t.taken)) all ∙ kept_answered (batches last t.place t.taken)
+  all_kept = ap (λ (a : Stored). answered_batches a (batches last t.place t.taken)) all ∙ kept_answered (batches last t.place t.taken)
 
   -- all of them, where no batch was refused
   whole_of_one : kept_records (batches_in last t) ≡ rising last (all_slots t.place t.taken)

@@ -5,12 +5,12 @@ use Rattle.station_base.specs.LastStamp.{exceeds, Rises, last_stamp}
 use Rattle.archive_record.specs.Reading.{stamp_in}
 use Rattle.causes.specs.declared.stored.Stored.{Stored}
 use Rattle.causes.specs.declared.stored.Stored.TheVariants.{Done, Full, Stale, DiskFault}
-use Rattle.dmpaft_pump.specs.Batch.{slots, rising, newest, add, batches, answered}
+use Rattle.dmpaft_pump.specs.Batch.{slots_in_page, rising, newest, add, batches, answered_batches}
 use Rattle.dmpaft_pump.specs.Keeper.{Handed, one_batch, join, last_kept}
 use Rattle.dmpaft_driver.specs.Gathered as gathered
-use Rattle.dmpaft_pump.specs.Pump.{State, Saying, Hearing, Keeping, Over, Astray}
-use Rattle.dmpaft_pump.specs.Shown.{all_kept, answer_of}
-use Rattle.dmpaft_driver.specs.Standing.{place_in, taken_in, handed}
+use Rattle.dmpaft_pump.specs.Pump.{AttemptState, Saying, Hearing, Keeping, Over, Astray}
+use Rattle.dmpaft_pump.specs.Shown.{all_kept, pump_answer}
+use Rattle.dmpaft_driver.specs.Standing.{place_of_part, taken_in, handed_over}
 use Rattle.dmpaft_pump.proofs.Keeping.{kept_answered}
 use Rattle.dmpaft_pump.proofs.Rows.{rows_rise, within_self}
 use Rattle.station_session.specs.Attempts.{Tried, batches_in, stamp_after, all_batches}
@@ -61,26 +61,26 @@ one_tells Full b rows h = tt
 one_tells Stale b rows h = tt
 one_tells DiskFault b rows h = tt
 
-more_tells : (k : Stored) (b : Option CivilMinute) (rows : List (List ℕ)) → Rises stamp_in b rows → (bs : List (List (List ℕ))) → AllTell (answered k bs) → AllTell (answered k (rows ∷ bs))
+more_tells : (k : Stored) (b : Option CivilMinute) (rows : List (List ℕ)) → Rises stamp_in b rows → (bs : List (List (List ℕ))) → AllTell (answered_batches k bs) → AllTell (answered_batches k (rows ∷ bs))
 more_tells k b rows h [] ih = one_tells k b rows h
 more_tells k b rows h (x ∷ bs) ih = (last_tells b rows h, ih)
 
-answered_tells : (k : Stored) (a : Option CivilMinute) (place : ℕ) (taken : List (List ℕ)) → AllTell (answered k (batches a place taken))
+answered_tells : (k : Stored) (a : Option CivilMinute) (place : ℕ) (taken : List (List ℕ)) → AllTell (answered_batches k (batches a place taken))
 answered_tells k a place [] = tt
-answered_tells k a place (page ∷ more) = go (rising a (slots place page)) (rows_rise a a (slots place page) (within_self a)) (answered_tells k (newest a (slots place page)) 0 more)
+answered_tells k a place (page ∷ more) = go (rising a (slots_in_page place page)) (rows_rise a a (slots_in_page place page) (within_self a)) (answered_tells k (newest a (slots_in_page place page)) 0 more)
   where
-    go : (rows : List (List ℕ)) → Rises stamp_in a rows → AllTell (answered k (batches (newest a (slots place page)) 0 more)) → AllTell (answered k (add rows (batches (newest a (slots place page)) 0 more)))
+    go : (rows : List (List ℕ)) → Rises stamp_in a rows → AllTell (answered_batches k (batches (newest a (slots_in_page place page)) 0 more)) → AllTell (answered_batches k (add rows (batches (newest a (slots_in_page place page)) 0 more)))
     go [] h ih = ih
-    go (r ∷ rows) h ih = more_tells k a (r ∷ rows) h (batches (newest a (slots place page)) 0 more) ih
+    go (r ∷ rows) h ih = more_tells k a (r ∷ rows) h (batches (newest a (slots_in_page place page)) 0 more) ih
 
 kept_tell : (a : Option CivilMinute) (place : ℕ) (taken : List (List ℕ)) → TellsLast (all_kept a place taken)
-kept_tell a place taken = subst TellsLast (kept_answered (batches a place taken)) (tells (answered Done (batches a place taken)) (answered_tells Done a place taken))
+kept_tell a place taken = subst TellsLast (kept_answered (batches a place taken)) (tells (answered_batches Done (batches a place taken)) (answered_tells Done a place taken))
 
-pub handed_tells : (a : Option CivilMinute) (s : State) → TellsLast (handed a s)
-handed_tells a (Saying part i others) = kept_tell a (place_in part) (taken_in part)
-handed_tells a (Hearing part bytes run) = kept_tell a (place_in part) (taken_in part)
+pub handed_tells : (a : Option CivilMinute) (s : AttemptState) → TellsLast (handed_over a s)
+handed_tells a (Saying part i others) = kept_tell a (place_of_part part) (taken_in part)
+handed_tells a (Hearing part bytes run) = kept_tell a (place_of_part part) (taken_in part)
 handed_tells a (Keeping more place taken page) = kept_tell a place taken
-handed_tells a (Over place taken end) = tells (answered (answer_of end) (batches a place taken)) (answered_tells (answer_of end) a place taken)
+handed_tells a (Over place taken end) = tells (answered_batches (pump_answer end) (batches a place taken)) (answered_tells (pump_answer end) a place taken)
 handed_tells a Astray = λ before. refl
 
 all_of_each : (last : Option CivilMinute) (ts : List Tried) → AllTell (all_batches last ts)

@@ -4,10 +4,10 @@ use Rattle.causes.specs.declared.stored.Stored.{Stored}
 use Rattle.causes.specs.declared.stored.Stored.TheVariants as stored
 use Rattle.dmpaft_driver.specs.Attempt.{Attempt, End}
 use Rattle.dmpaft_pump.specs.Batch.{batches}
-use Rattle.dmpaft_driver.specs.Exact.{AllDone, RefusesGiven, end_of}
+use Rattle.dmpaft_driver.specs.Exact.{AllDone, RefusesGiven, attempt_end}
 use Rattle.dmpaft_pump.specs.Keeper.{Handed, kept_all, last_kept}
 use Rattle.dmpaft_driver.specs.OneAttempt.{IsAttempt}
-use Rattle.dmpaft_pump.specs.Pump.{State, Saying, Hearing, Keeping, Over, Astray, Settling, answered_by, begun, onward, pump_from, step}
+use Rattle.dmpaft_pump.specs.Pump.{AttemptState, Saying, Hearing, Keeping, Over, Astray, Settling, answered_by, begun, onward, pump_from, attempt_step}
 use Rattle.dmpaft_driver.specs.Turning.{dump_end_of}
 use Rattle.dmpaft_pump.specs.declared.outcome.DumpEnd.{DumpEnd}
 use Rattle.dmpaft_pump.specs.declared.outcome.DumpEnd.TheVariants as dump_end
@@ -28,14 +28,14 @@ use Rattle.wake_retry.proofs.Endings.{same_front}
 
 module _ (a : Option CivilMinute) (p q : ℕ) (ps qs : List (List ℕ)) (x y : PumpEnd) where
   -- where a talk in which each batch is kept ends a pump, no longer one does, however its batches are answered
-  ends_here : (s : State) (t u : List TalkItem) (js ks : List Stored) → AllDone js → pump_from a s t js ≡ Over p ps x
+  ends_here : (s : AttemptState) (t u : List TalkItem) (js ks : List Stored) → AllDone js → pump_from a s t js ≡ Over p ps x
       → pump_from a s (t ++ u) ks ≡ Over q qs y → u ≡ []
   ends_here (Saying part i l) [] u [] ks d e f = absurd cc
   ends_here (Saying part i l) [] u (j ∷ js) ks d e f = absurd cc
-  ends_here (Saying part i l) (b ∷ t) u js ks d e f = ends_here (step a (Saying part i l) b) t u js ks d e f
+  ends_here (Saying part i l) (b ∷ t) u js ks d e f = ends_here (attempt_step a (Saying part i l) b) t u js ks d e f
   ends_here (Hearing part bs r) [] u [] ks d e f = absurd cc
   ends_here (Hearing part bs r) [] u (j ∷ js) ks d e f = absurd cc
-  ends_here (Hearing part bs r) (b ∷ t) u js ks d e f = ends_here (step a (Hearing part bs r) b) t u js ks d e f
+  ends_here (Hearing part bs r) (b ∷ t) u js ks d e f = ends_here (attempt_step a (Hearing part bs r) b) t u js ks d e f
   ends_here (Over at taken end) [] u js ks d e f = (over_is a at taken end u ks q qs y f).0
   ends_here (Over at taken end) (b ∷ t) u js ks d e f = absurd (no_astray a t js p ps x e)
   ends_here Astray [] u [] ks d e f = absurd cc
@@ -49,8 +49,8 @@ module _ (a : Option CivilMinute) (p q : ℕ) (ps qs : List (List ℕ)) (x y : P
   ends_here (Keeping more at taken page) (b ∷ t) u [] ks d e f = absurd (no_astray a t [] p ps x e)
   ends_here (Keeping more at taken page) (b ∷ t) u (j ∷ js) [] d e f = absurd (no_astray a (t ++ u) [] q qs y f)
   ends_here (Keeping more at taken page) (b ∷ t) u (j ∷ js) (stored.Done ∷ ks) d e f =
-      ends_here (step a (begun a (onward more at (taken ++ page ∷ []))) b) t u js ks d.1
-      (ap (λ (k : Stored). pump_from a (step a (answered_by a more at (taken ++ page ∷ []) k) b) t js) (sym d.0) ∙ e) f
+      ends_here (attempt_step a (begun a (onward more at (taken ++ page ∷ []))) b) t u js ks d.1
+      (ap (λ (k : Stored). pump_from a (attempt_step a (answered_by a more at (taken ++ page ∷ []) k) b) t js) (sym d.0) ∙ e) f
   ends_here (Keeping more at taken page) (b ∷ t) u (j ∷ js) (stored.Full ∷ ks) d e f = absurd (no_astray a (t ++ u) ks q qs y f)
   ends_here (Keeping more at taken page) (b ∷ t) u (j ∷ js) (stored.Stale ∷ ks) d e f = absurd (no_astray a (t ++ u) ks q qs y f)
   ends_here (Keeping more at taken page) (b ∷ t) u (j ∷ js) (stored.DiskFault ∷ ks) d e f = absurd (no_astray a (t ++ u) ks q qs y f)
@@ -59,8 +59,8 @@ module _ (a : Option CivilMinute) (p q : ℕ) (ps qs : List (List ℕ)) (x y : P
 record Known (last : Option CivilMinute) (said : List TalkItem) (place : ℕ) (taken : List (List ℕ)) (end : DumpEnd) : Type 0 where
   by : PumpEnd
   is : end ≡ dump_end_of by
-  attempt : Attempt (stamp_frame_of last) said place taken (end_of by)
-  gives : RefusesGiven last place taken (end_of by)
+  attempt : Attempt (stamp_frame_of last) said place taken (attempt_end by)
+  gives : RefusesGiven last place taken (attempt_end by)
 
 module _ (last : Option CivilMinute) (said : List TalkItem) (place : ℕ) (taken : List (List ℕ)) where
   -- an attempt was cut, or it is known how it ended
@@ -77,7 +77,7 @@ module _ (last : Option CivilMinute) (said : List TalkItem) (place : ℕ) (taken
 
   -- one that is whole or failed was not cut, not refused and did not flood
   abbrev IsMild : DumpEnd → Type 0
-  IsMild end = (k : Known last said place taken end) × (end_of k.by ≢ End.Refused) × (end_of k.by ≢ End.Flooded)
+  IsMild end = (k : Known last said place taken end) × (attempt_end k.by ≢ End.Refused) × (attempt_end k.by ≢ End.Flooded)
 
   mild : (end : DumpEnd) → IsAttempt last said place taken end → (end_after end ≡ None) ⊎ (end_after end ≡ Some round.Done) → IsMild end
   mild dump_end.Whole it how =
@@ -90,8 +90,8 @@ module _ (last : Option CivilMinute) (said : List TalkItem) (place : ℕ) (taken
 module _ (last : Option CivilMinute) where
   -- an attempt that was not refused goes on as no other
   no_longer : (s u : List TalkItem) (p q : ℕ) (ps qs : List (List ℕ)) (x y : PumpEnd)
-      → Attempt (stamp_frame_of last) s p ps (end_of x) → end_of x ≢ End.Refused
-      → Attempt (stamp_frame_of last) (s ++ u) q qs (end_of y) → RefusesGiven last q qs (end_of y) → u ≡ []
+      → Attempt (stamp_frame_of last) s p ps (attempt_end x) → attempt_end x ≢ End.Refused
+      → Attempt (stamp_frame_of last) (s ++ u) q qs (attempt_end y) → RefusesGiven last q qs (attempt_end y) → u ≡ []
   no_longer s u p q ps qs x y one other two gives =
       let c = complete last s p ps x one (λ never. absurd (other never)) in
       let d = complete last (s ++ u) q qs y two gives in
@@ -102,8 +102,8 @@ module _ (last : Option CivilMinute) where
     place : ℕ
     taken : List (List ℕ)
     by : PumpEnd
-    attempt : Attempt (stamp_frame_of last) said place taken (end_of by)
-    other : end_of by ≢ End.Refused
+    attempt : Attempt (stamp_frame_of last) said place taken (attempt_end by)
+    other : attempt_end by ≢ End.Refused
 
   goes : (t : Tried) → IsTried last t → (end_after t.end ≡ None) ⊎ (end_after t.end ≡ Some round.Done) → Goes t.said
   goes t it how = let m = mild last t.said t.place t.taken t.end it how in
@@ -130,7 +130,7 @@ ended : (d : DumpEnd) (end one : RoundEnd) → end_after d ≡ Some one → end_
 ended d end one is now may = let same : one ≡ end = (let both : Some one ≡ Some end = sym is ∙ now in cc) in subst MayEnd same may
 
 -- the end of a last attempt that was not refused and did not flood
-last_ends : (by : PumpEnd) (end : RoundEnd) → end_of by ≢ End.Refused → end_of by ≢ End.Flooded → end_after (dump_end_of by) ≡ Some end
+last_ends : (by : PumpEnd) (end : RoundEnd) → attempt_end by ≢ End.Refused → attempt_end by ≢ End.Flooded → end_after (dump_end_of by) ≡ Some end
     → MayEnd end
 last_ends pump_end.Whole end other dry is = ended dump_end.Whole end round.Done refl is tt
 last_ends (pump_end.Failed trouble) end other dry is = absurd cc
@@ -138,7 +138,7 @@ last_ends pump_end.Flood end other dry is = absurd (dry refl)
 last_ends by end other dry is = absurd (other refl)
 
 -- attempts that end alike both fail or neither does
-both_fail : (x y : PumpEnd) → end_of x ≡ end_of y → end_after (dump_end_of x) ≡ None → end_after (dump_end_of y) ≡ None
+both_fail : (x y : PumpEnd) → attempt_end x ≡ attempt_end y → end_after (dump_end_of x) ≡ None → end_after (dump_end_of y) ≡ None
 both_fail (pump_end.Failed trouble) (pump_end.Failed other) e is = refl
 both_fail (pump_end.Failed trouble) y e is = absurd cc
 both_fail x y e is = absurd cc
@@ -166,10 +166,10 @@ module _ (last : Option CivilMinute) (t s : Tried) (it : IsTried last t) (is : I
         | inl cut ↦ ended t.end end round.LinkFault (ap end_after cut) now tt
         | inr (inl cut) ↦ ended t.end end round.OutOfMemory (ap end_after cut) now tt
         | inr (inr k) ↦ (
-            let Talks : List TalkItem → Type 0 = λ u. Attempt (stamp_frame_of last) u t.place t.taken (end_of k.by) in
+            let Talks : List TalkItem → Type 0 = λ u. Attempt (stamp_frame_of last) u t.place t.taken (attempt_end k.by) in
             let none = no_longer last s.said rest s.place t.place s.taken t.taken m.0.by k.by m.0.attempt m.1 (subst Talks same k.attempt) k.gives in
             let whole : t.said ≡ s.said = same ∙ ap (λ (u : List TalkItem). s.said ++ u) none ∙ append-nil s.said in
-            let agree = one_attempt (stamp_frame_of last) s.said t.place s.place t.taken s.taken (end_of k.by) (end_of m.0.by)
+            let agree = one_attempt (stamp_frame_of last) s.said t.place s.place t.taken s.taken (attempt_end k.by) (attempt_end m.0.by)
             (subst Talks whole k.attempt) m.0.attempt in
             last_ends k.by end (λ never. m.1 (sym agree.ends ∙ never)) (λ never. m.2 (sym agree.ends ∙ never)) (ap end_after (sym k.is) ∙ now)
             )
@@ -180,8 +180,8 @@ module _ (last : Option CivilMinute) (t s : Tried) (it : IsTried last t) (is : I
   failed_so fails same =
       let k = mild last t.said t.place t.taken t.end it (inl fails) in
       let m = mild last s.said s.place s.taken s.end is how in
-      let Talks : List TalkItem → Type 0 = λ u. Attempt (stamp_frame_of last) u t.place t.taken (end_of k.0.by) in
-      let agree = one_attempt (stamp_frame_of last) s.said t.place s.place t.taken s.taken (end_of k.0.by) (end_of m.0.by)
+      let Talks : List TalkItem → Type 0 = λ u. Attempt (stamp_frame_of last) u t.place t.taken (attempt_end k.0.by) in
+      let agree = one_attempt (stamp_frame_of last) s.said t.place s.place t.taken s.taken (attempt_end k.0.by) (attempt_end m.0.by)
       (subst Talks same k.0.attempt) m.0.attempt in
       let none = ap end_after m.0.is ∙ both_fail k.0.by m.0.by agree.ends (ap end_after (sym k.0.is) ∙ fails) in
       (none, stamps_same last t s agree.pages agree.places fails none)

@@ -8,12 +8,12 @@ use Rattle.settings_file.specs.StationSettings.{StationSettings}
 use Rattle.causes.specs.declared.stored.Stored.{Stored}
 use Rattle.causes.specs.declared.stored.Stored.TheVariants as stored
 use Rattle.dmpaft_driver.specs.Attempt.{End}
-use Rattle.dmpaft_driver.specs.Exact.{AllDone, end_of}
+use Rattle.dmpaft_driver.specs.Exact.{AllDone, attempt_end}
 use Rattle.dmpaft_pump.specs.Keeper.{Handed, kept_all, join, last_kept}
-use Rattle.dmpaft_pump.specs.Pump.{State, Hearing, Keeping, Over, Settling, begun, pump_from, answered_by, batch_of}
-use Rattle.dmpaft_pump.specs.Shown.{Shows, end_at}
-use Rattle.dmpaft_driver.specs.Standing.{handed, gives}
-use Rattle.dmpaft_driver.specs.Turning.{IsOneStep, IsCut, EndsAt, CutsAt, dump_end_of}
+use Rattle.dmpaft_pump.specs.Pump.{AttemptState, Hearing, Keeping, Over, Settling, begun, pump_from, answered_by, batch_of}
+use Rattle.dmpaft_pump.specs.Shown.{PumpShows, end_at}
+use Rattle.dmpaft_driver.specs.Standing.{handed_over, gives}
+use Rattle.dmpaft_driver.specs.Turning.{IsOneStep, DumpIsCut, EndsAt, CutsAt, dump_end_of}
 use Rattle.dmpaft_pump.specs.declared.outcome.DumpEnd.{DumpEnd}
 use Rattle.dmpaft_pump.specs.declared.outcome.DumpEnd.TheVariants as dump_end
 use Rattle.dmpaft_pump.specs.declared.outcome.Tally.{Tally}
@@ -49,7 +49,7 @@ refused_after pump_end.Whole end h = cc
 refused_after (pump_end.Failed trouble) end h = cc
 refused_after pump_end.Flood end h = cc
 
-refused_is : (e : PumpEnd) (end : RoundEnd) → refused_by e ≡ Some end → end_of e ≡ End.Refused
+refused_is : (e : PumpEnd) (end : RoundEnd) → refused_by e ≡ Some end → attempt_end e ≡ End.Refused
 refused_is pump_end.Full end h = refl
 refused_is pump_end.Stale end h = refl
 refused_is pump_end.DiskFault end h = refl
@@ -65,7 +65,7 @@ refused_quietly pump_end.Whole end h = cc
 refused_quietly (pump_end.Failed trouble) end h = cc
 refused_quietly pump_end.Flood end h = cc
 
-mild_answer : (e : PumpEnd) → end_of e ≢ End.Refused → answer_at (round_end_of (dump_end_of e)) ≡ stored.Done
+mild_answer : (e : PumpEnd) → attempt_end e ≢ End.Refused → answer_at (round_end_of (dump_end_of e)) ≡ stored.Done
 mild_answer pump_end.Whole h = refl
 mild_answer (pump_end.Failed trouble) h = refl
 mild_answer pump_end.Flood h = refl
@@ -73,7 +73,7 @@ mild_answer pump_end.Full h = absurd (h refl)
 mild_answer pump_end.Stale h = absurd (h refl)
 mild_answer pump_end.DiskFault h = absurd (h refl)
 
-cut_answer : (end : DumpEnd) → IsCut end → answer_at (round_end_of end) ≡ stored.Done
+cut_answer : (end : DumpEnd) → DumpIsCut end → answer_at (round_end_of end) ≡ stored.Done
 cut_answer end (inl c) = ap (λ (x : DumpEnd). answer_at (round_end_of x)) c
 cut_answer end (inr c) = ap (λ (x : DumpEnd). answer_at (round_end_of x)) c
 
@@ -106,7 +106,7 @@ failure pump_end.Stale h = cc
 failure pump_end.DiskFault h = cc
 failure pump_end.Flood h = cc
 
-not_cut : (end : DumpEnd) → IsCut end → end_after end ≡ None → ⊥
+not_cut : (end : DumpEnd) → DumpIsCut end → end_after end ≡ None → ⊥
 not_cut end (inl c) h = let z : end_after dump_end.LinkFault ≡ None = sym (ap end_after c) ∙ h in cc
 not_cut end (inr c) h = let z : end_after dump_end.OutOfMemory ≡ None = sym (ap end_after c) ∙ h in cc
 
@@ -127,7 +127,7 @@ is_done stored.Full = inr (λ e. cc)
 is_done stored.Stale = inr (λ e. cc)
 is_done stored.DiskFault = inr (λ e. cc)
 
-module _ (start : Tally) (a : Option CivilMinute) (s : State) (t : List TalkItem) (ks : List Stored) (pump : Pump) (shown : Shows start a (pump_from a s t ks) pump) where
+module _ (start : Tally) (a : Option CivilMinute) (s : AttemptState) (t : List TalkItem) (ks : List Stored) (pump : Pump) (shown : PumpShows start a (pump_from a s t ks) pump) where
   -- where the batch was not refused, it was kept
   pub not_refused : ((e : PumpEnd) → end_at pump.stage ≡ Some e → refused_by e ≡ None) → IsOneStep a s t ks → AllDone ks × (more : List (List (List ℕ))) × (gives a s ks ≡ kept_all more) × IsOneCallOrBatch t more
   not_refused mild (inl (none, call)) = (subst AllDone (sym none) tt, [], ap (gives a s) none ∙ none_given a s, inl (call, refl))
@@ -135,11 +135,11 @@ module _ (start : Tally) (a : Option CivilMinute) (s : State) (t : List TalkItem
     | inl done ↦
         let one : ks ≡ stored.Done ∷ [] = is ∙ ap (λ (x : Stored). x ∷ []) done in
         let rows = batch_of a place taken page in
-        (subst AllDone (sym one) (refl, tt), rows ∷ [], ap (λ (x : State). gives a x ks) at ∙ ap (gives a (Keeping more place taken page)) one, inr (none, rows, refl))
+        (subst AllDone (sym one) (refl, tt), rows ∷ [], ap (λ (x : AttemptState). gives a x ks) at ∙ ap (gives a (Keeping more place taken page)) one, inr (none, rows, refl))
     | inr ne ↦
         let r = refusal_at k ne a more place (taken ++ page ∷ []) in
         let over : pump_from a s t ks ≡ Over place (taken ++ page ∷ []) r.0 =
-        ap (λ (x : State). pump_from a x t ks) at ∙ ap (λ (x : List TalkItem). pump_from a (Keeping more place taken page) x ks) none ∙ ap (λ (x : List Stored). pump_from a (Keeping more place taken page) [] x) is ∙ r.2 in
+        ap (λ (x : AttemptState). pump_from a x t ks) at ∙ ap (λ (x : List TalkItem). pump_from a (Keeping more place taken page) x ks) none ∙ ap (λ (x : List Stored). pump_from a (Keeping more place taken page) [] x) is ∙ r.2 in
         let z : None ≡ Some r.1 = sym (mild r.0 (end_shown start a (pump_from a s t ks) pump shown place (taken ++ page ∷ []) r.0 over)) ∙ r.3 in
         absurd cc
   ]
@@ -148,7 +148,7 @@ module _ (start : Tally) (a : Option CivilMinute) (s : State) (t : List TalkItem
   pub one_at_most : IsOneStep a s t ks → IsOneAtMost t (gives a s ks)
   one_at_most (inl (none, call)) = inl (ap (gives a s) none ∙ none_given a s)
   one_at_most (inr (none, k, is, more, place, taken, page, at, some)) =
-      inr (none, k, batch_of a place taken page, ap (λ (x : State). gives a x ks) at ∙ ap (gives a (Keeping more place taken page)) is)
+      inr (none, k, batch_of a place taken page, ap (λ (x : AttemptState). gives a x ks) at ∙ ap (gives a (Keeping more place taken page)) is)
 
 module _ {last : Option CivilMinute} {talk : List TalkItem} {kept : List (List (List ℕ))} {round : Round} (r : RoundAt last talk kept round) where
   abbrev start : Tally
@@ -161,28 +161,28 @@ module _ {last : Option CivilMinute} {talk : List TalkItem} {kept : List (List (
   less = omega (arith, r.few)
 
   -- the attempt that is over, behind those that failed
-  module _ (t : List TalkItem) (given : Handed) (s : State) (end : DumpEnd) (tally : Tally) (b : Brought start a (r.said ++ t) end (handed a s) tally)
-      (more_given : handed a s ≡ join (handed a r.state) given) where
+  module _ (t : List TalkItem) (given : Handed) (s : AttemptState) (end : DumpEnd) (tally : Tally) (b : Brought start a (r.said ++ t) end (handed_over a s) tally)
+      (more_given : handed_over a s ≡ join (handed_over a r.state) given) where
     tries : List Tried
-    tries = all last r.tries (r.said ++ t) end (handed a s) tally r.failed less b
+    tries = all last r.tries (r.said ++ t) end (handed_over a s) tally r.failed less b
 
     talk_is : talk ++ t ≡ all_said tries
     unfolding tries
     talk_is =
         ap (λ (x : List TalkItem). x ++ t) r.talk_is ∙ append_assoc (all_said r.tries) r.said t
-        ∙ sym (said_is last r.tries (r.said ++ t) end (handed a s) tally r.failed less b)
+        ∙ sym (said_is last r.tries (r.said ++ t) end (handed_over a s) tally r.failed less b)
 
     kept_are : join (kept_all kept) given ≡ all_batches last tries
     unfolding tries
     kept_are =
-        ap (λ (x : Handed). join x given) r.kept_are ∙ join_assoc (all_batches last r.tries) (handed a r.state) given
+        ap (λ (x : Handed). join x given) r.kept_are ∙ join_assoc (all_batches last r.tries) (handed_over a r.state) given
         ∙ ap (λ (x : Handed). join (all_batches last r.tries) x) (sym more_given)
-        ∙ sym (given_is last r.tries (r.said ++ t) end (handed a s) tally r.failed less b)
+        ∙ sym (given_is last r.tries (r.said ++ t) end (handed_over a s) tally r.failed less b)
 
     troubles_are : (noted : List Trouble) → noted ≡ round.troubles.items ++ trouble_of end → noted ≡ troubles_of tries
     unfolding tries
     troubles_are noted is =
-        is ∙ ap (λ (x : List Trouble). x ++ trouble_of end) r.troubles ∙ sym (troubles_is last r.tries (r.said ++ t) end (handed a s) tally r.failed less b)
+        is ∙ ap (λ (x : List Trouble). x ++ trouble_of end) r.troubles ∙ sym (troubles_is last r.tries (r.said ++ t) end (handed_over a s) tally r.failed less b)
 
     pub ends_round : (e : RoundEnd) → (end_after end ≡ Some e) ⊎ ((end_after end ≡ None) × (e ≡ round_end.GaveUp) × (round.more ≡ 0)) → (report : Report) → report.attempts + round.more ≡ 3 → report.tally ≡ tally
         → report.troubles.items ≡ round.troubles.items ++ trouble_of end → EndsRound last (talk ++ t) (join (kept_all kept) given) e report
@@ -192,38 +192,38 @@ module _ {last : Option CivilMinute} {talk : List TalkItem} {kept : List (List (
       attempts = ended how;
       talk_is = talk_is;
       given_are = kept_are;
-      made = omega (arith, made, r.few, all_length last r.tries (r.said ++ t) end (handed a s) tally r.failed less b);
+      made = omega (arith, made, r.few, all_length last r.tries (r.said ++ t) end (handed_over a s) tally r.failed less b);
       some = omega (arith, made, r.few);
       few = omega (arith, ap (λ (x : Tally). x.pages) counts, b.pages, b.few, r.pages, r.few);
-      tally = subst (λ (x : Tally). IsTally last tries x) (sym counts) (counted last r.tries (r.said ++ t) end (handed a s) tally r.failed less b);
+      tally = subst (λ (x : Tally). IsTally last tries x) (sym counts) (counted last r.tries (r.said ++ t) end (handed_over a s) tally r.failed less b);
       troubles = troubles_are report.troubles.items noted;
     }
       where
         ended : (end_after end ≡ Some e) ⊎ ((end_after end ≡ None) × (e ≡ round_end.GaveUp) × (round.more ≡ 0)) → Attempts 0 last tries e
-        ended (inl is) = round_ends last r.tries (r.said ++ t) end (handed a s) tally r.failed less b e is
+        ended (inl is) = round_ends last r.tries (r.said ++ t) end (handed_over a s) tally r.failed less b e is
         ended (inr (none, is, zero)) =
-            subst (λ (x : RoundEnd). Attempts 0 last (all last r.tries (r.said ++ t) end (handed a s) tally r.failed less b) x) (sym is)
-            (gives_up last r.tries (r.said ++ t) end (handed a s) tally r.failed less b none (omega (arith, zero, r.few)))
+            subst (λ (x : RoundEnd). Attempts 0 last (all last r.tries (r.said ++ t) end (handed_over a s) tally r.failed less b) x) (sym is)
+            (gives_up last r.tries (r.said ++ t) end (handed_over a s) tally r.failed less b none (omega (arith, zero, r.few)))
 
     -- it failed, and the next one begins
     pub again : (now : List (List (List ℕ))) → given ≡ kept_all now → (mid : Round) → end_after end ≡ None → mid.more ≡ round.more → mid.pump.tally ≡ tally → (o : Option CivilMinute) → o ≡ last_kept (join (kept_all kept) given) last
-        → (round' : Round) → round.more ≡ round'.more + 1 → Shows tally o (begun o Settling) round'.pump → round'.troubles.items ≡ round.troubles.items ++ trouble_of end → RoundAt last (talk ++ t) (kept ++ now) round'
+        → (round' : Round) → round.more ≡ round'.more + 1 → PumpShows tally o (begun o Settling) round'.pump → round'.troubles.items ≡ round.troubles.items ++ trouble_of end → RoundAt last (talk ++ t) (kept ++ now) round'
     unfolding tries
     again now all_kept mid none more counts o is round' fewer shows noted =
-        let failed : AllFailed last tries = all_failed last r.tries (r.said ++ t) end (handed a s) tally r.failed less b none in
+        let failed : AllFailed last tries = all_failed last r.tries (r.said ++ t) end (handed_over a s) tally r.failed less b none in
         let stamp : stamp_behind last tries ≡ o = behind_is last tries failed ∙ ap (λ (x : Handed). last_kept x last) (sym kept_are) ∙ sym is in
-        let same : tally ≡ tally_of last tries = tally_is last r.tries (r.said ++ t) end (handed a s) tally r.failed less b in
+        let same : tally ≡ tally_of last tries = tally_is last r.tries (r.said ++ t) end (handed_over a s) tally r.failed less b in
         record {
           tries = tries;
           failed = failed;
-          few = omega (arith, fewer, r.few, all_length last r.tries (r.said ++ t) end (handed a s) tally r.failed less b);
-          pages = omega (arith, r.pages, all_length last r.tries (r.said ++ t) end (handed a s) tally r.failed less b, all_pages last r.tries (r.said ++ t) end (handed a s) tally r.failed less b);
+          few = omega (arith, fewer, r.few, all_length last r.tries (r.said ++ t) end (handed_over a s) tally r.failed less b);
+          pages = omega (arith, r.pages, all_length last r.tries (r.said ++ t) end (handed_over a s) tally r.failed less b, all_pages last r.tries (r.said ++ t) end (handed_over a s) tally r.failed less b);
           said = [];
           answers = [];
           state = begun (stamp_behind last tries) Settling;
           stands = refl;
           done = tt;
-          shows = subst (λ (x : Option CivilMinute). Shows (tally_of last tries) x (begun x Settling) round'.pump) (sym stamp) (subst (λ (x : Tally). Shows x o (begun o Settling) round'.pump) same shows);
+          shows = subst (λ (x : Option CivilMinute). PumpShows (tally_of last tries) x (begun x Settling) round'.pump) (sym stamp) (subst (λ (x : Tally). PumpShows x o (begun o Settling) round'.pump) same shows);
           goes_on = λ f. let z : Hearing Settling [] 0 ≡ Over f.0 f.1 (pump_end.Failed f.2) = f.3 in cc;
           talk_is = talk_is ∙ sym (append-nil (all_said tries));
           kept_are = sym (kept_on kept now given all_kept) ∙ kept_are ∙ sym (join_none (all_batches last tries));
@@ -232,7 +232,7 @@ module _ {last : Option CivilMinute} {talk : List TalkItem} {kept : List (List (
 
   -- a step after which nothing ended
   module _ {L D : Type 0} {traffic : Traffic L} {medium : Medium D} {settings : StationSettings} {old new : Bench L D} (same : old.pump ≡ round.pump) (v : StepsAttempt traffic medium settings None start a r.state old new) where
-    abbrev state : State
+    abbrev state : AttemptState
     state = pump_from a r.state v.said v.answers
 
     -- the round goes on, and what it was given was kept
@@ -240,7 +240,7 @@ module _ {last : Option CivilMinute} {talk : List TalkItem} {kept : List (List (
     GoesOnBy round' =
         (more : List (List (List ℕ))) × (gives a r.state v.answers ≡ kept_all more) × RoundAt last (talk ++ v.said) (kept ++ more) round' × IsOneCallOrBatch v.said more
 
-    given_more : handed a (pump_from a r.state v.said v.answers) ≡ join (handed a r.state) (gives a r.state v.answers)
+    given_more : handed_over a (pump_from a r.state v.said v.answers) ≡ join (handed_over a r.state) (gives a r.state v.answers)
     given_more = handed_turn a r.state v.said v.answers (shown_no_astray start a state new.pump v.turns.0) v.turns.1
 
     at : Rattle.dmpaft_pump.specs.Pump.pump_after a (r.said ++ v.said) (r.answers ++ v.answers) ≡ pump_from a r.state v.said v.answers
@@ -249,7 +249,7 @@ module _ {last : Option CivilMinute} {talk : List TalkItem} {kept : List (List (
     -- the attempt goes on
     pub stays : (mid round' : Round) → mid.pump ≡ new.pump → mid.more ≡ round.more → mid.troubles.items ≡ round.troubles.items → StaysAt mid round' → GoesOnBy round'
     stays mid round' pump more noted (is, mild, zero) =
-        let shown : Shows start a state mid.pump = subst (λ (x : Pump). Shows start a state x) (sym pump) v.turns.0 in
+        let shown : PumpShows start a state mid.pump = subst (λ (x : Pump). PumpShows start a state x) (sym pump) v.turns.0 in
         let one = not_refused start a r.state v.said v.answers mid.pump shown mild v.turns.1 in (
           one.1,
           one.2,
@@ -268,7 +268,7 @@ module _ {last : Option CivilMinute} {talk : List TalkItem} {kept : List (List (
             talk_is = ap (λ (x : List TalkItem). x ++ v.said) r.talk_is ∙ append_assoc (all_said r.tries) r.said v.said;
             kept_are =
                 sym (kept_on kept one.1 (gives a r.state v.answers) one.2)
-                ∙ ap (λ (x : Handed). join x (gives a r.state v.answers)) r.kept_are ∙ join_assoc (all_batches last r.tries) (handed a r.state) (gives a r.state v.answers)
+                ∙ ap (λ (x : Handed). join x (gives a r.state v.answers)) r.kept_are ∙ join_assoc (all_batches last r.tries) (handed_over a r.state) (gives a r.state v.answers)
                 ∙ ap (λ (x : Handed). join (all_batches last r.tries) x) (sym given_more);
             troubles = noted ∙ r.troubles;
           }),
@@ -276,7 +276,7 @@ module _ {last : Option CivilMinute} {talk : List TalkItem} {kept : List (List (
         )
 
     -- the attempt ended so
-    brought : (e : PumpEnd) → end_at new.pump.stage ≡ Some e → Brought start a (r.said ++ v.said) (dump_end_of e) (handed a (pump_from a r.state v.said v.answers)) new.pump.tally
+    brought : (e : PumpEnd) → end_at new.pump.stage ≡ Some e → Brought start a (r.said ++ v.said) (dump_end_of e) (handed_over a (pump_from a r.state v.said v.answers)) new.pump.tally
     brought e is =
         let o = over_at_end start a state new.pump v.turns.0 e is in
         over_brought start a (r.said ++ v.said) (r.answers ++ v.answers) state new.pump at v.turns.0 o.0 o.1 e o.2
@@ -293,7 +293,7 @@ module _ {last : Option CivilMinute} {talk : List TalkItem} {kept : List (List (
           one.1,
           one.2,
           again v.said (gives a r.state v.answers) state (dump_end.Failed trouble) new.pump.tally b given_more one.1 one.2 mid refl more counts o is round' (omega (arith, fewer, more))
-              (subst (λ (x : Tally). Shows x o (begun o Settling) round'.pump) counts shows)
+              (subst (λ (x : Tally). PumpShows x o (begun o Settling) round'.pump) counts shows)
               (noted ∙ ap (λ (x : List Trouble). x ++ trouble ∷ []) before),
           one.3,
         )
@@ -302,7 +302,7 @@ module _ {last : Option CivilMinute} {talk : List TalkItem} {kept : List (List (
     not_mild : AllDone v.answers → (e : PumpEnd) → end_at new.pump.stage ≡ Some e → (end : RoundEnd) → refused_by e ≡ Some end → ⊥
     not_mild done e is end refused =
         let o = over_at_end start a state new.pump v.turns.0 e is in
-        let mild : end_of e ≢ End.Refused = subst Mild (at ∙ o.2) (mild_runs a (begun a Settling) (r.said ++ v.said) (r.answers ++ v.answers) tt (all_done a r.answers v.answers r.done done)) in
+        let mild : attempt_end e ≢ End.Refused = subst Mild (at ∙ o.2) (mild_runs a (begun a Settling) (r.said ++ v.said) (r.answers ++ v.answers) tt (all_done a r.answers v.answers r.done done)) in
         mild (refused_is e end refused)
 
     -- the batch that was refused was answered so
@@ -318,12 +318,12 @@ module _ {last : Option CivilMinute} {talk : List TalkItem} {kept : List (List (
           | inr ne ↦
               let x = refusal_at k ne a more place (taken ++ page ∷ []) in
               let over : pump_from a r.state v.said v.answers ≡ Over place (taken ++ page ∷ []) x.0 =
-              ap (λ (y : State). pump_from a y v.said v.answers) keeps ∙ ap (λ (y : List TalkItem). pump_from a (Keeping more place taken page) y v.answers) none ∙ ap (λ (y : List Stored). pump_from a (Keeping more place taken page) [] y) is ∙ x.2 in
+              ap (λ (y : AttemptState). pump_from a y v.said v.answers) keeps ∙ ap (λ (y : List TalkItem). pump_from a (Keeping more place taken page) y v.answers) none ∙ ap (λ (y : List Stored). pump_from a (Keeping more place taken page) [] y) is ∙ x.2 in
               let y : Some x.0 ≡ Some e = sym (end_shown start a state new.pump v.turns.0 place (taken ++ page ∷ []) x.0 over) ∙ ended in
               let z : x.0 ≡ e = cc in
               let w : Some x.1 ≡ Some end = sym x.3 ∙ ap refused_by z ∙ refused in
               let u : x.1 ≡ end = cc in
-              ap last_answer (ap (λ (q : State). gives a q v.answers) keeps ∙ ap (gives a (Keeping more place taken page)) is) ∙ last_one k (batch_of a place taken page) ∙ x.4 ∙ ap answer_at u
+              ap last_answer (ap (λ (q : AttemptState). gives a q v.answers) keeps ∙ ap (gives a (Keeping more place taken page)) is) ∙ last_one k (batch_of a place taken page) ∙ x.4 ∙ ap answer_at u
         ]
 
     -- its batch was refused
@@ -364,8 +364,8 @@ module _ {last : Option CivilMinute} {talk : List TalkItem} {kept : List (List (
         → report.troubles.items ≡ round'.troubles.items → EndsRound last (talk ++ v.said) (join (kept_all kept) (gives a r.state v.answers)) (round_end_of end) report × IsOneAtMost v.said (gives a r.state v.answers)
     ends mid round' pump more before is report made counts noted =
         let how = subst (λ (x : Pump). EndsAt end r.state v.said v.answers ⊎ CutsAt end a r.state v.said v.answers x) same v.turns.1 in
-        let b : Brought start a (r.said ++ v.said) end (handed a r.state) round.pump.tally = ended_brought start a r.said r.answers r.state round.pump r.stands r.shows v.said v.answers end how in
-        let all_given : handed a r.state ≡ join (handed a r.state) (gives a r.state v.answers) = sym (join_none (handed a r.state)) ∙ ap (λ (x : Handed). join (handed a r.state) x) (sym no_batch) in
+        let b : Brought start a (r.said ++ v.said) end (handed_over a r.state) round.pump.tally = ended_brought start a r.said r.answers r.state round.pump r.stands r.shows v.said v.answers end how in
+        let all_given : handed_over a r.state ≡ join (handed_over a r.state) (gives a r.state v.answers) = sym (join_none (handed_over a r.state)) ∙ ap (λ (x : Handed). join (handed_over a r.state) x) (sym no_batch) in
         let tallies : round'.pump.tally ≡ round.pump.tally = ap (λ (x : Pump). x.tally) (is.0 ∙ pump ∙ v.turns.0 ∙ same) in
         let left : round'.more ≡ round.more = is.1 ∙ more in
         let by : (end_after end ≡ Some (round_end_of end)) ⊎ ((end_after end ≡ None) × (round_end_of end ≡ round_end.GaveUp) × (round.more ≡ 0)) = elim (fails_or_ends end) [

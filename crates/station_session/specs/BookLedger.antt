@@ -2,7 +2,7 @@
 use Rattle.std.specs.Prelude.{◌≡◌, ℕ, ◌+◌, ◌*◌, ◌≤◌, List, vec_capacity, refl}
 use Rattle.std.proofs.Common.{◌∙◌, subst, arith}
 use Rattle.station_session.specs.Room.{batch_room}
-use Rattle.weather_book.specs.Book.{last_of, spare}
+use Rattle.weather_book.specs.Book.{last_stamp_of, spare}
 use Rattle.dmpaft_pump.specs.declared.batch.TheConstants.{MOST_RECORDS}
 use Rattle.dmpaft_pump.specs.Ledger.{Ledger}
 use Rattle.disk_model.specs.Medium.{Medium}
@@ -59,7 +59,7 @@ keeps_joins medium k l m first later one two = record {
 -- what a book that keeps the records of a dump tells, on a disk that tells this
 abbrev pub book_ledger : {D : Type 0} → Medium D → Ledger (BookKeeper D)
 book_ledger medium = record {
-  last = λ k. last_of k.book.now;
+  last = λ k. last_stamp_of k.book.now;
   room = λ k. batch_room k.book.now (medium.moment k.disk.now) k.marks.now;
   keeps = λ k steps l. GivenInTurn medium k steps l;
   keeps_none = λ k. keeps_none medium k;

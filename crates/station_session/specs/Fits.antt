@@ -4,13 +4,13 @@ use Rattle.std.specs.Prelude.{Option, Some, None}
 use Rattle.station_base.specs.CivilMinute.{CivilMinute}
 use Rattle.serial_link.specs.declared.talk.TalkItem.{TalkItem}
 use Rattle.dmpaft_pump.specs.declared.batch.TheConstants.{MOST_RECORDS}
-use Rattle.weather_book.specs.Book.{last_of, spare}
+use Rattle.weather_book.specs.Book.{last_stamp_of, spare}
 use Rattle.station_session.specs.declared.report.Report.{Report}
 use Rattle.station_session.specs.declared.round.Round.{Round}
 use Rattle.station_session.specs.declared.session.Session.{Session}
 use Rattle.station_session.specs.declared.limits.TheConstants.{MOST_BATCHES, CHANGES}
 use Rattle.station_session.specs.RoundAt.{RoundAt}
-use Rattle.station_session.specs.Session.{is_stale}
+use Rattle.station_session.specs.Session.{session_is_stale}
 use Rattle.station_session.specs.Attempts.{most_attempts}
 
 -- the first of them that there is
@@ -41,9 +41,9 @@ pub record HasKept (round : Round) (count : ℕ) : Type 0 where
 -- A session and a report are those of a round under way: the session is not stale, its last stamp is the last one that
 -- the round kept or else the one that it began after, what is reported is what the round did so far, with a mark for
 -- each batch that it kept, and there is room for the others.
-pub record Fits (session : Session) (round : Round) (report : Report) : Type 0 where
-  pub fresh : is_stale session ≡ false
-  pub last : last_of session.book ≡ last_so_far round
+pub record RoundFits (session : Session) (round : Round) (report : Report) : Type 0 where
+  pub fresh : session_is_stale session ≡ false
+  pub last : last_stamp_of session.book ≡ last_so_far round
   pub attempts : report.attempts + round.more ≡ most_attempts
   pub tally : report.tally ≡ round.pump.tally
   pub troubles : report.troubles.items ≡ round.troubles.items

@@ -5,7 +5,7 @@ use Rattle.disk_model.specs.Medium.{Medium}
 use Rattle.disk_model.specs.Disk.{Faults, LeavesOnly}
 use Rattle.station_base.specs.declared.row.Row.{Row}
 use Rattle.settings_file.specs.StationSettings.{StationSettings}
-use Rattle.weather_book.specs.Book.{StandsFor, len_of, last_of, most_of, is_stale}
+use Rattle.weather_book.specs.Book.{BookStandsFor, len_of, last_stamp_of, most_rows_of, book_is_stale}
 use Rattle.packed_rows.specs.Rows.{slot_total}
 use Rattle.gated_log.specs.Appending.{ByGate}
 use Rattle.weather_book.specs.Stands.{HasRows, NowHasRows, RowsOldOrAll, StandsOn, StandsToReadOn}
@@ -15,7 +15,7 @@ use Rattle.dmpaft_pump.specs.Keeper.{Handed, answer_for, one_batch, kept_all, jo
 use Rattle.station_session.specs.Records.{stored_rows}
 use Rattle.causes.specs.Stored.{stale_after}
 use Rattle.gated_log.specs.Layout.{slot_size}
-use Rattle.station_session.specs.Batches.{Delivery, delivery, kept_of, Fits, IsBegun, begun_for, batch_changes}
+use Rattle.station_session.specs.Batches.{Delivery, delivery, kept_of, BatchFits, ChangesAreBegun, begun_for, batch_changes}
 use Rattle.station_session.specs.Batches.{slots_more}
 use Rattle.station_session.specs.Images.{MayStand}
 use Rattle.station_session.specs.Report.{mark_for}
@@ -24,25 +24,25 @@ use Rattle.station_session.specs.Holding.{Holding}
 -- a book answers a batch so by whether it is stale, and else by whether the batch fits
 abbrev pub JudgesBatch : Stored → Bool → ℕ → ℕ → Type 0
 JudgesBatch stored.Stale stale most count = stale ≡ true
-JudgesBatch stored.Done stale most count = (stale ≡ false) × Fits stored.Done most count
-JudgesBatch stored.Full stale most count = (stale ≡ false) × Fits stored.Full most count
-JudgesBatch stored.DiskFault stale most count = (stale ≡ false) × Fits stored.DiskFault most count
+JudgesBatch stored.Done stale most count = (stale ≡ false) × BatchFits stored.Done most count
+JudgesBatch stored.Full stale most count = (stale ≡ false) × BatchFits stored.Full most count
+JudgesBatch stored.DiskFault stale most count = (stale ≡ false) × BatchFits stored.DiskFault most count
 
 -- A batch was given to a book, and answered so.
 pub record AddsBatch {D : Type 0} (medium : Medium D)
     (settings : StationSettings) (old : Holding D) (s : Delivery) (new : Holding D) : Type 0 where
-  pub newest : last_of new.book ≡ last_kept (one_batch s.answer s.rows) (last_of old.book)
-  pub judged : JudgesBatch s.answer (is_stale old.book) (most_of old.book) (len_of old.book + length s.rows)
-  pub stale : is_stale new.book ≡ stale_after s.answer (is_stale old.book)
-  pub most : most_of new.book ≡ most_of old.book
+  pub newest : last_stamp_of new.book ≡ last_kept (one_batch s.answer s.rows) (last_stamp_of old.book)
+  pub judged : JudgesBatch s.answer (book_is_stale old.book) (most_rows_of old.book) (len_of old.book + length s.rows)
+  pub stale : book_is_stale new.book ≡ stale_after s.answer (book_is_stale old.book)
+  pub most : most_rows_of new.book ≡ most_rows_of old.book
   pub cause : Faults medium old.disk new.disk (s.answer ≡ stored.DiskFault)
-  pub rows : (rows : List Row) → StandsFor old.book rows
-      → StandsFor new.book (rows ++ stored_rows settings (kept_of s.answer s.rows))
+  pub rows : (rows : List Row) → BookStandsFor old.book rows
+      → BookStandsFor new.book (rows ++ stored_rows settings (kept_of s.answer s.rows))
   pub count : length (stored_rows settings (kept_of s.answer s.rows)) ≡ length (kept_of s.answer s.rows)
   pub failed : ℕ
-  pub begun : IsBegun s.answer failed
+  pub begun : ChangesAreBegun s.answer failed
   pub moved : medium.moment new.disk ≡ medium.moment old.disk + begun_for s.answer failed
-  pub went_on : (rows : List Row) → StandsFor old.book rows
+  pub went_on : (rows : List Row) → BookStandsFor old.book rows
       → medium.went old.disk
       (batch_changes s.answer failed (slot_total rows) (slots_more rows (stored_rows settings s.rows))) new.disk
   pub noted : new.marks ≡ old.marks ++ mark_for s.answer (medium.moment new.disk) (len_of old.book + length s.rows)

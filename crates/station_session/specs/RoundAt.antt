@@ -10,9 +10,9 @@ use Rattle.dmpaft_pump.specs.declared.outcome.Trouble.{Trouble}
 use Rattle.dmpaft_pump.specs.declared.pump_end.PumpEnd.TheVariants as pump_end
 use Rattle.dmpaft_driver.specs.Exact.{AllDone}
 use Rattle.dmpaft_pump.specs.Keeper.{kept_all, join, last_kept}
-use Rattle.dmpaft_pump.specs.Pump.{State, Over, pump_after}
-use Rattle.dmpaft_pump.specs.Shown.{Shows, left_of}
-use Rattle.dmpaft_driver.specs.Standing.{handed}
+use Rattle.dmpaft_pump.specs.Pump.{AttemptState, Over, pump_after}
+use Rattle.dmpaft_pump.specs.Shown.{PumpShows, steps_left}
+use Rattle.dmpaft_driver.specs.Standing.{handed_over}
 use Rattle.station_session.specs.declared.round.Round.{Round}
 use Rattle.station_session.specs.Attempts.{Tried, IsTried, end_after, stamp_after, stamp_behind, all_batches, all_said, most_attempts}
 use Rattle.station_session.specs.Attempts.{page_count, skip_count}
@@ -32,7 +32,7 @@ tally_of last tries = record {
 }
 
 -- the attempt is over, and failed
-abbrev pub HasFailed : State → Type 0
+abbrev pub HasFailed : AttemptState → Type 0
 HasFailed s =
     (place : ℕ) × (taken : List (List ℕ)) × (trouble : Trouble) × (s ≡ Over place taken (pump_end.Failed trouble))
 
@@ -46,15 +46,15 @@ pub record RoundAt (last : Option CivilMinute) (talk : List TalkItem) (kept : Li
   pub pages : page_count tries ≤ most_pages * length tries
   pub said : List TalkItem
   pub answers : List Stored
-  pub state : State
+  pub state : AttemptState
   pub stands : pump_after (stamp_behind last tries) said answers ≡ state
   pub done : AllDone answers
-  pub shows : Shows (tally_of last tries) (stamp_behind last tries) state round.pump
+  pub shows : PumpShows (tally_of last tries) (stamp_behind last tries) state round.pump
   pub goes_on : HasFailed state → round.more ≡ 0
   pub talk_is : talk ≡ all_said tries ++ said
-  pub kept_are : kept_all kept ≡ join (all_batches last tries) (handed (stamp_behind last tries) state)
+  pub kept_are : kept_all kept ≡ join (all_batches last tries) (handed_over (stamp_behind last tries) state)
   pub troubles : round.troubles.items ≡ troubles_of tries
 
 -- so many turns are left at most: those of the pump, and fewer than 2^30 for each attempt that may follow
-abbrev pub left : Round → ℕ
-left round = left_of round.pump + 2 ^ 30 * round.more
+abbrev pub round_turns_left : Round → ℕ
+round_turns_left round = steps_left round.pump + 2 ^ 30 * round.more

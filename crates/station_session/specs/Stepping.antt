@@ -16,10 +16,10 @@ use Rattle.dmpaft_pump.specs.declared.pump.Pump.{Pump}
 use Rattle.dmpaft_pump.specs.declared.pump_end.PumpEnd.{PumpEnd}
 use Rattle.dmpaft_pump.specs.declared.pump_end.PumpEnd.TheVariants as pump_end
 use Rattle.dmpaft_pump.specs.Keeper.{count}
-use Rattle.dmpaft_pump.specs.Pump.{State, Settling, begun}
-use Rattle.dmpaft_pump.specs.Shown.{Shows, end_at}
+use Rattle.dmpaft_pump.specs.Pump.{AttemptState, Settling, begun}
+use Rattle.dmpaft_pump.specs.Shown.{PumpShows, end_at}
 use Rattle.dmpaft_driver.specs.Standing.{gives}
-use Rattle.dmpaft_driver.specs.Turning.{TurnsTo}
+use Rattle.dmpaft_driver.specs.Turning.{AttemptTurnsTo}
 use Rattle.station_session.specs.declared.round.Round.{Round}
 use Rattle.station_session.specs.declared.round.Turn.{Turn}
 use Rattle.station_session.specs.declared.round.Turn.TheVariants as turn
@@ -42,14 +42,14 @@ bench pump link holding = record { pump = pump; link = link; holding = holding }
 -- One step of an attempt from where it stands: what was said and heard, the batch that the book was given, if one was,
 -- and where the attempt stands then.
 pub record StepsAttempt {L D : Type 0} (traffic : Traffic L) (medium : Medium D) (settings : StationSettings)
-    (result : Option DumpEnd) (start : Tally) (after : Option CivilMinute) (s : State) (old new : Bench L D)
+    (result : Option DumpEnd) (start : Tally) (after : Option CivilMinute) (s : AttemptState) (old new : Bench L D)
     : Type 0 where
   pub said : List TalkItem
   pub answers : List Stored
   pub adds : Adds traffic old.link said new.link
   pub chain : Chain (AddsBatch medium settings) old.holding (gives after s answers) new.holding
   pub spare : spare old.holding.book ≤ spare new.holding.book + MOST_RECORDS * count (gives after s answers)
-  pub turns : TurnsTo result start after s said answers old.pump new.pump
+  pub turns : AttemptTurnsTo result start after s said answers old.pump new.pump
 
 -- how a round ends whose batch was refused, or met a disk fault
 abbrev pub refused_by : PumpEnd → Option RoundEnd
@@ -72,7 +72,7 @@ StaysAt old new = (new ≡ old) × ((e : PumpEnd) → end_at old.pump.stage ≡ 
 -- the attempt failed, and the next one begins after this stamp
 abbrev pub TriesAgain : Option CivilMinute → Round → Round → Type 0
 TriesAgain last old new = (trouble : Trouble) × (end_at old.pump.stage ≡ Some (pump_end.Failed trouble))
-    × (old.more ≡ new.more + 1) × Shows old.pump.tally last (begun last Settling) new.pump
+    × (old.more ≡ new.more + 1) × PumpShows old.pump.tally last (begun last Settling) new.pump
     × (new.troubles.items ≡ old.troubles.items ++ trouble ∷ [])
 
 -- the round is over, since the batch of its attempt was refused
@@ -85,7 +85,7 @@ Notes end old new = (new.pump ≡ old.pump) × (new.more ≡ old.more)
     × (new.troubles.items ≡ old.troubles.items ++ trouble_of end)
 
 -- what a round does after a step of its attempt, by the end that the step answered, if one
-abbrev pub GoesOn : Option DumpEnd → Turn → Option CivilMinute → Round → Round → Type 0
-GoesOn (Some end) result last old new = (result ≡ turn.Ended (round_end_of end)) × Notes end old new
-GoesOn None turn.More last old new = StaysAt old new ⊎ TriesAgain last old new
-GoesOn None (turn.Ended end) last old new = IsRefused end old new
+abbrev pub RoundGoesOn : Option DumpEnd → Turn → Option CivilMinute → Round → Round → Type 0
+RoundGoesOn (Some end) result last old new = (result ≡ turn.Ended (round_end_of end)) × Notes end old new
+RoundGoesOn None turn.More last old new = StaysAt old new ⊎ TriesAgain last old new
+RoundGoesOn None (turn.Ended end) last old new = IsRefused end old new

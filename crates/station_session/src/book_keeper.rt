@@ -1,5 +1,5 @@
 ghost use Rattle.std.specs.Prelude.{◌≡◌, ◌≤◌, ◌<◌, ◌+◌, ◌-◌, ◌/◌, ◌^◌, ◌++◌, [], ◌∷◌, ℕ, List, length, min, refl, vec_len, vec_capacity};
-ghost use Rattle.weather_book.specs.Book.{last_of};
+ghost use Rattle.weather_book.specs.Book.{last_stamp_of};
 ghost use Rattle.station_session.specs.Holding.{holding};
 ghost use Rattle.station_session.specs.OneBatch.{AddsBatch, Chain};
 ghost use Rattle.station_session.specs.Room.{batch_room};

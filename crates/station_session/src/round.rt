@@ -43,14 +43,14 @@ pub enum Turn {
 
 impl Round {
     ghost use Rattle.dmpaft_pump.specs.Pump.{Settling, begun};
-    ghost use Rattle.dmpaft_pump.specs.Shown.{Shows, left_of, no_tally};
-    ghost use Rattle.station_session.specs.RoundAt.{left};
-    ghost use Rattle.station_session.specs.Stepping.{GoesOn, Notes};
+    ghost use Rattle.dmpaft_pump.specs.Shown.{PumpShows, steps_left, no_tally};
+    ghost use Rattle.station_session.specs.RoundAt.{round_turns_left};
+    ghost use Rattle.station_session.specs.Stepping.{RoundGoesOn, Notes};
 
     // A round whose first attempt asks after this stamp.
     pub(crate) fn new(last: Option<Stamp>) -> Round
-        ensures shows { Shows no_tally last (begun last Settling) result.pump }
-        ensures left { left_of result.pump < 2 ^ 30 }
+        ensures shows { PumpShows no_tally last (begun last Settling) result.pump }
+        ensures left { steps_left result.pump < 2 ^ 30 }
         ensures more { result.more ≡ most_attempts - 1 }
         ensures troubles { result.troubles.items ≡ [] }
     {
@@ -110,8 +110,8 @@ impl Round {
         requires pages { self.old.pump.tally.pages < 2 ^ 31 }
         requires skipped { self.old.pump.tally.skipped < 2 ^ 31 }
         requires room { array_vec_len self.old.troubles < MOST_TROUBLES }
-        ensures goes { GoesOn end result last self.old self.new }
-        ensures left { left self.new ≤ left self.old }
+        ensures goes { RoundGoesOn end result last self.old self.new }
+        ensures left { round_turns_left self.new ≤ round_turns_left self.old }
     {
         if let Some(end) = end {
             self.note(end);

@@ -1,10 +1,10 @@
 ghost use Rattle.std.specs.Prelude.{◌≡◌, ◌≤◌, ◌<◌, List, Option, Some, None, vec_capacity};
 ghost use Rattle.causes.specs.Cause.{Cause};
 ghost use Rattle.station_base.specs.CivilMinute.{CivilMinute};
-ghost use Rattle.weather_book.specs.Book.{last_of};
+ghost use Rattle.weather_book.specs.Book.{last_stamp_of};
 ghost use Rattle.dmpaft_pump.specs.declared.outcome.Tally.{Tally};
-ghost use Rattle.dmpaft_pump.specs.Pump.{State};
-ghost use Rattle.dmpaft_pump.specs.Shown.{Shows, Stands, left_of};
+ghost use Rattle.dmpaft_pump.specs.Pump.{AttemptState};
+ghost use Rattle.dmpaft_pump.specs.Shown.{PumpShows, PumpStands, steps_left};
 ghost use Rattle.dmpaft_driver.specs.Turning.{Suits};
 ghost use Rattle.station_session.specs.Room.{batch_room};
 ghost use Rattle.station_session.specs.Holding.{holding};
@@ -28,13 +28,14 @@ pub fn step<L: Link, D: Disk>(
     disk: &mut D,
     marks: &mut Vec<Mark>,
 ) -> Option<DumpEnd>
-    requires stands { Stands pump.old }
-    requires suits { Suits (last_of book.old) (batch_room book.old (D.medium.moment disk.old) marks.old) pump.old }
-    ensures steps { (start : Tally) (after : Option CivilMinute) (s : State) → Shows start after s pump.old
+    requires stands { PumpStands pump.old }
+    requires suits { Suits (last_stamp_of book.old)
+        (batch_room book.old (D.medium.moment disk.old) marks.old) pump.old }
+    ensures steps { (start : Tally) (after : Option CivilMinute) (s : AttemptState) → PumpShows start after s pump.old
         → StepsAttempt L.traffic D.medium settings.now result start after s
         (bench pump.old link.old (holding book.old disk.old marks.old.items))
         (bench pump.new link.new (holding book.new disk.new marks.new.items)) }
-    ensures left { result ≡ None → left_of pump.new < left_of pump.old }
+    ensures left { result ≡ None → steps_left pump.new < steps_left pump.old }
     ensures capacity { vec_capacity marks.old ≤ vec_capacity marks.new }
     ensures fault { Cause (L.traffic.faults link.old) (L.traffic.faults link.new) (result ≡ Some DumpEnd.LinkFault) }
     ensures shortage { Cause (L.traffic.shortages link.old) (L.traffic.shortages link.new)

@@ -2,28 +2,28 @@
 use Rattle.std.proofs.Common.{ℕ, zero, suc, ◌+◌, ◌-◌, ◌≤◌, List, [], ◌∷◌, length, refl, arith}
 use Rattle.console_model.specs.declared.reply.ReplyKind.{ReplyKind}
 use Rattle.console_model.specs.declared.reply.ReplyKind.TheVariants.{Nothing, Code, Test, Wake, Ack, AckFrame, Page, Packet}
-use Rattle.console_model.specs.Console.{State, Console, Outcome}
-use Rattle.console_model.specs.Console.State.{Asleep, Command, Overlong, Frame, Dump, Looping}
+use Rattle.console_model.specs.Console.{ConsoleState, Console, Outcome}
+use Rattle.console_model.specs.Console.ConsoleState.{Asleep, Command, Overlong, Frame, Dump, Looping}
 use Rattle.console_model.specs.Hear.{hear}
 use Rattle.station_sim.specs.declared.part.Part.{Part}
 use Rattle.station_sim.specs.declared.part.Part.TheVariants.{Byte}
-use Rattle.station_sim.specs.Calm.{IsCalm, IsBrief, FewWaits, Closed, pending}
+use Rattle.station_sim.specs.Calm.{IsCalm, IsBrief, FewWaits, EndsInByte, pending}
 use Rattle.schedule_file.specs.Fates.{Fates}
 use Rattle.station_sim.specs.Delivery.{late, waits, all_bytes}
 use Rattle.station_sim.specs.Line.{Line, happens, hears, joins}
 use Rattle.station_sim.specs.Talk.{fresh_line}
 
-closed_all : (bs : List ℕ) → Closed (all_bytes bs)
+closed_all : (bs : List ℕ) → EndsInByte (all_bytes bs)
 closed_all [] = tt
 closed_all (b ∷ bs) = closed_all bs
 
-closed_waits : (k b : ℕ) (l : List Part) → Closed l → Closed (waits k (Byte b ∷ l))
+closed_waits : (k b : ℕ) (l : List Part) → EndsInByte l → EndsInByte (waits k (Byte b ∷ l))
 closed_waits zero b l h = h
 closed_waits (suc zero) b l h = h
 closed_waits (suc (suc k)) b l h = closed_waits (suc k) b l h
 
 -- the last part of a reply, however late it comes, is a byte
-pub closed_late : (k p : ℕ) (bs : List ℕ) → Closed (late k p bs)
+pub closed_late : (k p : ℕ) (bs : List ℕ) → EndsInByte (late k p bs)
 closed_late k p [] = tt
 closed_late k zero (b ∷ bs) = closed_waits k b (all_bytes bs) (closed_all bs)
 closed_late k (suc p) (b ∷ bs) = closed_late k p bs
@@ -42,7 +42,7 @@ few_late j p [] h = tt
 few_late j zero (b ∷ bs) h = few_waits 2 2 j b (all_bytes bs) h (few_bytes 2 2 bs)
 few_late j (suc p) (b ∷ bs) h = few_late j p bs h
 
-little_pending : (s : State) → pending s ≤ 1
+little_pending : (s : ConsoleState) → pending s ≤ 1
 little_pending Asleep = omega arith
 little_pending (Command line) = omega arith
 little_pending Overlong = omega arith

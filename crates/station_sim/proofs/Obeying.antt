@@ -17,16 +17,16 @@ use Rattle.console_model.specs.declared.reply.ReplyKind.TheVariants as reply
 use Rattle.console_model.specs.declared.signal.Signal.{Signal}
 use Rattle.console_model.specs.declared.signal.Signal.TheVariants.{Lf, Next, Again, Stop, Other}
 use Rattle.console_model.specs.Clock.{is_time}
-use Rattle.console_model.specs.Console.{State, Console, Outcome}
-use Rattle.console_model.specs.Console.State.{Asleep, Command, Overlong, Frame, Dump, Looping}
+use Rattle.console_model.specs.Console.{ConsoleState, Console, Outcome}
+use Rattle.console_model.specs.Console.ConsoleState.{Asleep, Command, Overlong, Frame, Dump, Looping}
 use Rattle.console_model.specs.Frame.{at_frame, in_frame}
 use Rattle.console_model.specs.FrameSize.{frame_size}
-use Rattle.console_model.specs.Hear.{hear, heard_in, in_command, in_overlong, in_dump, ended}
+use Rattle.console_model.specs.Hear.{hear, heard_in, in_command, in_overlong, in_dump, dump_ended}
 use Rattle.console_model.specs.Line.{to, silent, obeyed, at_line}
-use Rattle.console_model.specs.Reading.{signal, read_line}
+use Rattle.console_model.specs.Reading.{signal, read_order}
 use Rattle.console_model.proofs.Orders.{read_empty}
 use Rattle.station_sim.specs.Line.{completes, is_page, pages}
-use Rattle.station_sim.specs.Unseen.{AtSomeByte, Completes, EndsCommand, EndsGoodFrame, SendsPage, having_heard}
+use Rattle.station_sim.specs.Unseen.{AtSomeByte, ByteCompletes, EndsCommand, EndsGoodFrame, ByteSendsPage, having_heard}
 
 obeyed_completes : (order : Ordered) (c : Console) → (obeyed order c).completes ≡ true
 obeyed_completes Test c = refl
@@ -52,7 +52,7 @@ lf_is b is = grind (arith, nat_tests, is)
 
 command_ends : (line : List ℕ) (m : Signal) (b : ℕ) (c : Console) → c.state ≡ Command line → signal b ≡ m → (in_command line m b c).completes ≡ true → EndsCommand c b
 command_ends line Lf b c at lf is =
-    let known = line_known (read_line line) c is in
+    let known = line_known (read_order line) c is in
     record { line = line; order = known.0; state = at; ends = lf_is b lf; is_command = known.1 }
 command_ends line Next b c at lf is = absurd cc
 command_ends line Again b c at lf is = absurd cc
@@ -108,12 +108,12 @@ dump_never p sent Next b c is =
 dump_never p sent Again b c is = cc
 dump_never p sent Stop b c is = cc
 dump_never p sent Lf b c is =
-    let known = line_known (read_line []) (ended c) is in
+    let known = line_known (read_order []) (dump_ended c) is in
     let wrong : Empty ≡ Known known.0 = sym (read_empty [] refl) ∙ known.1 in
     cc
 dump_never p sent Other b c is = cc
 
-state_completes : (s : State) (b : ℕ) (c : Console) → c.state ≡ s → (heard_in s (signal b) b c).completes ≡ true → Completes c b
+state_completes : (s : ConsoleState) (b : ℕ) (c : Console) → c.state ≡ s → (heard_in s (signal b) b c).completes ≡ true → ByteCompletes c b
 state_completes Asleep b c at is = absurd cc
 state_completes (Command line) b c at is = inl (command_ends line (signal b) b c at refl is)
 state_completes Overlong b c at is = absurd (overlong_never (signal b) c is)
@@ -123,21 +123,21 @@ state_completes (Looping n) b c at is = absurd cc
 
 command_completes : (c : Console) (b : ℕ) → EndsCommand c b → (hear c b).completes ≡ true
 command_completes c b h =
-    let at : hear c b ≡ in_command h.line (signal b) b c = ap (λ (s : State). heard_in s (signal b) b c) h.state in
-    let lf : in_command h.line (signal b) b c ≡ at_line (read_line h.line) c = ap (λ (m : Signal). in_command h.line m b c) (ap signal h.ends) in
-    let known : at_line (read_line h.line) c ≡ obeyed h.order c = ap (λ (o : Order). at_line o c) h.is_command in
+    let at : hear c b ≡ in_command h.line (signal b) b c = ap (λ (s : ConsoleState). heard_in s (signal b) b c) h.state in
+    let lf : in_command h.line (signal b) b c ≡ at_line (read_order h.line) c = ap (λ (m : Signal). in_command h.line m b c) (ap signal h.ends) in
+    let known : at_line (read_order h.line) c ≡ obeyed h.order c = ap (λ (o : Order). at_line o c) h.is_command in
     ap (λ (o : Outcome). o.completes) (at ∙ lf ∙ known) ∙ obeyed_completes h.order c
 
 frame_completes : (c : Console) (b : ℕ) → EndsGoodFrame c b → (hear c b).completes ≡ true
 frame_completes c b h =
     let frame = h.got ++ b ∷ [] in
-    let at : hear c b ≡ in_frame h.kind h.got b c = ap (λ (s : State). heard_in s (signal b) b c) h.state in
+    let at : hear c b ≡ in_frame h.kind h.got b c = ap (λ (s : ConsoleState). heard_in s (signal b) b c) h.state in
     let long : nat_lt (length h.got + 1) (frame_size h.kind) ≡ false = grind (arith, nat_tests, h.whole) in
     let whole : in_frame h.kind h.got b c ≡ at_frame h.kind frame c =
     ap (λ (t : Bool). if t then silent (to c (Frame h.kind frame)) else at_frame h.kind frame c) long in
     ap (λ (o : Outcome). o.completes) (at ∙ whole) ∙ good_completes h.kind frame c h.good
 
-byte_completes : (c : Console) (b : ℕ) → Decides (hear c b).completes (Completes c b)
+byte_completes : (c : Console) (b : ℕ) → Decides (hear c b).completes (ByteCompletes c b)
 byte_completes c b = (λ is. state_completes c.state b c refl is, λ h. elim h [ inl command ↦ command_completes c b command | inr frame ↦ frame_completes c b frame ])
 
 page_is : (k : ReplyKind) → Decides (is_page k) (k ≡ reply.Page)
@@ -188,9 +188,9 @@ pages_any [] c = refl
 pages_any (b ∷ bs) c = ap (λ (t : Bool). is_page (hear c b).kind || t) (pages_any bs (hear c b).next)
 
 -- whether a command or a good frame is complete at one of the bytes
-pub some_completes : (bs : List ℕ) (c : Console) → Decides (completes bs c) (AtSomeByte Completes bs c)
-some_completes bs c = Decides-at _ _ (completes_any bs c) (some_byte _ Completes byte_completes bs c)
+pub some_completes : (bs : List ℕ) (c : Console) → Decides (completes bs c) (AtSomeByte ByteCompletes bs c)
+some_completes bs c = Decides-at _ _ (completes_any bs c) (some_byte _ ByteCompletes byte_completes bs c)
 
 -- whether a page is sent at one of the bytes
-pub some_page : (bs : List ℕ) (c : Console) → Decides (pages bs c) (AtSomeByte SendsPage bs c)
-some_page bs c = Decides-at _ _ (pages_any bs c) (some_byte _ SendsPage (λ k b. page_is (hear k b).kind) bs c)
+pub some_page : (bs : List ℕ) (c : Console) → Decides (pages bs c) (AtSomeByte ByteSendsPage bs c)
+some_page bs c = Decides-at _ _ (pages_any bs c) (some_byte _ ByteSendsPage (λ k b. page_is (hear k b).kind) bs c)

@@ -13,7 +13,7 @@ use Rattle.console_model.specs.Hear.{hear}
 use Rattle.station_sim.specs.declared.unseen.Unseen.{Unseen}
 use Rattle.schedule_file.specs.Fates.{Fates}
 use Rattle.station_sim.specs.Delivery.{delivered}
-use Rattle.station_sim.specs.Line.{Line, begins_with_ack, completes, counted, earlier, from_console, from_host, happens, hears, is_harmed, joins, pages, passes, replied, sends}
+use Rattle.station_sim.specs.Line.{Line, begins_with_ack, completes, message_counted, earlier, from_console, from_host, happens, hears, is_harmed, joins, pages, passes, reply_joins, sends_message}
 use Rattle.station_sim.specs.Unseen.{BeginsWithAck, IsGoodBehindAck, IsUnseenMessage, IsUnseenReply, NamesFirst, PassesForWhole}
 use Rattle.station_sim.specs.UnseenTalk.{IsAmongReplies, IsNextReply}
 use Rattle.station_sim.proofs.Obeying.{some_completes, some_page}
@@ -78,14 +78,14 @@ names_none P this (Some u) never_so = refl
 
 -- a message of the host
 pub counted_names : (f : Fates) (message : List ℕ) (w : Line) →
-    NamesFirst (IsUnseenMessage message (delivered (f.host (w.messages + 1)) message) w.console) (from_host (w.messages + 1)) w.unseen (counted f message w).unseen
+    NamesFirst (IsUnseenMessage message (delivered (f.host (w.messages + 1)) message) w.console) (from_host (w.messages + 1)) w.unseen (message_counted f message w).unseen
 counted_names f message w = names _ _ (from_host (w.messages + 1)) w.unseen (message_unseen message (delivered (f.host (w.messages + 1)) message) w.console)
 
 -- the name of the next reply
 abbrev pub NamesReply : Fates → Outcome → Line → Option Unseen → Type 0
 NamesReply f o w after = NamesFirst (IsUnseenReply o (delivered (f.reply (w.replies + 1)) o.bytes)) (from_console (w.replies + 1)) w.unseen after
 
-replied_names : (f : Fates) (o : Outcome) (w : Line) → NamesReply f o w (replied f o w).unseen
+replied_names : (f : Fates) (o : Outcome) (w : Line) → NamesReply f o w (reply_joins f o w).unseen
 replied_names f o w = names _ _ (from_console (w.replies + 1)) w.unseen (reply_unseen o (delivered (f.reply (w.replies + 1)) o.bytes))
 
 joins_names : (k : ReplyKind) (f : Fates) (o : Outcome) (w : Line) → o.kind ≡ k → NamesReply f o w (joins k f o w).unseen
@@ -165,18 +165,18 @@ replies_only f (b ∷ bs) w which h = elim h [ inl at ↦ ap (λ (u : Unseen). u
 
 -- a message that is unseen is named as it is sent, where nothing was named before
 pub sent_named : (f : Fates) (message : List ℕ) (w : Line) → w.unseen ≡ None
-    → IsUnseenMessage message (delivered (f.host (w.messages + 1)) message) w.console → (sends f message w).unseen ≡ Some (from_host (w.messages + 1))
+    → IsUnseenMessage message (delivered (f.host (w.messages + 1)) message) w.console → (sends_message f message w).unseen ≡ Some (from_host (w.messages + 1))
 sent_named f message w none so =
-    hears_stays f (delivered (f.host (w.messages + 1)) message) (counted f message w) (from_host (w.messages + 1))
-    (first_named _ _ w.unseen (counted f message w).unseen (counted_names f message w) none so)
+    hears_stays f (delivered (f.host (w.messages + 1)) message) (message_counted f message w) (from_host (w.messages + 1))
+    (first_named _ _ w.unseen (message_counted f message w).unseen (counted_names f message w) none so)
 
 -- and no other
-pub sent_only : (f : Fates) (message : List ℕ) (w : Line) → w.unseen ≡ None → (sends f message w).unseen ≡ Some (from_host (w.messages + 1))
+pub sent_only : (f : Fates) (message : List ℕ) (w : Line) → w.unseen ≡ None → (sends_message f message w).unseen ≡ Some (from_host (w.messages + 1))
     → IsUnseenMessage message (delivered (f.host (w.messages + 1)) message) w.console
 sent_only f message w none is =
     let got = delivered (f.host (w.messages + 1)) message in
     let this = from_host (w.messages + 1) in
-    let x = counted f message w in
+    let x = message_counted f message w in
     let here : x.unseen ≡ Some this → IsUnseenMessage message got w.console = λ named. (first_is _ _ w.unseen x.unseen this (counted_names f message w) none named).0 in
     let later : x.unseen ≡ None → IsAmongReplies f got x this = λ first. hears_names f got x this first is in
     elim (here_or_later x.unseen (hears f got x).unseen this (λ y named. hears_stays f got x y named) here later is) [

@@ -11,8 +11,8 @@ use Rattle.station_sim.specs.declared.unseen.Unseen.{Unseen}
 use Rattle.schedule_file.specs.Fates.{Fates}
 use Rattle.station_sim.specs.Delivery.{delivered}
 use Rattle.station_sim.specs.Joining.{and_then_some}
-use Rattle.station_sim.specs.Line.{Line, counted, flies, happens, hears, says, sends}
-use Rattle.station_sim.specs.Talk.{ConsoleTalk, console_talk, hearing, step, waiting}
+use Rattle.station_sim.specs.Line.{Line, message_counted, flies, happens, hears, says_byte, sends_message}
+use Rattle.station_sim.specs.Talk.{ConsoleTalk, console_talk, hearing, line_step, waiting}
 use Rattle.station_sim.specs.UnseenTalk.{HasUnseen, IsAtItem, IsAtMessage, IsNextMessage, IsNextReply}
 use Rattle.station_sim.proofs.Seeing.{NamesReply, counted_names, first_is, first_stays, happens_names, here_or_later, hears_names, hears_none, hears_stays, none_named}
 
@@ -36,10 +36,10 @@ tells_reply f o w after names = record {
   stays = λ which is. first_stays _ _ w.unseen after which names is;
 }
 
-tells_message : (f : Fates) (message : List ℕ) (w : Line) → Tells (IsAtMessage f message w) w.unseen (sends f message w).unseen
+tells_message : (f : Fates) (message : List ℕ) (w : Line) → Tells (IsAtMessage f message w) w.unseen (sends_message f message w).unseen
 tells_message f message w =
     let got = delivered (f.host (w.messages + 1)) message in
-    let x = counted f message w in
+    let x = message_counted f message w in
     record {
       named = λ which none is.
           let here : x.unseen ≡ Some which → IsNextMessage f message w which = λ named.
@@ -71,10 +71,10 @@ tells_waiting (Wait ∷ l) f w v is =
     (tells_reply f (tick w.console) w _ (happens_names f (tick w.console) (flies w l)))
 tells_waiting (Byte x ∷ l) f w v is = absurd cc
 
-tells_item : (f : Fates) (i : TalkItem) (w v : Line) → step f i w ≡ Some v → Tells (IsAtItem f i w) w.unseen v.unseen
-tells_item f (Said b false) w v is = subst (λ (u : Line). Tells (λ which. ⊥) w.unseen u.unseen) (same_Some (says f b false w) v is) (tells_nothing w.unseen)
+tells_item : (f : Fates) (i : TalkItem) (w v : Line) → line_step f i w ≡ Some v → Tells (IsAtItem f i w) w.unseen v.unseen
+tells_item f (Said b false) w v is = subst (λ (u : Line). Tells (λ which. ⊥) w.unseen u.unseen) (same_Some (says_byte f b false w) v is) (tells_nothing w.unseen)
 tells_item f (Said b true) w v is =
-    subst (λ (u : Line). Tells (IsAtMessage f (w.begun ++ b ∷ []) w) w.unseen u.unseen) (same_Some (sends f (w.begun ++ b ∷ []) w) v is)
+    subst (λ (u : Line). Tells (IsAtMessage f (w.begun ++ b ∷ []) w) w.unseen u.unseen) (same_Some (sends_message f (w.begun ++ b ∷ []) w) v is)
     (tells_message f (w.begun ++ b ∷ []) w)
 tells_item f (Heard b) w v is = tells_hearing w.flight b w v is
 tells_item f Quiet w v is = tells_waiting w.flight f w v is
@@ -83,7 +83,7 @@ tells_item f Quiet w v is = tells_waiting w.flight f w v is
 pub talk_stays : (f : Fates) (t : List TalkItem) (w v : Line) (which : Unseen) → ConsoleTalk f t w v → w.unseen ≡ Some which → v.unseen ≡ Some which
 talk_stays f [] w v which talk is = ap (λ (u : Line). u.unseen) (sym (same_Some w v talk)) ∙ is
 talk_stays f (i ∷ t) w v which talk is =
-    let g = and_then_some (step f i w) (console_talk f t) v talk in
+    let g = and_then_some (line_step f i w) (console_talk f t) v talk in
     talk_stays f t g.0 v which g.2 ((tells_item f i w g.0 g.1).stays which is)
 
 -- a talk names what is unseen in it
@@ -92,7 +92,7 @@ talk_names f [] w v which none talk is =
     let wrong : None ≡ Some which = sym none ∙ ap (λ (u : Line). u.unseen) (same_Some w v talk) ∙ is in
     absurd cc
 talk_names f (i ∷ t) w v which none talk is =
-    let g = and_then_some (step f i w) (console_talk f t) v talk in
+    let g = and_then_some (line_step f i w) (console_talk f t) v talk in
     here_or_later g.0.unseen v.unseen which (λ y named. talk_stays f t g.0 v y g.2 named)
     (λ named. (tells_item f i w g.0 g.1).named which none named)
     (λ later. (g.0, g.1, talk_names f t g.0 v which later g.2 is)) is
@@ -100,14 +100,14 @@ talk_names f (i ∷ t) w v which none talk is =
 unseen_before : (f : Fates) (t : List TalkItem) (w v : Line) → ConsoleTalk f t w v → v.unseen ≡ None → w.unseen ≡ None
 unseen_before f [] w v talk none = ap (λ (u : Line). u.unseen) (same_Some w v talk) ∙ none
 unseen_before f (i ∷ t) w v talk none =
-    let g = and_then_some (step f i w) (console_talk f t) v talk in
+    let g = and_then_some (line_step f i w) (console_talk f t) v talk in
     ((tells_item f i w g.0 g.1).none (unseen_before f t g.0 v g.2 none)).0
 
 -- a talk that names none has none
 pub talk_none : (f : Fates) (t : List TalkItem) (w v : Line) → ConsoleTalk f t w v → v.unseen ≡ None → (which : Unseen) → ¬ (HasUnseen f t w which)
 talk_none f [] w v talk none which h = h
 talk_none f (i ∷ t) w v talk none which h =
-    let g = and_then_some (step f i w) (console_talk f t) v talk in
+    let g = and_then_some (line_step f i w) (console_talk f t) v talk in
     elim h [
       | inl at ↦ ((tells_item f i w g.0 g.1).none (unseen_before f t g.0 v g.2 none)).1 which at
       | inr later ↦ (let same : g.0 ≡ later.0 = same_Some g.0 later.0 (sym g.1 ∙ later.1) in

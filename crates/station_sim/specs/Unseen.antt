@@ -10,10 +10,10 @@ use Rattle.console_model.specs.declared.reply.ReplyKind.{ReplyKind}
 use Rattle.console_model.specs.declared.reply.ReplyKind.TheVariants.{Nothing, Code, Test, Wake}
 use Rattle.console_model.specs.declared.reply.ReplyKind.TheVariants.{Ack, AckFrame, Page, Packet}
 use Rattle.console_model.specs.Console.{Console, Outcome}
-use Rattle.console_model.specs.Console.State.{Command, Frame}
+use Rattle.console_model.specs.Console.ConsoleState.{Command, Frame}
 use Rattle.console_model.specs.FrameSize.{frame_size}
 use Rattle.console_model.specs.Hear.{hear}
-use Rattle.console_model.specs.Reading.{read_line}
+use Rattle.console_model.specs.Reading.{read_order}
 use Rattle.station_sim.specs.declared.unseen.Unseen.{Unseen}
 
 -- The byte is the LF behind a line that is a command.
@@ -22,7 +22,7 @@ pub record EndsCommand (c : Console) (b : ℕ) : Type 0 where
   pub order : Order
   pub state : c.state ≡ Command line
   pub ends : b ≡ 10
-  pub is_command : read_line line ≡ Known order
+  pub is_command : read_order line ≡ Known order
 
 -- The byte is the last of a frame with a good check.
 pub record EndsGoodFrame (c : Console) (b : ℕ) : Type 0 where
@@ -33,12 +33,12 @@ pub record EndsGoodFrame (c : Console) (b : ℕ) : Type 0 where
   pub good : is_good (got ++ b ∷ []) ≡ true
 
 -- with the byte a command or a good frame is complete
-abbrev pub Completes : Console → ℕ → Type 0
-Completes c b = EndsCommand c b ⊎ EndsGoodFrame c b
+abbrev pub ByteCompletes : Console → ℕ → Type 0
+ByteCompletes c b = EndsCommand c b ⊎ EndsGoodFrame c b
 
 -- at the byte a page is sent
-abbrev pub SendsPage : Console → ℕ → Type 0
-SendsPage c b = (hear c b).kind ≡ Page
+abbrev pub ByteSendsPage : Console → ℕ → Type 0
+ByteSendsPage c b = (hear c b).kind ≡ Page
 
 -- the console that has heard these bytes, one after another
 abbrev pub having_heard : List ℕ → Console → Console
@@ -54,7 +54,7 @@ AtSomeByte Happens got c =
 -- with what came, or, if more than one byte was sent, sends a page at it.
 pub record IsUnseenMessage (sent got : List ℕ) (c : Console) : Type 0 where
   pub differs : sent ≢ got
-  pub obeyed : AtSomeByte Completes got c ⊎ ((1 < length sent) × AtSomeByte SendsPage got c)
+  pub obeyed : AtSomeByte ByteCompletes got c ⊎ ((1 < length sent) × AtSomeByte ByteSendsPage got c)
 
 -- the first byte is an ACK
 abbrev pub BeginsWithAck : List ℕ → Type 0

@@ -8,8 +8,8 @@ use Rattle.serial_link.specs.declared.talk.TalkItem.TheVariants.{Said, Heard, Qu
 use Rattle.station_sim.specs.declared.unseen.Unseen.{Unseen}
 use Rattle.schedule_file.specs.Fates.{Fates}
 use Rattle.station_sim.specs.Delivery.{delivered}
-use Rattle.station_sim.specs.Line.{Line, from_host, from_console, counted, happens}
-use Rattle.station_sim.specs.Talk.{step}
+use Rattle.station_sim.specs.Line.{Line, from_host, from_console, message_counted, happens}
+use Rattle.station_sim.specs.Talk.{line_step}
 use Rattle.station_sim.specs.Unseen.{IsUnseenMessage, IsUnseenReply}
 
 -- The line's next message of the host is unseen, and this is its name.
@@ -32,7 +32,7 @@ IsAmongReplies f (b ∷ bs) w which =
 abbrev pub IsAtMessage : Fates → List ℕ → Line → Unseen → Type 0
 IsAtMessage f message w which =
     IsNextMessage f message w which
-    ⊎ IsAmongReplies f (delivered (f.host (w.messages + 1)) message) (counted f message w) which
+    ⊎ IsAmongReplies f (delivered (f.host (w.messages + 1)) message) (message_counted f message w) which
 
 -- it is delivered here: a message as its last byte is said, and a reply to a wait, which is a tick
 abbrev pub IsAtItem : Fates → TalkItem → Line → Unseen → Type 0
@@ -44,4 +44,4 @@ IsAtItem f Quiet w which = IsNextReply f (tick w.console) w which
 -- at some place of a talk from this line the delivery of this name is unseen
 abbrev pub HasUnseen : Fates → List TalkItem → Line → Unseen → Type 0
 HasUnseen f [] w which = ⊥
-HasUnseen f (i ∷ t) w which = IsAtItem f i w which ⊎ ((u : Line) × (step f i w ≡ Some u) × HasUnseen f t u which)
+HasUnseen f (i ∷ t) w which = IsAtItem f i w which ⊎ ((u : Line) × (line_step f i w ≡ Some u) × HasUnseen f t u which)

@@ -4,7 +4,7 @@ ghost use Rattle.serial_link.specs.declared.talk.TalkItem.{TalkItem};
 ghost use Rattle.station_sim.specs.declared.unseen.Unseen.{Unseen};
 ghost use Rattle.schedule_file.specs.Fates.{Fates};
 ghost use Rattle.station_sim.specs.Delivery.{delivered};
-ghost use Rattle.station_sim.specs.Line.{Line, from_host, from_console, counted, sends, happens};
+ghost use Rattle.station_sim.specs.Line.{Line, from_host, from_console, message_counted, sends_message, happens};
 ghost use Rattle.station_sim.specs.Talk.{ConsoleTalk};
 ghost use Rattle.station_sim.specs.Unseen.{IsUnseenMessage, IsUnseenReply, NamesFirst};
 ghost use Rattle.station_sim.specs.UnseenTalk.{HasUnseen};
@@ -14,12 +14,12 @@ ghost use Rattle.station_sim.specs.UnseenTalk.{HasUnseen};
 pub fn unseen_messages()
     ensures counted { (f : Fates) (message : List ℕ) (w : Line) → let number = w.messages + 1 in
         NamesFirst (IsUnseenMessage message (delivered (f.host number) message) w.console) (from_host number)
-        w.unseen (counted f message w).unseen }
+        w.unseen (message_counted f message w).unseen }
     ensures named { (f : Fates) (message : List ℕ) (w : Line) → let number = w.messages + 1 in w.unseen ≡ None
         → IsUnseenMessage message (delivered (f.host number) message) w.console
-        → (sends f message w).unseen ≡ Some (from_host number) }
+        → (sends_message f message w).unseen ≡ Some (from_host number) }
     ensures only { (f : Fates) (message : List ℕ) (w : Line) → let number = w.messages + 1 in w.unseen ≡ None
-        → (sends f message w).unseen ≡ Some (from_host number)
+        → (sends_message f message w).unseen ≡ Some (from_host number)
         → IsUnseenMessage message (delivered (f.host number) message) w.console }
 {}
 

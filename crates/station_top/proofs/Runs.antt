@@ -24,7 +24,7 @@ use Rattle.model_commands.proofs.MakeLaws.{made, makes_run_complete}
 use Rattle.model_commands.proofs.ReplayLaws.{replayed, replays_files_complete}
 use Rattle.run_output.specs.Causes.{HasCauses, HasCausesBut}
 use Rattle.run_output.specs.Ended.{EndsAmong, EndsBy, IsOneOf, Lines, output_of}
-use Rattle.run_output.specs.Output.{EndsWith, Finishes, Output, code}
+use Rattle.run_output.specs.Output.{RunEndsWith, RunFinishes, Output, code}
 use Rattle.run_output.specs.Outside.{Meanings}
 use Rattle.run_output.specs.declared.outside.Outside.{Outside}
 use Rattle.run_output.specs.declared.status.Status.{Status}
@@ -67,7 +67,7 @@ pub record Ran {F K L D : Type 0} (m : Meanings F K L D) (words : Option Command
   pub is : result ≡ code status
   pub did : performs_words m words old ended mid
   pub alone : new ≡ record mid { out = new.out }
-  pub finishes : Finishes (m.outlet.taken mid.out) (m.outlet.taken new.out) (output_of ended) status
+  pub finishes : RunFinishes (m.outlet.taken mid.out) (m.outlet.taken new.out) (output_of ended) status
   pub cause : Cause (m.outlet.faults mid.out) (m.outlet.faults new.out) (status ≢ (output_of ended).status)
   pub sink : status ≢ ends.WriteFault → m.outlet.faults new.out ≡ m.outlet.faults mid.out
 
@@ -90,14 +90,14 @@ module _ {F K L D : Type 0} (m : Meanings F K L D) (words : Option CommandLine) 
   short_of : result ≡ 12 → EndsBy ends.OutOfMemory ran.ended
   short_of twelve = by m old ran.mid new ran.ended ran.status (may_be_hidden words) (hides_nine words) has ran.alone ran.finishes ran.cause ran.sink ends.OutOfMemory (λ e. cc) (λ e. cc) (sym ran.is ∙ twelve)
 
-  written : EndsWith m.outlet (output_of ran.ended) ran.mid.out new.out result
+  written : RunEndsWith m.outlet (output_of ran.ended) ran.mid.out new.out result
   written = record { status = ran.status; coded = sym ran.is; ends = ran.finishes }
 
   pub outside_words : words ≡ None → IsUsage m.outlet old new result
   outside_words none =
       let none_did = subst (λ (w : Option CommandLine). performs_words m w old ran.ended ran.mid) none ran.did in
       subst (λ (w : Outside F K L D). IsUsage m.outlet w new result) none_did.1
-      (record { alone = ran.alone; written = subst (λ (r : Result Lines Output). EndsWith m.outlet (output_of r) ran.mid.out new.out result) none_did.0 written })
+      (record { alone = ran.alone; written = subst (λ (r : Result Lines Output). RunEndsWith m.outlet (output_of r) ran.mid.out new.out result) none_did.0 written })
 
   promised : (command : CommandLine) → performs m command old ran.ended ran.mid → Promises m command old new result
   promised (pages file) did = λ good. within done_or_hindered (inr (inr (inl refl))) (prints_file_complete m short file old ran.mid ran.ended good did)

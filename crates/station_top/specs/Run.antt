@@ -23,10 +23,10 @@ use Rattle.model_commands.specs.FleetRun.{HasGoodFleet, fleets}
 use Rattle.model_commands.specs.MakeRun.{makes_run}
 use Rattle.model_commands.specs.ReplayRun.{HasGoodFiles, replays_files}
 use Rattle.run_output.specs.Ended.{IsOneOf, Lines, output_of}
-use Rattle.run_output.specs.Output.{EndsWith, Output}
+use Rattle.run_output.specs.Output.{RunEndsWith, Output}
 use Rattle.run_output.specs.Outside.{Meanings}
-use Rattle.run_output.specs.Reading.{IsAccepted}
-use Rattle.run_output.specs.Steps.{Step}
+use Rattle.run_output.specs.Reading.{SettingsAreAccepted}
+use Rattle.run_output.specs.Steps.{CommandStep}
 use Rattle.run_output.specs.declared.outside.Outside.{Outside}
 use Rattle.run_output.specs.declared.status.Status.{Status}
 use Rattle.run_output.specs.declared.status.Status.TheVariants as ends
@@ -38,10 +38,10 @@ usage = record { text = codes "usage\n"; status = ends.Usage }
 -- Nothing was touched, and this line was written.
 pub record IsUsage {F K L D : Type 0} (outlet : Outlet K) (old new : Outside F K L D) (result : ℕ) : Type 0 where
   pub alone : new ≡ record old { out = new.out }
-  pub written : EndsWith outlet usage old.out new.out result
+  pub written : RunEndsWith outlet usage old.out new.out result
 
 -- what each command does, up to its last lines
-abbrev pub performs : {F K L D : Type 0} → Meanings F K L D → CommandLine → Step (Outside F K L D) Lines
+abbrev pub performs : {F K L D : Type 0} → Meanings F K L D → CommandLine → CommandStep (Outside F K L D) Lines
 performs m (pages file) = prints_file m short file
 performs m (corrected_pages settings file) = prints_corrected m settings file
 performs m (soft settings file) = prints_soft m settings file
@@ -57,7 +57,7 @@ performs m (fleet names) = fleets m names
 performs m (make seed records) = makes_run seed records
 
 -- what the words do: those of a command what it does, and other words nothing
-abbrev pub performs_words : {F K L D : Type 0} → Meanings F K L D → Option CommandLine → Step (Outside F K L D) Lines
+abbrev pub performs_words : {F K L D : Type 0} → Meanings F K L D → Option CommandLine → CommandStep (Outside F K L D) Lines
 performs_words m (Some command) = performs m command
 performs_words m None = λ old result new. (result ≡ Err usage) × (new ≡ old)
 
@@ -79,7 +79,7 @@ pub record Performs {F K L D : Type 0} (m : Meanings F K L D) (command : Command
   pub mid : Outside F K L D
   pub did : performs m command old ended mid
   pub alone : new ≡ record mid { out = new.out }
-  pub written : EndsWith m.outlet (output_of ended) mid.out new.out result
+  pub written : RunEndsWith m.outlet (output_of ended) mid.out new.out result
 
 -- A task that what was said and heard shows as done ends so, unless its line could not be written. It takes no memory: it ends for
 -- want of memory only where the link had none.
@@ -100,7 +100,7 @@ abbrev pub Promises : {F K L D : Type 0} → Meanings F K L D → CommandLine �
 Promises m (pages file) old new result =
     IsSomeAnd (m.shelf.held old.files file) IsGoodFile → IsOneOf (0 ∷ 8 ∷ 9 ∷ 12 ∷ []) result
 Promises m (corrected_pages settings file) old new result =
-    IsSomeAnd (m.shelf.held old.files settings) IsAccepted → IsSomeAnd (m.shelf.held old.files file) IsGoodFile
+    IsSomeAnd (m.shelf.held old.files settings) SettingsAreAccepted → IsSomeAnd (m.shelf.held old.files file) IsGoodFile
     → IsOneOf (0 ∷ 8 ∷ 9 ∷ 12 ∷ []) result
 Promises m (soft settings file) old new result =
     HasEntries m.shelf settings file old.files → IsOneOf (0 ∷ 8 ∷ 9 ∷ 12 ∷ []) result
@@ -116,7 +116,7 @@ Promises m (replay settings schedule) old new result =
 Promises m (copy from to) old new result =
     TellArchives m.medium old.disk old.second → IsOneOf (0 ∷ 7 ∷ 9 ∷ 12 ∷ []) result
 Promises m (station names) old new result =
-    IsSomeAnd (m.shelf.held old.files names.settings) IsAccepted
+    IsSomeAnd (m.shelf.held old.files names.settings) SettingsAreAccepted
     → ShowsCaughtUp m.traffic m.medium old.disk old.link new.link → IsOneOf (0 ∷ 6 ∷ 7 ∷ 8 ∷ 9 ∷ 12 ∷ []) result
 Promises m (console names) old new result = ConsolePromises m names old new result
 Promises m (fleet names) old new result =

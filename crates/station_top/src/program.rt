@@ -1,6 +1,6 @@
 ghost use Rattle.std.specs.Prelude.{◌≡◌, ◌≢◌, ◌<◌, ◌≤◌, ◌^◌, map, IfSome, IfNone};
 ghost use Rattle.causes.specs.Cause.{Cause};
-ghost use Rattle.command_words.specs.Command.{command_of, command_read, line_of, texts};
+ghost use Rattle.command_words.specs.Command.{command_of_words, command_read, command_line_of, texts};
 ghost use Rattle.command_words.specs.Possible.{IsPossible};
 ghost use Rattle.run_output.specs.Causes.{RoseOnOne, WentWell};
 ghost use Rattle.run_output.specs.Ended.{IsOneOf};
@@ -31,12 +31,12 @@ pub fn run<F: Files, K: Sink, L: Link, D: Disk>(
     requires second_room { D.medium.moment outside.old.second < 2 ^ 63 }
 
     // Words outside the table are answered by a line of their own, no file is read, and nothing is connected or attached.
-    ensures usage { IfNone (command_of (texts words.now)) (IsUsage K.outlet outside.old outside.new result) }
+    ensures usage { IfNone (command_of_words (texts words.now)) (IsUsage K.outlet outside.old outside.new result) }
 
     // The files that the words name are each read once, in the order of the words, the address that they name is called
     // once, or waited at once, the archives that they name are each attached once, and what came of that decides what is
     // written and how the program ends.
-    ensures command { IfSome (command_of (texts words.now)) (λ command.
+    ensures command { IfSome (command_of_words (texts words.now)) (λ command.
         Performs (means F.shelf K.outlet L.traffic D.medium) command outside.old outside.new result) }
 
     // The faults of the outside have a cause.
@@ -49,18 +49,20 @@ pub fn run<F: Files, K: Sink, L: Link, D: Disk>(
     ensures second_never_falls { D.medium.faults outside.old.second ≤ D.medium.faults outside.new.second }
 
     // Where none is answered, no fault was counted. A read fault whose line could not be written ends with 9.
-    ensures files_still { result ≢ 8 → result ≢ 9 → F.shelf.faults outside.new.files ≡ F.shelf.faults outside.old.files }
+    ensures files_still { result ≢ 8 → result ≢ 9
+        → F.shelf.faults outside.new.files ≡ F.shelf.faults outside.old.files }
     ensures sink_still { result ≢ 9 → K.outlet.faults outside.new.out ≡ K.outlet.faults outside.old.out }
 
     // Nor did a call of a disk fail. A disk fault whose line could not be written ends with 9, and one behind which the link failed
     // as the link has it.
-    ensures disk_well { result ≢ 7 → ¬ (IsOneOf (map code (may_be_hidden (command_of (texts words.now)))) result)
+    ensures disk_well { result ≢ 7 → ¬ (IsOneOf (map code (may_be_hidden (command_of_words (texts words.now)))) result)
         → WentWell D.medium outside.old.disk outside.new.disk }
-    ensures second_well { result ≢ 7 → ¬ (IsOneOf (map code (may_be_hidden (command_of (texts words.now)))) result)
+    ensures second_well { result ≢ 7
+        → ¬ (IsOneOf (map code (may_be_hidden (command_of_words (texts words.now)))) result)
         → WentWell D.medium outside.old.second outside.new.second }
 
     // Over good input the command is done, unless the outside failed or memory was wanting.
-    ensures promised { IfSome (command_of (texts words.now)) (λ command.
+    ensures promised { IfSome (command_of_words (texts words.now)) (λ command.
         Promises (means F.shelf K.outlet L.traffic D.medium) command outside.old outside.new result) }
 {
     let ended = perform(alloc, Command::read(words), outside);
@@ -76,7 +78,8 @@ fn perform<F: Files, K: Sink, L: Link, D: Disk>(
     requires possible { IfSome command (λ command. IsPossible (command_read command)) }
     requires disk_room { D.medium.moment outside.old.disk < 2 ^ 63 }
     requires second_room { D.medium.moment outside.old.second < 2 ^ 63 }
-    ensures { performs_words (means F.shelf K.outlet L.traffic D.medium) (line_of command.entry) outside.old result outside.new }
+    ensures { performs_words (means F.shelf K.outlet L.traffic D.medium)
+        (command_line_of command.entry) outside.old result outside.new }
 {
     match command {
         Some(Command::Pages(file)) => print_file(alloc, file, outside),

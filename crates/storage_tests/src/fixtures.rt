@@ -1,13 +1,13 @@
 //! What the tests of an archive test before they add rows to it.
 
 ghost use Rattle.std.specs.Prelude.{◌≡◌, IsTrue};
-ghost use Rattle.packed_rows.specs.Rising.{RowsRise, rise};
+ghost use Rattle.packed_rows.specs.Rising.{RowsRiseAfter, rows_rise};
 
 use station_base::{Row, Stamp};
 
 /// Whether the stamps rise, the first above this one.
 pub fn rise_after(last: Option<Stamp>, rows: &[Row]) -> bool
-    ensures { result ≡ rise last rows.now }
+    ensures { result ≡ rows_rise last rows.now }
 {
     match rows {
         [] => true,
@@ -18,7 +18,7 @@ pub fn rise_after(last: Option<Stamp>, rows: &[Row]) -> bool
 
 /// Whether these rows may be added after this stamp.
 pub fn may_follow(last: Option<Stamp>, rows: &[Row]) -> bool
-    ensures { IsTrue result → RowsRise last rows.now }
+    ensures { IsTrue result → RowsRiseAfter last rows.now }
 {
     rise_after(last, rows)
 }

@@ -46,9 +46,9 @@ impl<'a> SharedFile<'a> {
 }
 
 impl Disk for SharedFile<'_> {
-    ghost use Rattle.station_outside.specs.UntoldDisk.{untold};
+    ghost use Rattle.station_outside.specs.UntoldDisk.{untold_medium};
 
-    ghost medium = { untold (λ disk. disk.moment) (λ disk. disk.looks) (λ disk. disk.faults) };
+    ghost medium = { untold_medium (λ disk. disk.moment) (λ disk. disk.looks) (λ disk. disk.faults) };
 
     fn attach(&mut self, _name: &str, _make: bool) -> Disked {
         Disked::Done

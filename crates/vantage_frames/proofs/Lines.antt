@@ -12,7 +12,7 @@ use Rattle.vantage_frames.specs.declared.command.Command.{Command}
 use Rattle.vantage_frames.specs.declared.command.Command.TheVariants.{Test, Kind, LoopFor, DumpAfter, EepromRead, EepromWrite, EepromAll, TimeGet, TimeSet, SetPeriod, ClearLog}
 use Rattle.numerals.specs.Numeral.{number_in}
 use Rattle.vantage_frames.specs.Line.{IsLineOf, HasBehind, SaysPackets, SaysBytes, SaysPeriod}
-use Rattle.vantage_frames.specs.LineReading.{ReadsAs, command_of, plain_command_of, numbered_command_of, packets_in, bytes_in, period_in, begins_with}
+use Rattle.vantage_frames.specs.LineReading.{LineReadsAs, command_of, plain_command_of, numbered_command_of, packets_in, bytes_in, period_in, begins_with}
 use Rattle.numerals.specs.Then.{only_if}
 use Rattle.numerals.proofs.Passing.{passes}
 use Rattle.vantage_frames.proofs.Passing.{other_than, differs}
@@ -121,11 +121,11 @@ command_of-line (SetPeriod minutes) line (text, spelled, says) = ap command_of s
 command_of-line ClearLog line is = ap command_of is
 
 -- a line is read as the command of which it is one, and as nothing where it is a line of none
-pub command_of_reads : (line : List ℕ) → ReadsAs line (command_of line)
+pub command_of_reads : (line : List ℕ) → LineReadsAs line (command_of line)
 unfolding command_of
-command_of_reads line = elim (plain_command_of line) as (λ plain. IsLine line plain → option_or plain (numbered_command_of line) ≡ command_of line → ReadsAs line (option_or plain (numbered_command_of line))) [
+command_of_reads line = elim (plain_command_of line) as (λ plain. IsLine line plain → option_or plain (numbered_command_of line) ≡ command_of line → LineReadsAs line (option_or plain (numbered_command_of line))) [
   | Some command ↦ λ found is. found
-  | None ↦ λ found is. elim (numbered_command_of line) as (λ numbered. IsLine line numbered → numbered ≡ command_of line → ReadsAs line numbered) [
+  | None ↦ λ found is. elim (numbered_command_of line) as (λ numbered. IsLine line numbered → numbered ≡ command_of line → LineReadsAs line numbered) [
     | Some command ↦ λ more same. more
     | None ↦ λ more same command says. let read : None ≡ Some command = same ∙ command_of-line command line says in cc
   ] (numbered_found line) is

@@ -8,7 +8,7 @@ use Rattle.std.proofs.Math.Seq.{take-append_seam, drop-append-add, drop-cons}
 use Rattle.std.proofs.lemmas.Bool.{and_parts, lt-ltb, le-leb, ltb-true, leb-true, ne_eqb, eqb-true}
 use Rattle.std.proofs.lemmas.List.{take-append-drop}
 use Rattle.std.proofs.lemmas.List.Quantifiers.{position-Some}
-use Rattle.numerals.specs.Numeral.{number_in, Writes}
+use Rattle.numerals.specs.Numeral.{number_in, WritesNumber}
 use Rattle.vantage_frames.specs.Line.{SaysBytes}
 use Rattle.numerals.specs.Then.{only_if}
 use Rattle.vantage_frames.specs.LineReading.{bytes_in}
@@ -82,7 +82,7 @@ bytes_in_spans text place count read =
     parts_span text space.0 at.0 n.0 place count space.1 at.1 n.1 n.2
 
 -- a place and a count with one space between them are read
-bytes_in-parts : (place_digits count_digits : List ℕ) (place count : ℕ) → Writes 16 3 place_digits place → Writes 16 2 count_digits count → 1 ≤ count → place + count ≤ 4096 → bytes_in (place_digits ++ 32 ∷ count_digits) ≡ Some (place, count)
+bytes_in-parts : (place_digits count_digits : List ℕ) (place count : ℕ) → WritesNumber 16 3 place_digits place → WritesNumber 16 2 count_digits count → 1 ≤ count → place + count ≤ 4096 → bytes_in (place_digits ++ 32 ∷ count_digits) ≡ Some (place, count)
 unfolding bytes_in
 bytes_in-parts place_digits count_digits place count from bytes some within =
     let text : List ℕ = place_digits ++ 32 ∷ count_digits in

@@ -8,14 +8,14 @@ use Rattle.std.proofs.lemmas.Fmt.{decimal_is_IsNumeral, length-decimal-le, first
 use Rattle.station_base.specs.Period.{IsPeriod}
 use Rattle.station_base.proofs.Periods.{period_bound}
 use Rattle.vantage_frames.specs.declared.command.Command.{Command}
-use Rattle.numerals.specs.Numeral.{Writes}
+use Rattle.numerals.specs.Numeral.{WritesNumber}
 use Rattle.vantage_frames.specs.Line.{IsLineOf, SaysPackets, SaysBytes, SaysPeriod}
-use Rattle.vantage_frames.specs.LineReading.{ReadsAs}
-use Rattle.vantage_frames.specs.LineWriting.{AreInEeprom, two_digits, place_text, bytes_text}
+use Rattle.vantage_frames.specs.LineReading.{LineReadsAs}
+use Rattle.vantage_frames.specs.LineWriting.{AreInEeprom, two_digits, place_digits, bytes_text}
 use Rattle.vantage_frames.proofs.Lines.{command_of-line}
 
 -- a number in decimal digits
-decimal_writes : (most n : ℕ) → 0 < most → n < 10 ^ most → n < 2 ^ 64 → Writes 10 most (decimal n) n
+decimal_writes : (most n : ℕ) → 0 < most → n < 10 ^ most → n < 2 ^ 64 → WritesNumber 10 most (decimal n) n
 decimal_writes most n some small fits =
     let numeral = decimal_is_IsNumeral n fits in
     record { numeral = numeral.0; short = length-decimal-le most n some small fits; value = numeral.1 }
@@ -25,7 +25,7 @@ glyph_value : (d : ℕ) → d < 16 → digit_value (digit_glyph true d) ≡ d
 glyph_value d small = grind arith
 
 -- a byte in two hexadecimal digits
-byte_writes : (n : ℕ) → n < 256 → Writes 16 2 (two_digits n) n
+byte_writes : (n : ℕ) → n < 256 → WritesNumber 16 2 (two_digits n) n
 byte_writes n small =
     let high : n / 16 < 16 = omega arith in
     let low : n % 16 < 16 = omega arith in
@@ -38,8 +38,8 @@ byte_writes n small =
     }
 
 -- a place in two such digits, or in three
-place_writes : (n : ℕ) → n < 4096 → Writes 16 3 (place_text n) n
-place_writes n small = elim (nat_lt n 256) as (λ short. nat_lt n 256 ≡ short → Writes 16 3 (if short then two_digits n else digit_glyph true (n / 256) ∷ two_digits (n % 256)) n) [
+place_writes : (n : ℕ) → n < 4096 → WritesNumber 16 3 (place_digits n) n
+place_writes n small = elim (nat_lt n 256) as (λ short. nat_lt n 256 ≡ short → WritesNumber 16 3 (if short then two_digits n else digit_glyph true (n / 256) ∷ two_digits (n % 256)) n) [
   | true ↦ λ is. let byte = byte_writes n (ltb-true n 256 is) in record { numeral = byte.numeral; short = lit≤ tt; value = byte.value }
   | false ↦ λ is.
       let high : n / 256 < 16 = omega arith in
@@ -60,7 +60,7 @@ place_writes n small = elim (nat_lt n 256) as (λ short. nat_lt n 256 ≡ short 
 pub bytes_written : (place count : ℕ) → count < 256 → AreInEeprom place count → SaysBytes (bytes_text place count) place count
 unfolding bytes_text
 bytes_written place count small bytes = record {
-  place_digits = place_text place;
+  place_digits = place_digits place;
   count_digits = two_digits count;
   spelled = refl;
   from = place_writes place (omega arith);
@@ -89,6 +89,6 @@ period_written minutes period =
     }
 
 -- what a line is read as is the one command that is read of it
-pub read_again : (command : Command) (line : List ℕ) (read : Option Command) → IsLineOf command line → ReadsAs line read → read ≡ Some command
+pub read_again : (command : Command) (line : List ℕ) (read : Option Command) → IsLineOf command line → LineReadsAs line read → read ≡ Some command
 read_again command line None is reads = absurd (reads command is)
 read_again command line (Some other) is reads = sym (command_of-line other line reads) ∙ command_of-line command line is

@@ -6,7 +6,7 @@ use Rattle.vantage_frames.specs.declared.command.Command.{Command}
 use Rattle.vantage_frames.specs.declared.command.Command.TheVariants.{Test, Kind, LoopFor, DumpAfter}
 use Rattle.vantage_frames.specs.declared.command.Command.TheVariants.{EepromRead, EepromWrite, EepromAll}
 use Rattle.vantage_frames.specs.declared.command.Command.TheVariants.{TimeGet, TimeSet, SetPeriod, ClearLog}
-use Rattle.numerals.specs.Numeral.{Writes}
+use Rattle.numerals.specs.Numeral.{WritesNumber}
 
 -- the line is this name, and then a text that says so
 abbrev pub HasBehind : List ℕ → List ℕ → (List ℕ → Type 0) → Type 0
@@ -14,7 +14,7 @@ HasBehind name line Says = (text : List ℕ) × (line ≡ name ++ text) × Says 
 
 -- A count of packets, in one to four decimal digits.
 pub record SaysPackets (text : List ℕ) (count : ℕ) : Type 0 where
-  pub number : Writes 10 4 text count
+  pub number : WritesNumber 10 4 text count
   pub some : 1 ≤ count
 
 -- Bytes of the EEPROM: a place in one to three hexadecimal digits, a space, and a count in one or two.
@@ -22,14 +22,14 @@ pub record SaysBytes (text : List ℕ) (place count : ℕ) : Type 0 where
   pub place_digits : List ℕ
   pub count_digits : List ℕ
   pub spelled : text ≡ place_digits ++ 32 ∷ count_digits
-  pub from : Writes 16 3 place_digits place
-  pub bytes : Writes 16 2 count_digits count
+  pub from : WritesNumber 16 3 place_digits place
+  pub bytes : WritesNumber 16 2 count_digits count
   pub some : 1 ≤ count
   pub within : place + count ≤ 4096
 
 -- A period in minutes, in decimal digits of which the first is not 0.
 pub record SaysPeriod (text : List ℕ) (minutes : ℕ) : Type 0 where
-  pub number : Writes 10 3 text minutes
+  pub number : WritesNumber 10 3 text minutes
   pub plain : slice_index text 0 ≢ 48
   pub period : IsPeriod minutes
 

@@ -14,9 +14,9 @@ use Rattle.numerals.specs.Then.{◌>>=◌, only_if}
 use Rattle.vantage_frames.specs.Line.{IsLineOf}
 
 -- a line is read as the command of which it is a line, or as nothing where it is a line of none
-abbrev pub ReadsAs : List ℕ → Option Command → Type 0
-ReadsAs line (Some command) = IsLineOf command line
-ReadsAs line None = (command : Command) → IsLineOf command line → ⊥
+abbrev pub LineReadsAs : List ℕ → Option Command → Type 0
+LineReadsAs line (Some command) = IsLineOf command line
+LineReadsAs line None = (command : Command) → IsLineOf command line → ⊥
 
 -- the line begins with these bytes
 abbrev pub begins_with : List ℕ → List ℕ → Bool

@@ -29,14 +29,14 @@ abbrev pub two_digits : ℕ → List ℕ
 two_digits n = digit_glyph true (n / 16) ∷ digit_glyph true (n % 16) ∷ []
 
 -- two such digits, or three where a place needs them
-abbrev pub place_text : ℕ → List ℕ
-place_text place =
+abbrev pub place_digits : ℕ → List ℕ
+place_digits place =
     if nat_lt place 256 then two_digits place
     else digit_glyph true (place / 256) ∷ two_digits (place % 256)
 
 -- a place and a count, one space between them
 unfoldable pub bytes_text : ℕ → ℕ → List ℕ
-bytes_text place count = place_text place ++ 32 ∷ two_digits count
+bytes_text place count = place_digits place ++ 32 ∷ two_digits count
 
 -- the line of a command, without the LF that ends it
 unfoldable pub line_of : Command → List ℕ

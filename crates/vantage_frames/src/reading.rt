@@ -1,7 +1,7 @@
 ghost use Rattle.std.specs.Prelude.{◌≡◌, ◌==◌, Some, position};
 ghost use Rattle.vantage_frames.specs.declared.command.Command.{Command};
 ghost use Rattle.vantage_frames.specs.Line.{IsLineOf};
-ghost use Rattle.vantage_frames.specs.LineReading.{ReadsAs, command_of, plain_command_of, numbered_command_of, packets_in, bytes_in, period_in};
+ghost use Rattle.vantage_frames.specs.LineReading.{LineReadsAs, command_of, plain_command_of, numbered_command_of, packets_in, bytes_in, period_in};
 
 use crate::command::{Command, EEPROM_SIZE};
 use crate::names;
@@ -25,7 +25,7 @@ const PERIOD_DIGITS: usize = 3;
 #[tactic(auto, unfolding(crate::specs::LineReading::command_of))]
 pub fn read_command(line: &[u8]) -> Option<Command>
     ensures exact { result ≡ command_of line.now }
-    ensures found { ReadsAs line.now result }
+    ensures found { LineReadsAs line.now result }
     ensures only { (command : Command) → IsLineOf command line.now → result ≡ Some command }
 {
     plain_command(line).or_else(|| numbered_command(line))

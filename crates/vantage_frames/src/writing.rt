@@ -2,8 +2,8 @@ ghost use Rattle.std.specs.Prelude.{◌≡◌, ◌+◌, ◌<◌, ◌≤◌, Opti
 ghost use Rattle.std.specs.Fmt.{digit_glyph};
 ghost use Rattle.arrayvec.specs.ArrayVec.{array_vec_len};
 ghost use Rattle.vantage_frames.specs.Line.{IsLineOf};
-ghost use Rattle.vantage_frames.specs.LineReading.{ReadsAs};
-ghost use Rattle.vantage_frames.specs.LineWriting.{AreInEeprom, CanBeSaid, bytes_text, line_of, place_text, two_digits};
+ghost use Rattle.vantage_frames.specs.LineReading.{LineReadsAs};
+ghost use Rattle.vantage_frames.specs.LineWriting.{AreInEeprom, CanBeSaid, bytes_text, line_of, place_digits, two_digits};
 
 use crate::command::Command;
 use crate::names;
@@ -23,7 +23,7 @@ pub fn write_command(command: &Command) -> ArrayVec<u8, LINE_ROOM>
     requires { CanBeSaid command.now }
     ensures text { result.items ≡ line_of command.now ++ 10 ∷ [] }
     ensures line { IsLineOf command.now (line_of command.now) }
-    ensures again { (read : Option Command) → ReadsAs (line_of command.now) read → read ≡ Some command.now }
+    ensures again { (read : Option Command) → LineReadsAs (line_of command.now) read → read ≡ Some command.now }
 {
     let mut line = write_line(command);
     line.push(b'\n');
@@ -94,7 +94,7 @@ fn with_bytes(name: &[u8], at: u16, count: u8) -> Line
 fn push_place(line: &mut Line, place: u16)
     requires place { place < 4096 }
     requires room { array_vec_len line.old ≤ 8 }
-    ensures text { line.new.items ≡ line.old.items ++ place_text place }
+    ensures text { line.new.items ≡ line.old.items ++ place_digits place }
     ensures short { array_vec_len line.new ≤ 11 }
 {
     if place < 0x100 {

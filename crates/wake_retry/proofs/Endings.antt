@@ -4,7 +4,7 @@ use Rattle.std.proofs.lemmas.List.{append_cancel_left}
 use Rattle.serial_link.specs.declared.talk.TalkItem.{TalkItem}
 use Rattle.serial_link.specs.declared.talk.TalkItem.TheVariants.{Said, Heard, Quiet}
 use Rattle.wake_retry.specs.Parts.{heard, IsFull, IsShort, FallsShort, Awaits, StillFrom, Still, Flooding, Wakes, WakeFloods, ends_awake, IsCutOff}
-use Rattle.wake_retry.specs.OneEnd.{HasOneFront, NeverBoth, Comes, EndsAnswer, EndsSettling, EndsWake}
+use Rattle.wake_retry.specs.OneEnd.{HasOneFront, NeverBoth, AnswerComes, EndsAnswer, EndsSettling, EndsWake}
 use Rattle.wake_retry.specs.Parts.{answer_waits, flood_size}
 
 -- of two fronts of one talk one is a front of the other
@@ -74,10 +74,10 @@ short_not_full q r (Heard b ∷ []) u below k m = omega (arith, below, k.1)
 short_not_full q r (Heard b ∷ i ∷ s) u below k m = short_not_full q 0 (i ∷ s) u (omega arith) k.1 m
 short_not_full q r (Quiet ∷ s) u below k m = short_not_full q (r + 1) s u m.0 k.1 m.1
 
-comes_on : (q n : ℕ) (s u : List TalkItem) → Comes q n s → Comes q n (s ++ u) → u ≡ []
+comes_on : (q n : ℕ) (s u : List TalkItem) → AnswerComes q n s → AnswerComes q n (s ++ u) → u ≡ []
 comes_on q n s u k m = elim (full_on q 0 s u k.0 m.0) [ inl e ↦ e | inr some ↦ absurd (omega (arith, heard_both s u, k.1, m.1, some)) ]
 
-comes_not_short : (q n : ℕ) (s u : List TalkItem) → Comes q n s → FallsShort q n (s ++ u) → ⊥
+comes_not_short : (q n : ℕ) (s u : List TalkItem) → AnswerComes q n s → FallsShort q n (s ++ u) → ⊥
 comes_not_short q n s u k m = omega (arith, heard_both s u, k.1, m.1)
 
 -- an answer that ended does not go on
@@ -92,7 +92,7 @@ pub one_answer : (q n : ℕ) → 0 < q → HasOneFront (Awaits q n)
 one_answer q n some = same_front {P = Awaits q n} {Q = Awaits q n} (λ s u k m. awaits_on q n s u some k m) (λ s u k m. awaits_on q n s u some k m)
 
 -- it did not both come and fall short
-pub comes_or_short : (q n : ℕ) → 0 < q → NeverBoth (Comes q n) (FallsShort q n)
+pub comes_or_short : (q n : ℕ) → 0 < q → NeverBoth (AnswerComes q n) (FallsShort q n)
 comes_or_short q n some s t a b k m e = elim (either_front s t a b e) [
   | inl h ↦ comes_not_short q n s h.0 k (subst (FallsShort q n) h.1 m)
   | inr h ↦ short_not_full q 0 t h.0 some m.0 (subst (IsFull q 0) h.1 k.0)

@@ -12,13 +12,13 @@ abbrev pub NeverBoth : (List TalkItem → Type 0) → (List TalkItem → Type 0)
 NeverBoth One Other = (s t a b : List TalkItem) → One s → Other t → s ++ a ≡ t ++ b → ⊥
 
 -- an answer of n bytes that came
-abbrev pub Comes : ℕ → ℕ → List TalkItem → Type 0
-Comes q n t = IsFull q 0 t × (length (heard t) ≡ n)
+abbrev pub AnswerComes : ℕ → ℕ → List TalkItem → Type 0
+AnswerComes q n t = IsFull q 0 t × (length (heard t) ≡ n)
 
 -- an answer ends once, and it came or fell short
 pub record EndsAnswer (q n : ℕ) : Type 0 where
   pub once : HasOneFront (Awaits q n)
-  pub never_both : NeverBoth (Comes q n) (FallsShort q n)
+  pub never_both : NeverBoth (AnswerComes q n) (FallsShort q n)
   pub cut : (t : List TalkItem) → IsCutOff (FallsShort q n) t → ¬ Awaits q n t
 
 -- a settling ends once, still or flooded

@@ -8,11 +8,11 @@ use Rattle.std.proofs.lemmas.List.{get_or-append-add, length-take}
 use Rattle.std.proofs.Math.Seq.{take-suc, take-append_seam}
 use Rattle.std.proofs.lemmas.Bool.{and_parts}
 use Rattle.station_base.specs.declared.row.Row.{Row}
-use Rattle.row_slot.specs.Slot.{row_in}
+use Rattle.row_slot.specs.Slot.{row_in_slot}
 use Rattle.gated_log.specs.Log.{unmarked}
 use Rattle.packed_rows.specs.Closing.{closing_slot, closings, begins_day}
-use Rattle.packed_rows.specs.Rising.{last_stamp}
-use Rattle.packed_rows.specs.Rows.{may_follow, is_closing, is_right, rows_with, shown_with, slot_total, rows_from, holds}
+use Rattle.packed_rows.specs.Rising.{last_row_stamp}
+use Rattle.packed_rows.specs.Rows.{may_follow, is_closing, is_right, rows_with_row, shown_with, slot_total, rows_from, holds}
 use Rattle.weather_book.proofs.Places.{found, with_found, splits, rows_found, right_front, found_join, last_get}
 use Rattle.packed_rows.proofs.RowLaws.{AreRight, rows_to, shown_to, from_holds, count_right, follow_shown}
 
@@ -34,7 +34,7 @@ in_front : (slot : List ℕ) (xs : List (List ℕ)) (after : List Row) (t : ℕ)
 in_front slot xs after t c = record { front = slot ∷ c.front; closing = c.closing; parts = ap (λ (ys : List (List ℕ)). slot ∷ ys) c.parts; long = c.long; each = c.each }
 
 one_more : (slot : List ℕ) (xs : List (List ℕ)) (rows : List Row) (shown : ℕ) (o : Option Row) (after : List Row) (t : ℕ) → is_right rows shown slot o ≡ true →
-    NoRow (rows_with rows o) (shown_with shown o) xs after t ⊎ Closes xs after t → NoRow rows shown (slot ∷ xs) after t ⊎ Closes (slot ∷ xs) after t
+    NoRow (rows_with_row rows o) (shown_with shown o) xs after t ⊎ Closes xs after t → NoRow rows shown (slot ∷ xs) after t ⊎ Closes (slot ∷ xs) after t
 one_more slot xs rows shown o after t right (inr c) = inr (in_front slot xs after t c)
 one_more slot xs rows shown None after t right (inl n) = inl (record { same = n.same; count = (let e = n.count in omega (arith, e)); each = each })
   where
@@ -54,12 +54,12 @@ one_more slot xs rows shown (Some row) after t right (inl n) = inr (record {
 closes : (rows : List Row) (shown : ℕ) (xs : List (List ℕ)) → AreRight rows shown xs → NoRow rows shown xs (rows_to rows xs) (shown_to shown xs) ⊎ Closes xs (rows_to rows xs) (shown_to shown xs)
 closes rows shown [] right = inl (record { same = refl; count = omega arith; each = λ j lt. absurd (omega (arith, lt)) })
 closes rows shown (slot ∷ xs) right =
-    one_more slot xs rows shown (row_in slot) (rows_to rows (slot ∷ xs)) (shown_to shown (slot ∷ xs)) right.0
-    (closes (rows_with rows (row_in slot)) (shown_with shown (row_in slot)) xs right.1)
+    one_more slot xs rows shown (row_in_slot slot) (rows_to rows (slot ∷ xs)) (shown_to shown (slot ∷ xs)) right.0
+    (closes (rows_with_row rows (row_in_slot slot)) (shown_with shown (row_in_slot slot)) xs right.1)
 
-right_last : (rows : List Row) (shown : ℕ) (xs : List (List ℕ)) (slot : List ℕ) → AreRight rows shown (xs ++ slot ∷ []) → is_right (rows_to rows xs) (shown_to shown xs) slot (row_in slot) ≡ true
+right_last : (rows : List Row) (shown : ℕ) (xs : List (List ℕ)) (slot : List ℕ) → AreRight rows shown (xs ++ slot ∷ []) → is_right (rows_to rows xs) (shown_to shown xs) slot (row_in_slot slot) ≡ true
 right_last rows shown [] slot right = right.0
-right_last rows shown (x ∷ xs) slot right = right_last (rows_with rows (row_in x)) (shown_with shown (row_in x)) xs slot right.1
+right_last rows shown (x ∷ xs) slot right = right_last (rows_with_row rows (row_in_slot x)) (shown_with shown (row_in_slot x)) xs slot right.1
 
 -- the front of the first rows
 front_take : (front : List Row) (n : ℕ) (row : Row) (rows : List Row) → n < length rows → front ++ row ∷ [] ≡ take (suc n) rows → front ≡ take n rows
@@ -83,7 +83,7 @@ pub record AreClosing (slots : List (List ℕ)) (place : ℕ) (rows : List Row) 
   pub within : place + 13 ≤ length slots
 
 pub closing_at : (slots : List (List ℕ)) (rows : List Row) (n place : ℕ) → rows_from [] 0 0 slots ≡ holds rows → n < length rows →
-    ((row : Row) → slice_get rows n ≡ Some row → begins_day (last_stamp (take n rows)) row.stamp ≡ true) → place ≡ slot_total (take n rows) → AreClosing slots place (take n rows)
+    ((row : Row) → slice_get rows n ≡ Some row → begins_day (last_row_stamp (take n rows)) row.stamp ≡ true) → place ≡ slot_total (take n rows) → AreClosing slots place (take n rows)
 closing_at slots rows n place are lt begins at =
     let h = from_holds [] 0 0 slots rows are in
     let all : found slots ≡ rows = sym (rows_found [] slots) ∙ h.rows_are in
@@ -97,7 +97,7 @@ closing_at slots rows n place are lt begins at =
     let may : may_follow (rows_to [] s.front) (shown_to 0 s.front) s.row ≡ true =
     ap (is_right (rows_to [] s.front) (shown_to 0 s.front) s.slot) (sym s.is) ∙ right_last [] 0 s.front s.slot right_to in
     let thirteen : shown_to 0 s.front ≡ 13 =
-    follow_shown (rows_to [] s.front) (shown_to 0 s.front) s.row may ∙ ap (λ (rs : List Row). closings (begins_day (last_stamp rs) s.row.stamp)) before ∙ ap closings (begins s.row row_is) in
+    follow_shown (rows_to [] s.front) (shown_to 0 s.front) s.row may ∙ ap (λ (rs : List Row). closings (begins_day (last_row_stamp rs) s.row.stamp)) before ∙ ap closings (begins s.row row_is) in
     let count = count_right [] 0 s.front right in
     by s.front s.slot s.behind s.parts before thirteen (let e = ap slot_total before in omega (arith, count, e, at, thirteen)) (closes [] 0 s.front right)
   where

@@ -18,7 +18,7 @@ use Rattle.packed_rows.specs.Closing.{begins_day, closings, day_of_stamp, last_d
 use Rattle.packed_rows.specs.Days.{day_of_row, is_before, is_up_to}
 use Rattle.weather_book.specs.Kept.{KeepsOf}
 use Rattle.packed_rows.specs.Packed.{AreReadBack}
-use Rattle.packed_rows.specs.Rising.{exceeds, rise, last_after, last_stamp}
+use Rattle.packed_rows.specs.Rising.{stamp_exceeds, rows_rise, last_stamp_after, last_row_stamp}
 use Rattle.packed_rows.specs.Rows.{rows_from, holds, slot_total}
 use Rattle.weather_book.specs.declared.kept.DayEntry.{DayEntry}
 use Rattle.packed_rows.specs.declared.tail.Tail.{Tail}
@@ -29,11 +29,11 @@ use Rattle.packed_rows.proofs.RowLaws.{last_join, rise_front, rise_behind, total
 use Rattle.packed_rows.proofs.DayLaws.{later_day, still_beyond}
 
 -- the last row is past a day where an earlier one is
-last_past : (s : CivilMinute) (rows : List Row) (f : ℤ) → rise (Some s) rows ≡ true → int_le (pos (archive_day_of s)) f ≡ false → int_le (day_of_stamp (last_after (Some s) rows)) f ≡ false
+last_past : (s : CivilMinute) (rows : List Row) (f : ℤ) → rows_rise (Some s) rows ≡ true → int_le (pos (archive_day_of s)) f ≡ false → int_le (day_of_stamp (last_stamp_after (Some s) rows)) f ≡ false
 last_past s [] f up past = past
 last_past s (row ∷ rows) f up past =
-    let le = later_day s row.stamp (and_parts (exceeds (Some s) row.stamp) (rise (Some row.stamp) rows) up).0 in
-    last_past row.stamp rows f (and_parts (exceeds (Some s) row.stamp) (rise (Some row.stamp) rows) up).1 (still_beyond (archive_day_of s) (archive_day_of row.stamp) f le past)
+    let le = later_day s row.stamp (and_parts (stamp_exceeds (Some s) row.stamp) (rows_rise (Some row.stamp) rows) up).0 in
+    last_past row.stamp rows f (and_parts (stamp_exceeds (Some s) row.stamp) (rows_rise (Some row.stamp) rows) up).1 (still_beyond (archive_day_of s) (archive_day_of row.stamp) f le past)
 
 at_itself : (f : ℤ) (n : ℕ) → pos n ≡ f → int_le (pos n) f ≡ true
 at_itself (pos m) n e = let is : n ≡ m = cc in grind (arith, nat_tests)
@@ -48,11 +48,11 @@ later_begins last stamp f is past =
     apart : (a b : ℕ) → int_le (pos b) (pos a) ≡ false → not (nat_eq a b) ≡ true
     apart a b e = grind (arith, nat_tests)
 
-last_some : (s : CivilMinute) (xs : List Row) → (t : CivilMinute) × (last_after (Some s) xs ≡ Some t)
+last_some : (s : CivilMinute) (xs : List Row) → (t : CivilMinute) × (last_stamp_after (Some s) xs ≡ Some t)
 last_some s [] = (s, refl)
 last_some s (x ∷ xs) = last_some x.stamp xs
 
-begins_by : (front : List Row) (f : ℤ) (stamp : CivilMinute) → 1 ≤ length front → last_day front ≡ f → int_le (pos (archive_day_of stamp)) f ≡ false → begins_day (last_stamp front) stamp ≡ true
+begins_by : (front : List Row) (f : ℤ) (stamp : CivilMinute) → 1 ≤ length front → last_day front ≡ f → int_le (pos (archive_day_of stamp)) f ≡ false → begins_day (last_row_stamp front) stamp ≡ true
 begins_by [] f stamp some is past = absurd (omega (arith, some))
 begins_by (x ∷ xs) f stamp some is past =
     let t = last_some x.stamp xs in
@@ -67,15 +67,15 @@ pub record IsOver (day : DayNumber) (rows : List Row) (n : ℕ) : Type 0 where
   pub closed : (slots : List (List ℕ)) → rows_from [] 0 0 slots ≡ holds rows → IsClosedAt slots (slot_total (take n rows)) day.0 (summary_of (rows_of_day day.0 rows))
   pub not_last : last_day rows ≡ day.0 → ⊥
 
-over_by : (day : DayNumber) (rows front : List Row) (row : Row) (more : List Row) (n : ℕ) → rise None rows ≡ true → AreReadBack rows → 1 ≤ length (rows_of_day day.0 rows) → n ≡ length front →
+over_by : (day : DayNumber) (rows front : List Row) (row : Row) (more : List Row) (n : ℕ) → rows_rise None rows ≡ true → AreReadBack rows → 1 ≤ length (rows_of_day day.0 rows) → n ≡ length front →
     rows ≡ front ++ row ∷ more → count_by (is_up_to day) front ≡ length front → rows_of_day day.0 (row ∷ more) ≡ [] → int_le (day_of_row row) day.0 ≡ false → IsOver day rows n
 over_by day rows front row more n up back some count parts all none past =
-    let front_up : rise None front ≡ true = rise_front None front (row ∷ more) (subst (λ (xs : List Row). rise None xs ≡ true) parts up) in
+    let front_up : rows_rise None front ≡ true = rise_front None front (row ∷ more) (subst (λ (xs : List Row). rows_rise None xs ≡ true) parts up) in
     let same : rows_of_day day.0 front ≡ rows_of_day day.0 rows =
     sym (append-nil (rows_of_day day.0 front)) ∙ ap (λ (xs : List Row). rows_of_day day.0 front ++ xs) (sym none) ∙ sym (filter-append (is_of_day day.0) front (row ∷ more)) ∙ ap (rows_of_day day.0) (sym parts) in
     let front_some : 1 ≤ length (rows_of_day day.0 front) = omega (arith, ap length same, some) in
     let last : last_day front ≡ day.0 = last_day_is day front front_up all front_some in
-    let begins : begins_day (last_stamp front) row.stamp ≡ true = begins_by front day.0 row.stamp (some_of_filter (is_of_day day.0) front front_some) last past in
+    let begins : begins_day (last_row_stamp front) row.stamp ≡ true = begins_by front day.0 row.stamp (some_of_filter (is_of_day day.0) front front_some) last past in
     let taken : take n rows ≡ front = ap (λ (k : ℕ). take k rows) count ∙ ap (take (length front)) parts ∙ take-append_seam front (row ∷ more) in
     let long = ap length parts in
     let lengths = length-append front (row ∷ more) in
@@ -83,7 +83,7 @@ over_by day rows front row more n up back some count parts all none past =
     ap (λ (k : ℕ). take k rows) (let l = length-append front (row ∷ []) in let e : n + 1 ≡ length (front ++ row ∷ []) = omega (arith, l, count) in e)
     ∙ ap (take (length (front ++ row ∷ []))) (parts ∙ sym (append_assoc front (row ∷ []) more)) ∙ take-append_seam (front ++ row ∷ []) more in
     let pushed = total_push front row in
-    let thirteen : closings (begins_day (last_stamp front) row.stamp) ≡ 13 = ap closings begins in
+    let thirteen : closings (begins_day (last_row_stamp front) row.stamp) ≡ 13 = ap closings begins in
     let few = few_of day rows up in
     let all_were : All IsMeasured (rows_of_day day.0 rows) = All-filter (is_of_day day.0) IsMeasured rows (all_measured rows back) in
     record {
@@ -91,17 +91,17 @@ over_by day rows front row more n up back some count parts all none past =
       closed = λ slots are.
           let lt : n < length rows = omega (arith, count, long, lengths) in
           let c = closing_at slots rows n (slot_total (take n rows)) are lt
-          (λ r at. subst (λ (x : Row). begins_day (last_stamp (take n rows)) x.stamp ≡ true) (row_at r at)
-          (subst (λ (xs : List Row). begins_day (last_stamp xs) row.stamp ≡ true) (sym taken) begins)) refl in
+          (λ r at. subst (λ (x : Row). begins_day (last_row_stamp (take n rows)) x.stamp ≡ true) (row_at r at)
+          (subst (λ (xs : List Row). begins_day (last_row_stamp xs) row.stamp ≡ true) (sym taken) begins)) refl in
           record {
             each = λ k small. c.each k small ∙ ap (λ (xs : List Row). closing_slot xs k) taken ∙ slot_is k last same;
             bounds = bounds_of (rows_of_day day.0 rows) all_were (omega (arith, few));
             typed = typed_of (rows_of_day day.0 rows) all_were (omega (arith, few));
           };
       not_last = λ is.
-          let beyond = last_past row.stamp more day.0 (and_parts (exceeds (last_after None front) row.stamp) (rise (Some row.stamp) more) (rise_behind None front (row ∷ more) (subst (λ (xs : List Row). rise None xs ≡ true) parts up))).1 past in
-          let last_is : last_day rows ≡ day_of_stamp (last_after (Some row.stamp) more) = ap last_day parts ∙ ap day_of_stamp (last_join None front (row ∷ more)) in
-          beyond_itself (last_after (Some row.stamp) more) (sym last_is ∙ is) beyond;
+          let beyond = last_past row.stamp more day.0 (and_parts (stamp_exceeds (last_stamp_after None front) row.stamp) (rows_rise (Some row.stamp) more) (rise_behind None front (row ∷ more) (subst (λ (xs : List Row). rows_rise None xs ≡ true) parts up))).1 past in
+          let last_is : last_day rows ≡ day_of_stamp (last_stamp_after (Some row.stamp) more) = ap last_day parts ∙ ap day_of_stamp (last_join None front (row ∷ more)) in
+          beyond_itself (last_stamp_after (Some row.stamp) more) (sym last_is ∙ is) beyond;
     }
   where
     row_at : (r : Row) → slice_get rows n ≡ Some r → row ≡ r
@@ -118,7 +118,7 @@ over_by day rows front row more n up back some count parts all none past =
     beyond_itself None is past = let e = at_itself day.0 0 is in cc
     beyond_itself (Some s) is past = let e = at_itself day.0 (archive_day_of s) is in cc
 
-pub over : (day : DayNumber) (rows : List Row) (n : ℕ) → rise None rows ≡ true → AreReadBack rows → n ≡ count_by (is_up_to day) rows → n < length rows → 1 ≤ length (rows_of_day day.0 rows) → IsOver day rows n
+pub over : (day : DayNumber) (rows : List Row) (n : ℕ) → rows_rise None rows ≡ true → AreReadBack rows → n ≡ count_by (is_up_to day) rows → n < length rows → 1 ≤ length (rows_of_day day.0 rows) → IsOver day rows n
 over day rows n up back is lt some =
     let s = splits day None rows up in
     by s.front s.behind s.parts s.count s.all s.none s.next

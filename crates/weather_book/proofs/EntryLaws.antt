@@ -16,15 +16,15 @@ use Rattle.station_base.specs.DayText.{IsDayNumber}
 use Rattle.station_base.specs.CivilMinute.{CivilMinute, archive_day_of}
 use Rattle.weather_book.specs.declared.kept.DayEntry.{DayEntry}
 use Rattle.packed_rows.specs.Days.{day_of_row, is_day, with_day, days_from, days_of, is_before, is_up_to, is_within, is_on, kept_front, days_front, day_front, day_rest}
-use Rattle.weather_book.specs.Kept.{with_entry, entries_from, entries_of, AreKnown, KeepsOf}
-use Rattle.packed_rows.specs.Rising.{exceeds, rise}
+use Rattle.weather_book.specs.Kept.{with_day_entry, entries_from, entries_of, AreKnown, KeepsOf}
+use Rattle.packed_rows.specs.Rising.{stamp_exceeds, rows_rise}
 use Rattle.packed_rows.proofs.DayLaws.{later_day, still_not, still_beyond, count_yes, count_no}
 
 -- the days of entries are those of the rows
 day_of_entry : DayEntry → ℤ
 day_of_entry entry = entry.day.0
 
-map_with : (b : Bool) (e : DayEntry) (es : List DayEntry) (ds : List ℤ) → map day_of_entry es ≡ ds → map day_of_entry (with_entry b e es) ≡ with_day b e.day.0 ds
+map_with : (b : Bool) (e : DayEntry) (es : List DayEntry) (ds : List ℤ) → map day_of_entry es ≡ ds → map day_of_entry (with_day_entry b e es) ≡ with_day b e.day.0 ds
 unfolding day_of_entry
 map_with true e es ds is = is
 map_with false e es ds is = ap (λ (x : List ℤ). e.day.0 ∷ x) is
@@ -59,16 +59,16 @@ module _ (p : ℤ → Bool) (mono : (a b : ℕ) → a ≤ b → p (pos a) ≡ fa
   abbrev passes : Row → Bool
   passes row = p (day_of_row row)
 
-  none_passes : (s : CivilMinute) (rows : List Row) → rise (Some s) rows ≡ true → p (pos (archive_day_of s)) ≡ false → count_by passes rows ≡ 0
+  none_passes : (s : CivilMinute) (rows : List Row) → rows_rise (Some s) rows ≡ true → p (pos (archive_day_of s)) ≡ false → count_by passes rows ≡ 0
   none_passes s [] up not = refl
   none_passes s (row ∷ rows) up not =
-      let later = later_day s row.stamp (and_parts (exceeds (Some s) row.stamp) (rise (Some row.stamp) rows) up).0 in
+      let later = later_day s row.stamp (and_parts (stamp_exceeds (Some s) row.stamp) (rows_rise (Some row.stamp) rows) up).0 in
       let this = mono (archive_day_of s) (archive_day_of row.stamp) later not in
-      count_no passes row rows this ∙ none_passes row.stamp rows (and_parts (exceeds (Some s) row.stamp) (rise (Some row.stamp) rows) up).1 this
+      count_no passes row rows this ∙ none_passes row.stamp rows (and_parts (stamp_exceeds (Some s) row.stamp) (rows_rise (Some row.stamp) rows) up).1 this
 
-  entry_step : (same : Bool) (n : ℕ) (row : Row) (rows : List Row) → (same ≡ true → passes row ≡ true) → rise (Some row.stamp) rows ≡ true →
+  entry_step : (same : Bool) (n : ℕ) (row : Row) (rows : List Row) → (same ≡ true → passes row ≡ true) → rows_rise (Some row.stamp) rows ≡ true →
       (passes row ≡ true → first_past p (n + 1 + length rows) (entries_from (Some (day_of_row row)) (n + 1) rows) ≡ n + 1 + count_by passes rows) →
-      first_past p (n + suc (length rows)) (with_entry same (record { day = record { 0 = day_of_row row }; first = n }) (entries_from (Some (day_of_row row)) (n + 1) rows)) ≡ n + count_by passes (row ∷ rows)
+      first_past p (n + suc (length rows)) (with_day_entry same (record { day = record { 0 = day_of_row row }; first = n }) (entries_from (Some (day_of_row row)) (n + 1) rows)) ≡ n + count_by passes (row ∷ rows)
   entry_step same n row rows so up rest = by same refl
     where
       shift : (m k : ℕ) → m + 1 + k ≡ m + suc k
@@ -84,32 +84,32 @@ module _ (p : ℤ → Bool) (mono : (a b : ℕ) → a ≤ b → p (pos a) ≡ fa
       fresh false is = let z = count_no passes row rows is ∙ none_passes row.stamp rows up is in omega (arith, z)
 
       by : (b : Bool) → same ≡ b →
-          first_past p (n + suc (length rows)) (with_entry b (record { day = record { 0 = day_of_row row }; first = n }) (entries_from (Some (day_of_row row)) (n + 1) rows)) ≡ n + count_by passes (row ∷ rows)
+          first_past p (n + suc (length rows)) (with_day_entry b (record { day = record { 0 = day_of_row row }; first = n }) (entries_from (Some (day_of_row row)) (n + 1) rows)) ≡ n + count_by passes (row ∷ rows)
       by true is = more (so is)
       by false is = fresh (passes row) refl
 
   same_pass : (a b : ℕ) → int_eq (pos a) (pos b) ≡ true → p (pos a) ≡ true → p (pos b) ≡ true
   same_pass a b e pass = let is : a ≡ b = grind (arith, nat_tests) in subst (λ (n : ℕ). p (pos n) ≡ true) is pass
 
-  entries_behind : (s : CivilMinute) (n : ℕ) (rows : List Row) → rise (Some s) rows ≡ true → p (pos (archive_day_of s)) ≡ true →
+  entries_behind : (s : CivilMinute) (n : ℕ) (rows : List Row) → rows_rise (Some s) rows ≡ true → p (pos (archive_day_of s)) ≡ true →
       first_past p (n + length rows) (entries_from (Some (pos (archive_day_of s))) n rows) ≡ n + count_by passes rows
   entries_behind s n [] up pass = refl
   entries_behind s n (row ∷ rows) up pass =
-      let behind = (and_parts (exceeds (Some s) row.stamp) (rise (Some row.stamp) rows) up).1 in
+      let behind = (and_parts (stamp_exceeds (Some s) row.stamp) (rows_rise (Some row.stamp) rows) up).1 in
       entry_step (is_day (Some (pos (archive_day_of s))) (day_of_row row)) n row rows (λ e. same_pass (archive_day_of s) (archive_day_of row.stamp) e pass) behind (λ e. entries_behind row.stamp (n + 1) rows behind e)
 
   -- so many rows are of days that pass
-  pub rows_past : (rows : List Row) → rise None rows ≡ true → first_past p (length rows) (entries_of rows) ≡ count_by passes rows
+  pub rows_past : (rows : List Row) → rows_rise None rows ≡ true → first_past p (length rows) (entries_of rows) ≡ count_by passes rows
   rows_past [] up = refl
   rows_past (row ∷ rows) up =
-      let behind = (and_parts true (rise (Some row.stamp) rows) up).1 in
+      let behind = (and_parts true (rows_rise (Some row.stamp) rows) up).1 in
       ap (λ (c : ℕ). first_past p c (entries_of (row ∷ rows))) (let e : suc (length rows) ≡ 0 + suc (length rows) = omega arith in e)
       ∙ entry_step false 0 row rows (λ e. absurd cc) behind (λ e. entries_behind row.stamp 1 rows behind e) ∙ (let e : 0 + count_by passes (row ∷ rows) ≡ count_by passes (row ∷ rows) = omega arith in e)
 
-pub before_rows : (day : DayNumber) (rows : List Row) → rise None rows ≡ true → first_past (λ x. int_lt x day.0) (length rows) (entries_of rows) ≡ count_by (is_before day) rows
+pub before_rows : (day : DayNumber) (rows : List Row) → rows_rise None rows ≡ true → first_past (λ x. int_lt x day.0) (length rows) (entries_of rows) ≡ count_by (is_before day) rows
 before_rows day rows up = rows_past (λ x. int_lt x day.0) (λ a b le e. still_not a b day.0 le e) rows up
 
-pub up_to_rows : (day : DayNumber) (rows : List Row) → rise None rows ≡ true → first_past (λ x. int_le x day.0) (length rows) (entries_of rows) ≡ count_by (is_up_to day) rows
+pub up_to_rows : (day : DayNumber) (rows : List Row) → rows_rise None rows ≡ true → first_past (λ x. int_le x day.0) (length rows) (entries_of rows) ≡ count_by (is_up_to day) rows
 up_to_rows day rows up = rows_past (λ x. int_le x day.0) (λ a b le e. still_beyond a b day.0 le e) rows up
 
 -- the rows within
@@ -192,7 +192,7 @@ none_begun last m n (row ∷ rows) lt = by (none_begun (Some (day_of_row row)) (
     late : nat_le m n ≡ false
     late = grind (arith, nat_tests)
 
-    by : (begun n (entries_from (Some (day_of_row row)) (m + 1) rows) ≡ 0) → (b : Bool) → begun n (with_entry b (record { day = record { 0 = day_of_row row }; first = m }) (entries_from (Some (day_of_row row)) (m + 1) rows)) ≡ 0
+    by : (begun n (entries_from (Some (day_of_row row)) (m + 1) rows) ≡ 0) → (b : Bool) → begun n (with_day_entry b (record { day = record { 0 = day_of_row row }; first = m }) (entries_from (Some (day_of_row row)) (m + 1) rows)) ≡ 0
     by r true = r
     by r false = ap (λ (b : Bool). one_begun b (begun n (entries_from (Some (day_of_row row)) (m + 1) rows))) late
 
@@ -210,7 +210,7 @@ begun_days last m k n (row ∷ rows) is lt = by (λ j e. begun_days (Some (day_o
     plus : (x : ℕ) → x + 1 ≡ suc x
     plus x = omega arith
 
-    by : ((j : ℕ) → k ≡ suc j → begun n (entries_from (Some (day_of_row row)) (m + 1) rows) ≡ length (days_from (Some (day_of_row row)) (take (suc j) rows))) → (b : Bool) → begun n (with_entry b (record { day = record { 0 = day_of_row row }; first = m }) (entries_from (Some (day_of_row row)) (m + 1) rows)) ≡ length (with_day b (day_of_row row) (days_from (Some (day_of_row row)) (take k rows)))
+    by : ((j : ℕ) → k ≡ suc j → begun n (entries_from (Some (day_of_row row)) (m + 1) rows) ≡ length (days_from (Some (day_of_row row)) (take (suc j) rows))) → (b : Bool) → begun n (with_day_entry b (record { day = record { 0 = day_of_row row }; first = m }) (entries_from (Some (day_of_row row)) (m + 1) rows)) ≡ length (with_day b (day_of_row row) (days_from (Some (day_of_row row)) (take k rows)))
     by next true = rest next k refl
     by next false = ap (λ (b : Bool). one_begun b (begun n (entries_from (Some (day_of_row row)) (m + 1) rows))) there ∙ plus (begun n (entries_from (Some (day_of_row row)) (m + 1) rows)) ∙ ap suc (rest next k refl)
 
@@ -279,7 +279,7 @@ next_day day m n (row ∷ rows) lt = by (is_day (Some day) (day_of_row row)) ref
     zero_more a = omega arith
 
     by : (b : Bool) → is_day (Some day) (day_of_row row) ≡ b → later_first n (m + 1 + length rows) (entries_from (Some day) (m + 1) rows) ≡ m + 1 + length (days_front day rows) →
-        later_first n (m + suc (length rows)) (with_entry b (record { day = record { 0 = day_of_row row }; first = m }) (entries_from (Some (day_of_row row)) (m + 1) rows)) ≡ m + length (kept_front b row (days_front day rows))
+        later_first n (m + suc (length rows)) (with_day_entry b (record { day = record { 0 = day_of_row row }; first = m }) (entries_from (Some (day_of_row row)) (m + 1) rows)) ≡ m + length (kept_front b row (days_front day rows))
     by true is rest =
         subst (λ (d : ℤ). later_first n (m + suc (length rows)) (entries_from (Some d) (m + 1) rows) ≡ m + suc (length (days_front day rows))) (same_day day (day_of_row row) is)
         (ap (λ (c : ℕ). later_first n c (entries_from (Some day) (m + 1) rows)) (sym (shift m (length rows))) ∙ rest ∙ shift m (length (days_front day rows)))
@@ -302,7 +302,7 @@ day_end last m k n (row ∷ rows) is lt = by (is_day last (day_of_row row)) (res
     rest (suc j) e one next = next j e
 
     by : (b : Bool) → later_first n (m + 1 + length rows) (entries_from (Some (day_of_row row)) (m + 1) rows) ≡ n + length (day_front (drop k (row ∷ rows))) →
-        later_first n (m + suc (length rows)) (with_entry b (record { day = record { 0 = day_of_row row }; first = m }) (entries_from (Some (day_of_row row)) (m + 1) rows)) ≡ n + length (day_front (drop k (row ∷ rows)))
+        later_first n (m + suc (length rows)) (with_day_entry b (record { day = record { 0 = day_of_row row }; first = m }) (entries_from (Some (day_of_row row)) (m + 1) rows)) ≡ n + length (day_front (drop k (row ∷ rows)))
     by true r = ap (λ (c : ℕ). later_first n c (entries_from (Some (day_of_row row)) (m + 1) rows)) (sym (shift m (length rows))) ∙ r
     by false r = ap (λ (b : Bool). past b m (later_first n (m + suc (length rows)) (entries_from (Some (day_of_row row)) (m + 1) rows))) (nat_le_true m n (omega arith))
         ∙ ap (λ (c : ℕ). later_first n c (entries_from (Some (day_of_row row)) (m + 1) rows)) (sym (shift m (length rows))) ∙ r

@@ -10,9 +10,9 @@ use Rattle.packed_rows.specs.declared.tail.Tail.{Tail}
 use Rattle.packed_rows.specs.Closing.{begins_day}
 use Rattle.packed_rows.specs.Days.{day_of_row, is_day, with_day, days_from}
 use Rattle.packed_rows.specs.Rows.{slot_total}
-use Rattle.weather_book.specs.Kept.{with_entry, days_to, entries_from, entries_of, KeepsOf, AreKnown}
+use Rattle.weather_book.specs.Kept.{with_day_entry, days_to, entries_from, entries_of, KeepsOf, AreKnown}
 use Rattle.packed_rows.specs.Packed.{IsReadBack}
-use Rattle.packed_rows.specs.Rising.{exceeds, last_after, last_stamp}
+use Rattle.packed_rows.specs.Rising.{stamp_exceeds, last_stamp_after, last_row_stamp}
 use Rattle.packed_rows.specs.Tail.{EndsRows}
 use Rattle.packed_rows.proofs.TailLaws.{later_day, other_nat}
 use Rattle.packed_rows.proofs.RowLaws.{day_after, day_stamp, begins_by, read_back-push}
@@ -20,44 +20,44 @@ use Rattle.packed_rows.proofs.RowLaws.{day_after, day_stamp, begins_by, read_bac
 entry_of : ℕ → Row → DayEntry
 entry_of n row = record { day = record { 0 = day_of_row row }; first = n }
 
-entries_push : (last : Option ℤ) (n : ℕ) (rows : List Row) (row : Row) → entries_from last n (rows ++ row ∷ []) ≡ entries_from last n rows ++ with_entry (is_day (day_after last rows) (day_of_row row)) (entry_of (n + length rows) row) []
+entries_push : (last : Option ℤ) (n : ℕ) (rows : List Row) (row : Row) → entries_from last n (rows ++ row ∷ []) ≡ entries_from last n rows ++ with_day_entry (is_day (day_after last rows) (day_of_row row)) (entry_of (n + length rows) row) []
 unfolding entry_of
-entries_push last n [] row = ap (λ (k : ℕ). with_entry (is_day last (day_of_row row)) (entry_of k row) []) (let e : n ≡ n + 0 = omega arith in e)
+entries_push last n [] row = ap (λ (k : ℕ). with_day_entry (is_day last (day_of_row row)) (entry_of k row) []) (let e : n ≡ n + 0 = omega arith in e)
 entries_push last n (x ∷ rows) row =
     let test = is_day last (day_of_row x) in
     let rest = entries_push (Some (day_of_row x)) (n + 1) rows row in
-    ap (with_entry test (entry_of n x)) (rest ∙ ap (λ (k : ℕ). entries_from (Some (day_of_row x)) (n + 1) rows ++ with_entry (is_day (day_after (Some (day_of_row x)) rows) (day_of_row row)) (entry_of k row) [])
+    ap (with_day_entry test (entry_of n x)) (rest ∙ ap (λ (k : ℕ). entries_from (Some (day_of_row x)) (n + 1) rows ++ with_day_entry (is_day (day_after (Some (day_of_row x)) rows) (day_of_row row)) (entry_of k row) [])
     (let e : n + 1 + length rows ≡ n + suc (length rows) = omega arith in e))
-    ∙ move test (entry_of n x) (entries_from (Some (day_of_row x)) (n + 1) rows) (with_entry (is_day (day_after (Some (day_of_row x)) rows) (day_of_row row)) (entry_of (n + suc (length rows)) row) [])
+    ∙ move test (entry_of n x) (entries_from (Some (day_of_row x)) (n + 1) rows) (with_day_entry (is_day (day_after (Some (day_of_row x)) rows) (day_of_row row)) (entry_of (n + suc (length rows)) row) [])
   where
-    move : (b : Bool) (e : DayEntry) (xs ys : List DayEntry) → with_entry b e (xs ++ ys) ≡ with_entry b e xs ++ ys
+    move : (b : Bool) (e : DayEntry) (xs ys : List DayEntry) → with_day_entry b e (xs ++ ys) ≡ with_day_entry b e xs ++ ys
     move true e xs ys = refl
     move false e xs ys = refl
 
 -- a row of no new day
-pub entries_same : (rows : List Row) (row : Row) → 0 < length rows → begins_day (last_stamp rows) row.stamp ≡ false → entries_of (rows ++ row ∷ []) ≡ entries_of rows
+pub entries_same : (rows : List Row) (row : Row) → 0 < length rows → begins_day (last_row_stamp rows) row.stamp ≡ false → entries_of (rows ++ row ∷ []) ≡ entries_of rows
 unfolding entry_of
 entries_same [] row some out = absurd (omega arith)
 entries_same (x ∷ rows) row some out =
-    let o = last_after (Some x.stamp) rows in
+    let o = last_stamp_after (Some x.stamp) rows in
     let test = is_day (day_after None (x ∷ rows)) (day_of_row row) in
     let same : not test ≡ false = ap (λ (d : Option ℤ). not (is_day d (day_of_row row))) (day_stamp (Some x.stamp) rows) ∙ begins_by o rows x row.stamp refl ∙ out in
-    entries_push None 0 (x ∷ rows) row ∙ ap (λ (b : Bool). entries_of (x ∷ rows) ++ with_entry b (entry_of (0 + length (x ∷ rows)) row) []) (not_false test same) ∙ append-nil (entries_of (x ∷ rows))
+    entries_push None 0 (x ∷ rows) row ∙ ap (λ (b : Bool). entries_of (x ∷ rows) ++ with_day_entry b (entry_of (0 + length (x ∷ rows)) row) []) (not_false test same) ∙ append-nil (entries_of (x ∷ rows))
   where
     not_false : (b : Bool) → not b ≡ false → b ≡ true
     not_false true e = refl
     not_false false e = absurd cc
 
 -- a row of a new day
-pub entries_more : (rows : List Row) (row : Row) → (rows ≡ []) ⊎ (begins_day (last_stamp rows) row.stamp ≡ true) → entries_of (rows ++ row ∷ []) ≡ entries_of rows ++ record { day = record { 0 = day_of_row row }; first = length rows } ∷ []
+pub entries_more : (rows : List Row) (row : Row) → (rows ≡ []) ⊎ (begins_day (last_row_stamp rows) row.stamp ≡ true) → entries_of (rows ++ row ∷ []) ≡ entries_of rows ++ record { day = record { 0 = day_of_row row }; first = length rows } ∷ []
 unfolding entry_of
 entries_more [] row first = refl
 entries_more (x ∷ rows) row (inl none) = absurd cc
 entries_more (x ∷ rows) row (inr so) =
-    let o = last_after (Some x.stamp) rows in
+    let o = last_stamp_after (Some x.stamp) rows in
     let test = is_day (day_after None (x ∷ rows)) (day_of_row row) in
     let other : not test ≡ true = ap (λ (d : Option ℤ). not (is_day d (day_of_row row))) (day_stamp (Some x.stamp) rows) ∙ begins_by o rows x row.stamp refl ∙ so in
-    entries_push None 0 (x ∷ rows) row ∙ ap (λ (b : Bool). entries_of (x ∷ rows) ++ with_entry b (entry_of (0 + length (x ∷ rows)) row) []) (not_true test other)
+    entries_push None 0 (x ∷ rows) row ∙ ap (λ (b : Bool). entries_of (x ∷ rows) ++ with_day_entry b (entry_of (0 + length (x ∷ rows)) row) []) (not_true test other)
     ∙ ap (λ (n : ℕ). entries_of (x ∷ rows) ++ entry_of n row ∷ []) (let e : 0 + suc (length rows) ≡ suc (length rows) = omega arith in e)
   where
     not_true : (b : Bool) → not b ≡ true → b ≡ false
@@ -92,26 +92,26 @@ some_rows : (rows : List Row) (count : ℕ) → (count == 0) ≡ false → count
 some_rows [] count test is = absurd (let e : (count == 0) ≡ true = rw is refl in let f : true ≡ false = sym e ∙ test in cc f)
 some_rows (x ∷ rows) count test is = omega arith
 
-spread_later : (o : Option CivilMinute) (stamp : CivilMinute) (n : ℕ) → begins_day o stamp ≡ true → exceeds o stamp ≡ true → 10956 ≤ archive_day_of stamp → n ≤ days_to o → n + 1 ≤ archive_day_of stamp - 10955
+spread_later : (o : Option CivilMinute) (stamp : CivilMinute) (n : ℕ) → begins_day o stamp ≡ true → stamp_exceeds o stamp ≡ true → 10956 ≤ archive_day_of stamp → n ≤ days_to o → n + 1 ≤ archive_day_of stamp - 10955
 spread_later None stamp n so rises from le = absurd cc
 spread_later (Some s) stamp n so rises from le = let lt = other_nat _ _ so (later_day s stamp rises) in omega (arith, lt, from, le)
 
-spread_same : (o : Option CivilMinute) (stamp : CivilMinute) (n : ℕ) → exceeds o stamp ≡ true → n ≤ days_to o → n ≤ archive_day_of stamp - 10955
+spread_same : (o : Option CivilMinute) (stamp : CivilMinute) (n : ℕ) → stamp_exceeds o stamp ≡ true → n ≤ days_to o → n ≤ archive_day_of stamp - 10955
 spread_same None stamp n rises le = omega arith
 spread_same (Some s) stamp n rises le = let ge = later_day s stamp rises in omega (arith, ge, le)
 
 -- by the test that the code makes
 pub keeps_more : (entries : List DayEntry) (count : ℕ) (tail new : Tail) (rows : List Row) (row : Row) (more : List DayEntry) (test : Bool) → KeepsOf entries count tail rows → IsReadBack row → EndsRows new (rows ++ row ∷ []) →
     test ≡ (begins_day tail.last row.stamp || (count == 0)) → (test ≡ true → more ≡ entries ++ record { day = record { 0 = day_of_row row }; first = count } ∷ []) → (test ≡ false → more ≡ entries) →
-    exceeds tail.last row.stamp ≡ true → 10956 ≤ archive_day_of row.stamp → archive_day_of row.stamp ≤ 57707 → new.last ≡ Some row.stamp → IsDayNumber (day_of_row row) → KeepsOf more (count + 1) new (rows ++ row ∷ [])
+    stamp_exceeds tail.last row.stamp ≡ true → 10956 ≤ archive_day_of row.stamp → archive_day_of row.stamp ≤ 57707 → new.last ≡ Some row.stamp → IsDayNumber (day_of_row row) → KeepsOf more (count + 1) new (rows ++ row ∷ [])
 keeps_more entries count tail new rows row more test keeps back ends is one none rises from to last number =
     let s = spread test refl in
     keeps_with entries count tail new rows row more keeps back ends (days test refl) (subst (λ (o : Option CivilMinute). length more ≤ days_to o) (sym last) s) (omega (arith, s, to)) (known test refl)
   where
-    begins : (b : Bool) → begins_day tail.last row.stamp ≡ b → begins_day (last_stamp rows) row.stamp ≡ b
+    begins : (b : Bool) → begins_day tail.last row.stamp ≡ b → begins_day (last_row_stamp rows) row.stamp ≡ b
     begins b e = ap (λ (o : Option CivilMinute). begins_day o row.stamp) (sym keeps.ends.last) ∙ e
 
-    first : (begins_day tail.last row.stamp ≡ true) ⊎ ((count == 0) ≡ true) → (rows ≡ []) ⊎ (begins_day (last_stamp rows) row.stamp ≡ true)
+    first : (begins_day tail.last row.stamp ≡ true) ⊎ ((count == 0) ≡ true) → (rows ≡ []) ⊎ (begins_day (last_row_stamp rows) row.stamp ≡ true)
     first (inl e) = inr (begins true e)
     first (inr e) = inl (empty rows (sym (eqb-true count 0 e) ∙ keeps.count_is))
 
@@ -142,7 +142,7 @@ keeps_more entries count tail new rows row more test keeps back ends is one none
         none e ∙ keeps.days
         ∙ sym (entries_same rows row (some_rows rows count (or_parts (begins_day tail.last row.stamp) (count == 0) (sym is ∙ e)).1 keeps.count_is) (begins false (or_parts (begins_day tail.last row.stamp) (count == 0) (sym is ∙ e)).0))
 
-length_with : (b : Bool) (e : DayEntry) (day : ℤ) (xs : List DayEntry) (ds : List ℤ) → length xs ≡ length ds → length (with_entry b e xs) ≡ length (with_day b day ds)
+length_with : (b : Bool) (e : DayEntry) (day : ℤ) (xs : List DayEntry) (ds : List ℤ) → length xs ≡ length ds → length (with_day_entry b e xs) ≡ length (with_day b day ds)
 length_with true e day xs ds same = same
 length_with false e day xs ds same = ap suc same
 

@@ -11,7 +11,7 @@ use Rattle.station_base.proofs.Printable.{printable_some, printable_none}
 use Rattle.station_base.proofs.Civil.{stamp_civil}
 use Rattle.station_base.specs.Period.{is_period}
 use Rattle.row_slot.specs.Slot.{slot_of, number_at}
-use Rattle.row_slot.specs.Values.{number_in, is_allowed, values_in}
+use Rattle.row_slot.specs.Values.{signed_number_in, is_allowed, slot_values_in}
 use Rattle.row_slot.proofs.Inverse.{parts_of, end_of}
 use Rattle.row_slot.proofs.Slots.{parts-row_in}
 use Rattle.daily_summary.specs.Measured.{IsMeasured}
@@ -27,14 +27,14 @@ allowed_printable true z is = within_bound z is
 allowed_printable false z is = printable_none
 
 -- values that are read are within the bound
-values_printable : (count presence : ℕ) (bytes : List ℕ) (values : List (Option ℤ)) → values_in count presence bytes ≡ Some values → All IsPrintable values
-unfolding values_in
+values_printable : (count presence : ℕ) (bytes : List ℕ) (values : List (Option ℤ)) → slot_values_in count presence bytes ≡ Some values → All IsPrintable values
+unfolding slot_values_in
 values_printable zero presence bytes values is = subst (All IsPrintable) (sym (end_of (presence == 0) values is).1) (All-nil IsPrintable)
 values_printable (suc count) presence bytes values is =
-    let parts = parts_of (is_allowed (presence % 2 == 1) (number_in bytes)) (then_some (presence % 2 == 1) (number_in bytes)) (values_in count (presence / 2) (drop 4 bytes)) values is in
+    let parts = parts_of (is_allowed (presence % 2 == 1) (signed_number_in bytes)) (then_some (presence % 2 == 1) (signed_number_in bytes)) (slot_values_in count (presence / 2) (drop 4 bytes)) values is in
     let rest : List (Option ℤ) = parts.1.0 in
     subst (All IsPrintable) (sym parts.1.1.1)
-    (All-cons IsPrintable (then_some (presence % 2 == 1) (number_in bytes)) rest (allowed_printable (presence % 2 == 1) (number_in bytes) parts.0)
+    (All-cons IsPrintable (then_some (presence % 2 == 1) (signed_number_in bytes)) rest (allowed_printable (presence % 2 == 1) (signed_number_in bytes) parts.0)
     (values_printable count (presence / 2) (drop 4 bytes) rest parts.1.1.0))
 
 pub measured : (row : Row) → IsReadBack row → IsMeasured row

@@ -6,7 +6,7 @@ use Rattle.std.proofs.lemmas.Option.{slice_get-get_or, slice_get_within, get_or_
 use Rattle.std.proofs.Math.Seq.{get_or-append_seam, take-suc}
 use Rattle.std.proofs.lemmas.List.{length-take, get_or-drop}
 use Rattle.station_base.specs.declared.row.Row.{Row}
-use Rattle.row_slot.specs.Slot.{row_in, is_marked, row_of}
+use Rattle.row_slot.specs.Slot.{row_in_slot, is_marked, row_of}
 use Rattle.byteorder.specs.Endian.{little_number}
 use Rattle.gated_log.specs.Log.{unmarked}
 use Rattle.gated_log.specs.Stands.{IsSlot}
@@ -16,7 +16,7 @@ use Rattle.station_base.specs.RowLine.{blank_row}
 use Rattle.std.specs.Option.{unwrap_or}
 use Rattle.gated_log.specs.Layout.{slot_size}
 use Rattle.weather_book.specs.ReadBack.{row_back, rows_back, slot_in}
-use Rattle.packed_rows.specs.Rows.{rows_with, shown_with, slot_total, rows_from, holds, as_read}
+use Rattle.packed_rows.specs.Rows.{rows_with_row, shown_with, slot_total, rows_from, holds, as_read}
 use Rattle.weather_book.proofs.Pieces.{slot_of_piece}
 use Rattle.packed_rows.proofs.Versions.{row_read}
 use Rattle.packed_rows.proofs.RowLaws.{AreRight, rows_to, shown_to, from_holds, count_right, shown_to_join}
@@ -28,15 +28,15 @@ with_found (Some row) rows = row ∷ rows
 -- the rows of slots
 abbrev pub found : List (List ℕ) → List Row
 found [] = []
-found (slot ∷ slots) = with_found (row_in slot) (found slots)
+found (slot ∷ slots) = with_found (row_in_slot slot) (found slots)
 
-found_step : (o : Option Row) (rows more : List Row) → rows_with rows o ++ more ≡ rows ++ with_found o more
+found_step : (o : Option Row) (rows more : List Row) → rows_with_row rows o ++ more ≡ rows ++ with_found o more
 found_step None rows more = refl
 found_step (Some row) rows more = append_assoc rows (row ∷ []) more
 
 pub rows_found : (rows : List Row) (slots : List (List ℕ)) → rows_to rows slots ≡ rows ++ found slots
 rows_found rows [] = sym (append-nil rows)
-rows_found rows (slot ∷ slots) = rows_found (rows_with rows (row_in slot)) slots ∙ found_step (row_in slot) rows (found slots)
+rows_found rows (slot ∷ slots) = rows_found (rows_with_row rows (row_in_slot slot)) slots ∙ found_step (row_in_slot slot) rows (found slots)
 
 -- the slots up to the one of row k, and this
 pub record Splits (slots : List (List ℕ)) (k : ℕ) : Type 0 where
@@ -45,10 +45,10 @@ pub record Splits (slots : List (List ℕ)) (k : ℕ) : Type 0 where
   pub behind : List (List ℕ)
   pub row : Row
   pub parts : slots ≡ front ++ slot ∷ behind
-  pub is : row_in slot ≡ Some row
+  pub is : row_in_slot slot ≡ Some row
   pub rows_are : found (front ++ slot ∷ []) ≡ take (suc k) (found slots)
 
-splits_by : (slot : List ℕ) (slots : List (List ℕ)) (k : ℕ) (o : Option Row) → row_in slot ≡ o → k < length (with_found o (found slots)) →
+splits_by : (slot : List ℕ) (slots : List (List ℕ)) (k : ℕ) (o : Option Row) → row_in_slot slot ≡ o → k < length (with_found o (found slots)) →
     ((j : ℕ) → j < length (found slots) → Splits slots j) → Splits (slot ∷ slots) k
 splits_by slot slots k None none lt rest =
     let r = rest k lt in
@@ -85,18 +85,18 @@ splits_by slot slots (suc k) (Some row) some lt rest =
 
 pub splits : (slots : List (List ℕ)) (k : ℕ) → k < length (found slots) → Splits slots k
 splits [] k lt = absurd (omega arith)
-splits (slot ∷ slots) k lt = splits_by slot slots k (row_in slot) refl lt (λ j le. splits slots j le)
+splits (slot ∷ slots) k lt = splits_by slot slots k (row_in_slot slot) refl lt (λ j le. splits slots j le)
 
 pub right_front : (rows : List Row) (shown : ℕ) (xs ys : List (List ℕ)) → AreRight rows shown (xs ++ ys) → AreRight rows shown xs
 right_front rows shown [] ys are = tt
-right_front rows shown (slot ∷ xs) ys are = (are.0, right_front (rows_with rows (row_in slot)) (shown_with shown (row_in slot)) xs ys are.1)
+right_front rows shown (slot ∷ xs) ys are = (are.0, right_front (rows_with_row rows (row_in_slot slot)) (shown_with shown (row_in_slot slot)) xs ys are.1)
 
 zero_plus : (n : ℕ) → 0 + 0 + n ≡ n
 zero_plus n = omega arith
 
 pub found_join : (xs ys : List (List ℕ)) → found (xs ++ ys) ≡ found xs ++ found ys
 found_join [] ys = refl
-found_join (slot ∷ xs) ys = ap (with_found (row_in slot)) (found_join xs ys) ∙ join (row_in slot) (found xs) (found ys)
+found_join (slot ∷ xs) ys = ap (with_found (row_in_slot slot)) (found_join xs ys) ∙ join (row_in_slot slot) (found xs) (found ys)
   where
     join : (o : Option Row) (a b : List Row) → with_found o (a ++ b) ≡ with_found o a ++ b
     join None a b = refl
@@ -115,7 +115,7 @@ last_get front n row rows lt is =
 
 -- row n stands in the slot whose number is one below the slots that the rows up to it take
 pub place_is : (slots : List (List ℕ)) (rows : List Row) (n place : ℕ) → rows_from [] 0 0 slots ≡ holds rows → n < length rows → place + 1 ≡ slot_total (take (n + 1) rows) →
-    (row : Row) × (slice_get rows n ≡ Some row) × (row_in (get_or slots place []) ≡ Some row) × (place < length slots)
+    (row : Row) × (slice_get rows n ≡ Some row) × (row_in_slot (get_or slots place []) ≡ Some row) × (place < length slots)
 place_is slots rows n place are lt at =
     let h = from_holds [] 0 0 slots rows are in
     let all : found slots ≡ rows = sym (rows_found [] slots) ∙ h.rows_are in
@@ -133,7 +133,7 @@ place_is slots rows n place are lt at =
     let slot_is : get_or slots place [] ≡ s.slot = ap (λ (xs : List (List ℕ)). get_or xs place []) s.parts ∙ ap (λ (k : ℕ). get_or (s.front ++ s.slot ∷ s.behind) k []) (sym here) ∙ get_or-append_seam s.front s.slot s.behind [] in (
       s.row,
       last_get (found s.front) n s.row rows lt (sym (found_join s.front (s.slot ∷ []) ∙ ap (λ (o : Option Row). found s.front ++ with_found o []) s.is) ∙ s.rows_are ∙ ap (take (suc n)) all),
-      ap row_in slot_is ∙ s.is,
+      ap row_in_slot slot_is ∙ s.is,
       (let w = ap length s.parts in let l = length-append s.front (s.slot ∷ s.behind) in omega (arith, w, l, here)),
     )
   where
@@ -141,8 +141,8 @@ place_is slots rows n place are lt at =
     plus_none k = omega arith
 
 -- a slot with a row is as it was handed in
-pub row_unmarked : (slot : List ℕ) (row : Row) → row_in slot ≡ Some row → unmarked slot ≡ slot
-unfolding row_in
+pub row_unmarked : (slot : List ℕ) (row : Row) → row_in_slot slot ≡ Some row → unmarked slot ≡ slot
+unfolding row_in_slot
 row_unmarked slot row is = by slot (marked (is_marked slot) _ _ _ _ _ is)
   where
     marked : (b : Bool) (stamp : Option CivilMinute) (periodic : Bool) (interval : ℕ) (values : Option (List (Option ℤ))) (limited : ℕ) → row_of b stamp periodic interval values limited ≡ Some row → b ≡ true
@@ -170,17 +170,17 @@ row_unmarked slot row is = by slot (marked (is_marked slot) _ _ _ _ _ is)
         ap (λ (x : ℕ). x ∷ b ∷ 0 ∷ 0 ∷ rest) (sym a0) ∙ ap (λ (x : ℕ). a ∷ b ∷ x ∷ 0 ∷ rest) (sym c0) ∙ ap (λ (x : ℕ). a ∷ b ∷ c ∷ x ∷ rest) (sym d0)
 
 -- so the bytes that a log gives are the slot's, with gate and number aside
-slot_unmarked : (slot bytes : List ℕ) (row : Row) → IsSlot slot bytes → row_in slot ≡ Some row → unmarked bytes ≡ slot
+slot_unmarked : (slot bytes : List ℕ) (row : Row) → IsSlot slot bytes → row_in_slot slot ≡ Some row → unmarked bytes ≡ slot
 slot_unmarked slot bytes row (inl same) is = ap unmarked (sym same) ∙ row_unmarked slot row is
 slot_unmarked slot bytes row (inr same) is = sym same
 
 -- and its row is read back of them
-pub slot_row : (v : Version) (slot bytes : List ℕ) (row : Row) → IsSlot slot bytes → row_in (as_read v slot) ≡ Some row → row_back v bytes ≡ row
+pub slot_row : (v : Version) (slot bytes : List ℕ) (row : Row) → IsSlot slot bytes → row_in_slot (as_read v slot) ≡ Some row → row_back v bytes ≡ row
 slot_row v slot bytes row here is =
     ap (row_back_of v) (slot_unmarked slot bytes row here (row_read v slot row is)) ∙ ap (λ (o : Option Row). unwrap_or o blank_row) is
   where
     row_back_of : Version → List ℕ → Row
-    row_back_of v slot = unwrap_or (row_in (as_read v slot)) blank_row
+    row_back_of v slot = unwrap_or (row_in_slot (as_read v slot)) blank_row
 
 back_behind : (v : Version) (file : List ℕ) (n count : ℕ) → rows_back v file n (suc count) ≡ rows_back v file n count ++ row_back v (slot_in file (n + count)) ∷ []
 back_behind v file n zero = ap (λ (k : ℕ). row_back v (slot_in file k) ∷ []) (let e : n ≡ n + 0 = omega arith in e)

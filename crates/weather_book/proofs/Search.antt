@@ -10,8 +10,8 @@ use Rattle.station_base.specs.CivilMinute.{CivilMinute, archive_day_of}
 use Rattle.weather_book.specs.declared.kept.DayEntry.{DayEntry}
 use Rattle.packed_rows.specs.declared.tail.Tail.{Tail}
 use Rattle.packed_rows.specs.Days.{day_of_row, is_day, days_of, day_rest}
-use Rattle.weather_book.specs.Kept.{with_entry, entries_from, entries_of, KeepsOf}
-use Rattle.packed_rows.specs.Rising.{exceeds, rise}
+use Rattle.weather_book.specs.Kept.{with_day_entry, entries_from, entries_of, KeepsOf}
+use Rattle.packed_rows.specs.Rising.{stamp_exceeds, rows_rise}
 use Rattle.packed_rows.proofs.DayLaws.{later_day}
 use Rattle.weather_book.proofs.EntryLaws.{past, first_past, one_begun, begun, later_first, stop_is, end_is, later_stop, later_end, begun_stop, begun_end}
 
@@ -24,24 +24,24 @@ weaken : (a b m n : ℕ) (entries : List DayEntry) → a ≤ b → m ≤ n → O
 weaken a b m n [] le least order = tt
 weaken a b m n (entry ∷ entries) le least order = (order.0, order.1, omega (arith, le, order.2), omega (arith, least, order.3), order.4)
 
-ordered_from : (s : CivilMinute) (n m : ℕ) (rows : List Row) → m ≤ n → rise (Some s) rows ≡ true → Ordered (archive_day_of s) m (entries_from (Some (pos (archive_day_of s))) n rows)
+ordered_from : (s : CivilMinute) (n m : ℕ) (rows : List Row) → m ≤ n → rows_rise (Some s) rows ≡ true → Ordered (archive_day_of s) m (entries_from (Some (pos (archive_day_of s))) n rows)
 ordered_from s n m [] le up = tt
 ordered_from s n m (row ∷ rows) le up =
-    let later = later_day s row.stamp (and_parts (exceeds (Some s) row.stamp) (rise (Some row.stamp) rows) up).0 in
-    let behind = (and_parts (exceeds (Some s) row.stamp) (rise (Some row.stamp) rows) up).1 in
+    let later = later_day s row.stamp (and_parts (stamp_exceeds (Some s) row.stamp) (rows_rise (Some row.stamp) rows) up).0 in
+    let behind = (and_parts (stamp_exceeds (Some s) row.stamp) (rows_rise (Some row.stamp) rows) up).1 in
     by (is_day (Some (pos (archive_day_of s))) (day_of_row row)) later
     (weaken (archive_day_of s) (archive_day_of row.stamp) m m (entries_from (Some (day_of_row row)) (n + 1) rows) later (omega arith) (ordered_from row.stamp (n + 1) m rows (omega (arith, le)) behind))
     (ordered_from row.stamp (n + 1) n rows (omega arith) behind)
   where
     by : (same : Bool) → archive_day_of s ≤ archive_day_of row.stamp → Ordered (archive_day_of s) m (entries_from (Some (day_of_row row)) (n + 1) rows) →
         Ordered (archive_day_of row.stamp) n (entries_from (Some (day_of_row row)) (n + 1) rows) →
-        Ordered (archive_day_of s) m (with_entry same (record { day = record { 0 = day_of_row row }; first = n }) (entries_from (Some (day_of_row row)) (n + 1) rows))
+        Ordered (archive_day_of s) m (with_day_entry same (record { day = record { 0 = day_of_row row }; first = n }) (entries_from (Some (day_of_row row)) (n + 1) rows))
     by true later same_day next = same_day
     by false later same_day next = (archive_day_of row.stamp, refl, later, le, next)
 
-pub ordered_of : (rows : List Row) → rise None rows ≡ true → Ordered 0 0 (entries_of rows)
+pub ordered_of : (rows : List Row) → rows_rise None rows ≡ true → Ordered 0 0 (entries_of rows)
 ordered_of [] up = tt
-ordered_of (row ∷ rows) up = (archive_day_of row.stamp, refl, omega arith, omega arith, ordered_from row.stamp 1 0 rows (omega arith) (and_parts true (rise (Some row.stamp) rows) up).1)
+ordered_of (row ∷ rows) up = (archive_day_of row.stamp, refl, omega arith, omega arith, ordered_from row.stamp 1 0 rows (omega arith) (and_parts true (rows_rise (Some row.stamp) rows) up).1)
 
 -- an entry behind is of no earlier day
 day_at : (b m : ℕ) (entries : List DayEntry) (j : ℕ) (d : DayEntry) → Ordered b m entries → j < length entries → (c : ℕ) × ((get_or entries j d).day.0 ≡ pos c) × (b ≤ c)

@@ -9,7 +9,7 @@ use Rattle.packed_rows.specs.Closed.{IsClosedAt, part_at, parts_at}
 use borrow.Rule.Slice.PartMut.{put_mid}
 use Rattle.daily_summary.specs.declared.summary.DaySummary.{DaySummary}
 use Rattle.daily_summary.specs.Bounds.{IsInBounds}
-use Rattle.daily_summary.specs.Parts.{part_of, parts_of}
+use Rattle.daily_summary.specs.Parts.{summary_part, summary_parts}
 use Rattle.daily_summary.specs.WellFormed.{IsStoredAs}
 use Rattle.daily_summary.proofs.PartsLaws.{part_long}
 use Rattle.gated_log.specs.Log.{unmarked}
@@ -29,13 +29,13 @@ same_part (a ∷ b ∷ []) = refl
 same_part (a ∷ b ∷ c ∷ []) = refl
 same_part (a ∷ b ∷ c ∷ d ∷ rest) = refl
 
-part_written : (day : ℤ) (k : ℕ) (s : DaySummary) → part_in (summary_slot day k s) ≡ part_of k s
+part_written : (day : ℤ) (k : ℕ) (s : DaySummary) → part_in (summary_slot day k s) ≡ summary_part k s
 unfolding part_in summary_slot
 part_written day k s =
-    ap (λ (n : ℕ). take n (part_of k s ++ replicate (slot_size - 156) 0)) (sym (part_long k s)) ∙ take-append_seam (part_of k s) (replicate (slot_size - 156) 0)
+    ap (λ (n : ℕ). take n (summary_part k s ++ replicate (slot_size - 156) 0)) (sym (part_long k s)) ∙ take-append_seam (summary_part k s) (replicate (slot_size - 156) 0)
 
 -- what is read of a slot that closes a day has its part
-pub part_read : (day : ℤ) (k : ℕ) (s : DaySummary) (slot bytes : List ℕ) → IsSlot slot bytes → unmarked slot ≡ summary_slot day k s → take 132 (drop 24 bytes) ≡ part_of k s
+pub part_read : (day : ℤ) (k : ℕ) (s : DaySummary) (slot bytes : List ℕ) → IsSlot slot bytes → unmarked slot ≡ summary_slot day k s → take 132 (drop 24 bytes) ≡ summary_part k s
 unfolding part_in
 part_read day k s slot bytes (inl same) is = ap part_in (sym same) ∙ sym (same_part slot) ∙ ap part_in is ∙ part_written day k s
 part_read day k s slot bytes (inr same) is = sym (same_part bytes) ∙ ap part_in (sym same) ∙ sym (same_part slot) ∙ ap part_in is ∙ part_written day k s
@@ -49,12 +49,12 @@ same_parts (suc n) a f g each =
     ap (λ (xs : List ℕ). xs ++ flat_map f (range_with_len (a + 1) n)) first ∙ ap (λ (xs : List ℕ). g a ++ xs) rest
 
 -- the parts in slots that close a day are those of its summary
-pub parts_read : (slots : List (List ℕ)) (place : ℕ) (day : ℤ) (s : DaySummary) (bytes : List ℕ) → length bytes ≡ 13 * slot_size → AreSlots slots place bytes → IsClosedAt slots place day s → parts_at bytes ≡ parts_of s
+pub parts_read : (slots : List (List ℕ)) (place : ℕ) (day : ℤ) (s : DaySummary) (bytes : List ℕ) → length bytes ≡ 13 * slot_size → AreSlots slots place bytes → IsClosedAt slots place day s → parts_at bytes ≡ summary_parts s
 parts_read slots place day s bytes long are closed =
-    same_parts 13 0 (part_at bytes) (λ k. part_of k s)
-    (λ i h. ap (part_at bytes) (let e : 0 + i ≡ i = omega arith in e) ∙ one i h ∙ ap (λ (k : ℕ). part_of k s) (let e : i ≡ 0 + i = omega arith in e))
+    same_parts 13 0 (part_at bytes) (λ k. summary_part k s)
+    (λ i h. ap (part_at bytes) (let e : 0 + i ≡ i = omega arith in e) ∙ one i h ∙ ap (λ (k : ℕ). summary_part k s) (let e : i ≡ 0 + i = omega arith in e))
   where
-    one : (i : ℕ) → i < 13 → part_at bytes i ≡ part_of i s
+    one : (i : ℕ) → i < 13 → part_at bytes i ≡ summary_part i s
     one i h =
         let slot_bytes : List ℕ = take slot_size (drop (slot_size * i) bytes) in
         let inner : take 132 (drop 24 slot_bytes) ≡ part_at bytes i =
@@ -102,5 +102,5 @@ all_copied bytes count parts all are =
     let thirteen = subst (λ (n : ℕ). AreCopied bytes n parts) all are in
     thirteen.parts_are ∙ append-nil (parts_at bytes)
 
-pub stored_as : (rows : ℕ) (parts : List ℕ) (s : DaySummary) → s.rows ≡ rows → IsInBounds s → parts_of s ≡ parts → IsStoredAs rows parts s
+pub stored_as : (rows : ℕ) (parts : List ℕ) (s : DaySummary) → s.rows ≡ rows → IsInBounds s → summary_parts s ≡ parts → IsStoredAs rows parts s
 stored_as rows parts s count bounds bytes = record { count = count; bounds = bounds; bytes = bytes }

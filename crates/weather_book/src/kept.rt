@@ -7,7 +7,7 @@ ghost use Rattle.packed_rows.specs.Closing.{begins_day};
 ghost use Rattle.packed_rows.specs.Days.{days_of, day_rest, is_before, is_up_to};
 ghost use Rattle.weather_book.specs.Kept.{KeepsOf};
 ghost use Rattle.packed_rows.specs.Packed.{IsReadBack, AreReadBack};
-ghost use Rattle.packed_rows.specs.Rising.{exceeds, rise, last_after};
+ghost use Rattle.packed_rows.specs.Rising.{stamp_exceeds, rows_rise, last_stamp_after};
 ghost use Rattle.packed_rows.specs.Rows.{slot_total};
 
 use causes::OutOfMemory;
@@ -53,11 +53,12 @@ impl Kept {
 
     // One row more.
     pub fn push(&mut self, row: &Row) -> Result<(), OutOfMemory>
-        requires rises { exceeds self.old.tail.last row.now.stamp ≡ true }
+        requires rises { stamp_exceeds self.old.tail.last row.now.stamp ≡ true }
         requires printable { All IsPrintable row.now.values }
         requires back { IsReadBack row.now }
         requires room { self.old.count + 1 < 2 ^ 64 }
-        ensures keeps { IfOk result (λ _. (rows : List Row) → KeepsOf self.old.days.items self.old.count self.old.tail rows
+        ensures keeps { IfOk result (λ _. (rows : List Row)
+            → KeepsOf self.old.days.items self.old.count self.old.tail rows
             → KeepsOf self.new.days.items self.new.count self.new.tail (rows ++ row.now ∷ [])) }
         ensures count { IfOk result (λ _. self.new.count ≡ self.old.count + 1) }
         ensures capacity { vec_capacity self.old.days ≤ vec_capacity self.new.days }
@@ -83,7 +84,8 @@ impl Kept {
 
     // The number of the first row of an entry, and of all rows where there is none.
     fn first_at(&self, index: usize) -> u64
-        ensures there { (d : DayEntry) → index < vec_len self.now.days → result ≡ (slice_index_or self.now.days.items index d).first }
+        ensures there { (d : DayEntry) → index < vec_len self.now.days
+            → result ≡ (slice_index_or self.now.days.items index d).first }
         ensures past { vec_len self.now.days ≤ index → result ≡ self.now.count }
     {
         match self.days.get(index) {
@@ -94,7 +96,8 @@ impl Kept {
 
     // How many rows are of days before this one.
     pub fn rows_before(&self, day: DayNumber) -> u64
-        ensures { (rows : List Row) → KeepsOf self.now.days.items self.now.count self.now.tail rows → result ≡ count_by (is_before day) rows }
+        ensures { (rows : List Row) → KeepsOf self.now.days.items self.now.count self.now.tail rows
+            → result ≡ count_by (is_before day) rows }
     {
         let index = self.days.partition_point(|entry| is_before(entry.day, day));
         self.first_at(index)
@@ -102,7 +105,8 @@ impl Kept {
 
     // How many rows are of days up to this one.
     pub fn rows_to(&self, day: DayNumber) -> u64
-        ensures { (rows : List Row) → KeepsOf self.now.days.items self.now.count self.now.tail rows → result ≡ count_by (is_up_to day) rows }
+        ensures { (rows : List Row) → KeepsOf self.now.days.items self.now.count self.now.tail rows
+            → result ≡ count_by (is_up_to day) rows }
     {
         let index = self.days.partition_point(|entry| is_up_to(entry.day, day));
         self.first_at(index)
@@ -111,7 +115,8 @@ impl Kept {
     // How many days have begun when row `n` stands.
     pub fn days_begun(&self, n: u64) -> u64
         requires { n < self.now.count }
-        ensures rows { (rows : List Row) → KeepsOf self.now.days.items self.now.count self.now.tail rows → result ≡ length (days_of (take (n + 1) rows)) }
+        ensures rows { (rows : List Row) → KeepsOf self.now.days.items self.now.count self.now.tail rows
+            → result ≡ length (days_of (take (n + 1) rows)) }
         ensures most { result ≤ vec_len self.now.days }
     {
         self.days.partition_point(|entry| entry.first <= n) as u64
@@ -120,7 +125,8 @@ impl Kept {
     // The number of the row behind the last of row `n`'s day.
     pub fn day_end(&self, n: u64) -> u64
         requires { n < self.now.count }
-        ensures rest { (rows : List Row) → KeepsOf self.now.days.items self.now.count self.now.tail rows → result ≡ n + length (day_rest rows n) }
+        ensures rest { (rows : List Row) → KeepsOf self.now.days.items self.now.count self.now.tail rows
+            → result ≡ n + length (day_rest rows n) }
         ensures within { (n < result) × (result ≤ self.now.count) }
     {
         let index = self.days.partition_point(|entry| entry.first <= n);
@@ -130,7 +136,8 @@ impl Kept {
     // How many rows from row `n` on one read brings.
     pub fn rest(&self, n: u64) -> usize
         requires { n < self.now.count }
-        ensures rows { (rows : List Row) → KeepsOf self.now.days.items self.now.count self.now.tail rows → result ≡ min 16 (length (day_rest rows n)) }
+        ensures rows { (rows : List Row) → KeepsOf self.now.days.items self.now.count self.now.tail rows
+            → result ≡ min 16 (length (day_rest rows n)) }
         ensures some { 1 ≤ result }
         ensures most { result ≤ 16 }
         ensures within { n + result ≤ self.now.count }
@@ -145,7 +152,8 @@ impl Kept {
     pub fn place(&self, n: u64) -> u64
         requires within { n < self.now.count }
         requires room { self.now.count + 13 * (vec_len self.now.days - 1) < 2 ^ 64 }
-        ensures rows { (rows : List Row) → KeepsOf self.now.days.items self.now.count self.now.tail rows → result + 1 ≡ slot_total (take (n + 1) rows) }
+        ensures rows { (rows : List Row) → KeepsOf self.now.days.items self.now.count self.now.tail rows
+            → result + 1 ≡ slot_total (take (n + 1) rows) }
         ensures within { result ≤ n + 13 * (vec_len self.now.days - 1) }
     {
         n + 13 * self.days_begun(n).saturating_sub(1)
@@ -168,16 +176,17 @@ fn is_up_to(day: DayNumber, other: DayNumber) -> bool
 
 // All of these rows more, for which there is room.
 pub(crate) fn push_all(kept: &mut Kept, rows: &[Row])
-    requires rising { rise kept.old.tail.last rows.now ≡ true }
+    requires rising { rows_rise kept.old.tail.last rows.now ≡ true }
     requires printable { All (λ row. All IsPrintable row.values) rows.now }
     requires back { AreReadBack rows.now }
     requires room { kept.old.count + length rows.now < 2 ^ 64 }
     requires spare { length rows.now ≤ vec_capacity kept.old.days - vec_len kept.old.days }
     ensures keeps { (before : List Row) → KeepsOf kept.old.days.items kept.old.count kept.old.tail before
         → KeepsOf kept.new.days.items kept.new.count kept.new.tail (before ++ rows.now) }
-    ensures spare { vec_capacity kept.old.days - vec_len kept.old.days ≤ vec_capacity kept.new.days - vec_len kept.new.days + length rows.now }
+    ensures spare { vec_capacity kept.old.days - vec_len kept.old.days
+        ≤ vec_capacity kept.new.days - vec_len kept.new.days + length rows.now }
     ensures count { kept.new.count ≡ kept.old.count + length rows.now }
-    ensures last { kept.new.tail.last ≡ last_after kept.old.tail.last rows.now }
+    ensures last { kept.new.tail.last ≡ last_stamp_after kept.old.tail.last rows.now }
 {
     for row in rows {
         match kept.push(row) {

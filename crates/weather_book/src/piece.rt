@@ -44,9 +44,11 @@ impl Piece {
         requires within { n < slot_count log.now }
         requires order { self.old.first ≤ n }
         requires few { self.old.held ≤ 70 }
-        ensures file { OnDone result (WhereTold (D.medium.seen disk.old) (λ c. AreSlotsOf self.old.held self.old.first self.old.bytes c
+        ensures file { OnDone result
+            (WhereTold (D.medium.seen disk.old) (λ c. AreSlotsOf self.old.held self.old.first self.old.bytes c
             → slot.new ≡ take slot_size (drop (slot_size * (n + 1)) c))) }
-        ensures holds { OnDone result (WhereTold (D.medium.seen disk.old) (λ c. AreSlotsOf self.old.held self.old.first self.old.bytes c
+        ensures holds { OnDone result
+            (WhereTold (D.medium.seen disk.old) (λ c. AreSlotsOf self.old.held self.old.first self.old.bytes c
             → AreSlotsOf self.new.held self.new.first self.new.bytes c)) }
         ensures order { OnDone result (self.new.first ≤ n) }
         ensures few { OnDone result (self.new.held ≤ 70) }

@@ -5,7 +5,7 @@ ghost use Rattle.disk_model.specs.Disk.{Stays, Faults, Looks};
 ghost use Rattle.gated_log.specs.Calls.{Looked};
 ghost use Rattle.gated_log.specs.GatedLog.{slot_count, log_version};
 ghost use Rattle.gated_log.specs.Stands.{StandsToRead};
-ghost use Rattle.row_slot.specs.Slot.{row_in};
+ghost use Rattle.row_slot.specs.Slot.{row_in_slot};
 ghost use Rattle.station_base.specs.FieldSet.{AreMissing};
 ghost use Rattle.station_base.specs.RowLine.{IsPrintable};
 ghost use Rattle.station_base.specs.declared.row.Row.{Row};
@@ -29,7 +29,7 @@ use station_base::Row;
 
 // Reads the row of a slot as its version reads it, and returns whether the slot is well-formed.
 fn read_as(version: Version, slot: &[u8; SLOT_SIZE], row: &mut Row) -> bool
-    ensures row { row_in (as_read version slot.now) ≡ then_some result row.new }
+    ensures row { row_in_slot (as_read version slot.now) ≡ then_some result row.new }
     ensures printable { result ≡ true → All IsPrintable row.new.values }
     ensures limited { result ≡ true → AreMissing row.new.limited row.new.values }
 {
@@ -92,7 +92,8 @@ pub(crate) fn read_slots<D: Disk>(
     requires empty { into.old.items ≡ [] }
     ensures file { OnRows result (WhereTold (D.medium.seen disk.old)
         (λ c. into.new.items ≡ rows_back (log_version log.now) c place count)) }
-    ensures rows { OnRows result ((rows : List Row) (n : ℕ) (slots : List (List ℕ)) → StandsToRead D.medium (slot_count log.now) disk.old slots
+    ensures rows { OnRows result ((rows : List Row) (n : ℕ) (slots : List (List ℕ))
+        → StandsToRead D.medium (slot_count log.now) disk.old slots
         → AreRowsAt (log_version log.now) slots place rows n count
         → WhereTold (D.medium.seen disk.old) (λ _. into.new.items ≡ take count (drop n rows))) }
     ensures none { result ≡ RowsAnswer.DiskFault → into.new.items ≡ [] }
@@ -142,7 +143,8 @@ pub(crate) fn read_summary<D: Disk>(
     rows: u32,
 ) -> DayAnswer
     requires within { place + 13 ≤ slot_count log.now }
-    ensures summary { OnSummary result (λ s. (slots : List (List ℕ)) (day : ℤ) (t : DaySummary) → StandsToRead D.medium (slot_count log.now) disk.old slots
+    ensures summary { OnSummary result (λ s. (slots : List (List ℕ)) (day : ℤ) (t : DaySummary)
+        → StandsToRead D.medium (slot_count log.now) disk.old slots
         → IsClosedAt slots place day t → t.rows ≡ rows → WhereTold (D.medium.seen disk.old) (λ _. s ≡ t)) }
     ensures bounds { OnSummary result (λ s. IsInBounds s × (s.rows ≤ rows)) }
     ensures some { has_no_rows result ≡ false }

@@ -10,26 +10,26 @@ use Rattle.station_base.specs.declared.row.Row.{Row}
 use Rattle.daily_summary.specs.declared.summary.DaySummary.{DaySummary}
 use Rattle.daily_summary.specs.Summary.{rows_of_day, summary_of}
 use Rattle.weather_book.specs.declared.book.Book.{Book}
-use Rattle.weather_book.specs.Book.{StandsFor}
+use Rattle.weather_book.specs.Book.{BookStandsFor}
 use Rattle.packed_rows.specs.Days.{Ascend, days_of}
 use Rattle.weather_book.proofs.Standing.{some_rows}
 use Rattle.weather_reports.specs.declared.month.Month.{Month}
-use Rattle.weather_reports.specs.Begun.{Grows, IsBegun, IsInOrder, HasFewRows, begun_lines, months_after}
-use Rattle.weather_reports.specs.Line.{lines_of}
+use Rattle.weather_reports.specs.Begun.{MonthGrows, MonthIsBegun, MonthIsInOrder, HasFewRows, begun_lines, months_after}
+use Rattle.weather_reports.specs.Line.{field_lines}
 use Rattle.weather_reports.specs.Months.{is_of_month, month_text, months_from}
 use Rattle.weather_reports.specs.Report.{month_lines, rows_of_days}
 use Rattle.weather_reports.proofs.Ascending.{later_number}
 use Rattle.weather_reports.proofs.MonthSpan.{month_span}
 
 -- its lines are those of its days
-of_days : (rows : List Row) (day : ℤ) (days : List ℤ) (m : Month) → IsBegun rows (day ∷ days) (Some m)
+of_days : (rows : List Row) (day : ℤ) (days : List ℤ) (m : Month) → MonthIsBegun rows (day ∷ days) (Some m)
     → month_lines rows (day ∷ days) ≡ begun_lines (Some m)
 of_days rows day days m is =
-    sym (ap (λ (s : DaySummary). lines_of (codes "month " ++ month_text m.first.0) s) is.1
-    ∙ ap (λ (d : ℤ). lines_of (codes "month " ++ month_text d) (summary_of (rows_of_days rows (day ∷ days)))) is.0)
+    sym (ap (λ (s : DaySummary). field_lines (codes "month " ++ month_text m.first.0) s) is.1
+    ∙ ap (λ (d : ℤ). field_lines (codes "month " ++ month_text d) (summary_of (rows_of_days rows (day ∷ days)))) is.0)
 
 -- no days are left
-pub month_ends : (rows : List Row) (begun : List ℤ) (month : Option Month) → IsBegun rows begun month
+pub month_ends : (rows : List Row) (begun : List ℤ) (month : Option Month) → MonthIsBegun rows begun month
     → flat_map (month_lines rows) (months_after begun []) ≡ begun_lines month
 month_ends rows [] None is = refl
 month_ends rows [] (Some m) is = absurd is
@@ -37,7 +37,7 @@ month_ends rows (day ∷ days) None is = absurd is
 month_ends rows (day ∷ days) (Some m) is = append-nil (month_lines rows (day ∷ days)) ∙ of_days rows day days m is
 
 -- a day of another month is next
-pub month_apart : (rows : List Row) (begun : List ℤ) (month : Option Month) (next : ℤ) (ahead : List ℤ) → IsBegun rows begun month
+pub month_apart : (rows : List Row) (begun : List ℤ) (month : Option Month) (next : ℤ) (ahead : List ℤ) → MonthIsBegun rows begun month
     → is_of_month begun next ≡ false
     → flat_map (month_lines rows) (months_after begun (next ∷ ahead))
     ≡ begun_lines month ++ flat_map (month_lines rows) (months_after (next ∷ []) ahead)
@@ -57,13 +57,13 @@ month_joined (day ∷ days) next ahead of =
 
 -- a month that begins
 pub month_begins : (rows : List Row) (day : DayNumber) (s : DaySummary) → s ≡ summary_of (rows_of_day day.0 rows)
-    → IsBegun rows (day.0 ∷ []) (Some (record { first = day; summary = s }))
+    → MonthIsBegun rows (day.0 ∷ []) (Some (record { first = day; summary = s }))
 month_begins rows day s is = (refl, is ∙ ap summary_of (sym (append-nil (rows_of_day day.0 rows))))
 
 -- so many rows more can be counted
-pub few_together : (book : Book) (month : Option Month) (day : DayNumber) (n more : ℕ) → IfSome month IsInOrder → IsDayNumber day.0 → more ≤ 1441
-    → ((rows : List Row) → StandsFor book rows → IfSome month (HasFewRows rows n))
-    → ((rows : List Row) → StandsFor book rows → slice_get (days_of rows) n ≡ Some day.0)
+pub few_together : (book : Book) (month : Option Month) (day : DayNumber) (n more : ℕ) → IfSome month MonthIsInOrder → IsDayNumber day.0 → more ≤ 1441
+    → ((rows : List Row) → BookStandsFor book rows → IfSome month (HasFewRows rows n))
+    → ((rows : List Row) → BookStandsFor book rows → slice_get (days_of rows) n ≡ Some day.0)
     → IfSome month (λ m. month_text m.first.0 ≡ month_text day.0 → m.summary.rows + more ≤ 1048576)
 few_together book None day n more order range small few at = tt
 few_together book (Some m) day n more order range small few at = λ same.
@@ -82,7 +82,7 @@ some_few rows n old o is few = let P : Option Month → Type 0 = λ month. IfSom
 
 -- a day was added
 pub few_joined : (rows : List Row) (n more : ℕ) (day : ℤ) (old new : Option Month) → Ascend None (days_of rows) → slice_get (days_of rows) n ≡ Some day
-    → IsDayNumber day → more ≤ 1441 → IfSome new (Grows more old) → IfSome old (HasFewRows rows n) → IfSome new (HasFewRows rows (n + 1))
+    → IsDayNumber day → more ≤ 1441 → IfSome new (MonthGrows more old) → IfSome old (HasFewRows rows n) → IfSome new (HasFewRows rows (n + 1))
 few_joined rows n more day old None up at range small grows few = tt
 few_joined rows n more day old (Some m) up at range small grows few = λ k next le at_k.
     let room = some_few rows n old grows.before grows.was few n day (omega arith) at in

@@ -10,9 +10,9 @@ use Rattle.station_base.specs.declared.row.Row.{Row}
 use Rattle.daily_summary.specs.declared.summary.DaySummary.{DaySummary}
 use Rattle.daily_summary.specs.Summary.{rows_of_day, summary_of}
 use Rattle.packed_rows.specs.Days.{days_of}
-use Rattle.weather_reports.specs.Line.{lines_of}
+use Rattle.weather_reports.specs.Line.{field_lines}
 use Rattle.weather_reports.specs.Report.{day_lines}
-use Rattle.weather_reports.specs.Reported.{text_of}
+use Rattle.weather_reports.specs.Reported.{text_of_lines}
 use Rattle.weather_reports.proofs.Progress.{Comes, comes_on, comes_fails}
 
 -- one in front
@@ -39,18 +39,18 @@ module _ (rows : List Row) (p : ℤ → Bool) (n : ℕ) (day : ℤ) (at : slice_
     (head : List ℕ) (s : DaySummary) (head_is : head ≡ codes "day " ++ day_text day) (read : s ≡ summary_of (rows_of_day day rows))
     (lines : List (List ℕ)) (old now new : Option (List ℕ)) (pending : List ℕ)
     (before : Comes old now lines (flat_map (day_lines rows) (filter p (drop n (days_of rows)))) pending) where
-  printed_lines : lines_of head s ≡ day_lines rows day
-  printed_lines = ap (λ (s : DaySummary). lines_of head s) read ∙ ap (λ (head : List ℕ). lines_of head (summary_of (rows_of_day day rows))) head_is
+  printed_lines : field_lines head s ≡ day_lines rows day
+  printed_lines = ap (λ (s : DaySummary). field_lines head s) read ∙ ap (λ (head : List ℕ). field_lines head (summary_of (rows_of_day day rows))) head_is
 
   -- its lines were printed
-  pub day_comes : (left : List ℕ) → Leaves now new (pending ++ text_of (lines_of head s)) left
+  pub day_comes : (left : List ℕ) → Leaves now new (pending ++ text_of_lines (field_lines head s)) left
       → Comes old new lines (flat_map (day_lines rows) (filter p (drop (n + 1) (days_of rows)))) left
   day_comes left printed =
       comes_on old now new lines (day_lines rows day) (flat_map (day_lines rows) (filter p (drop (n + 1) (days_of rows)))) pending left
       (rw (day_taken p (days_of rows) n day at among) at before) (rw printed_lines at printed)
 
   -- the printing of its lines failed
-  pub day_fails : WritesPart now new (pending ++ text_of (lines_of head s)) → WritesPart old new (text_of lines)
+  pub day_fails : WritesPart now new (pending ++ text_of_lines (field_lines head s)) → WritesPart old new (text_of_lines lines)
   day_fails printed =
       comes_fails old now new lines (day_lines rows day) (flat_map (day_lines rows) (filter p (drop (n + 1) (days_of rows)))) pending
       (rw (day_taken p (days_of rows) n day at among) at before) (rw printed_lines at printed)

@@ -8,7 +8,7 @@ use Rattle.station_base.specs.RowLine.{row_line}
 use Rattle.station_base.specs.declared.row.Row.{Row}
 use Rattle.std.specs.declared.option.Option.{Option}
 use Rattle.causes.specs.Written.{Leaves, WritesPart}
-use Rattle.weather_reports.specs.Reported.{text_of}
+use Rattle.weather_reports.specs.Reported.{text_of_lines}
 use Rattle.weather_reports.proofs.Progress.{Comes, comes_on, comes_fails}
 
 -- the lines of the next rows, and of those behind them
@@ -31,14 +31,14 @@ module _ (rows : List Row) (at k n : ℕ) (piece : List Row) (is : piece ≡ tak
     (lines : List (List ℕ)) (old now new : Option (List ℕ)) (pending : List ℕ)
     (before : Comes old now lines (map row_line (take n (drop at rows))) pending) where
   -- the next rows were printed
-  pub piece_comes : (end : ℕ) (left : List ℕ) → n - k ≡ end - (at + k) → Leaves now new (pending ++ text_of (map row_line piece)) left
+  pub piece_comes : (end : ℕ) (left : List ℕ) → n - k ≡ end - (at + k) → Leaves now new (pending ++ text_of_lines (map row_line piece)) left
       → Comes old new lines (map row_line (take (end - (at + k)) (drop (at + k) rows))) left
   piece_comes end left rest printed =
       rw (sym rest) (comes_on old now new lines (map row_line (take k (drop at rows))) (map row_line (take (n - k) (drop (at + k) rows))) pending left
       (rw (piece_lines rows at k n within) at before) (rw is at printed))
 
   -- the printing of the next rows failed
-  pub piece_fails : WritesPart now new (pending ++ text_of (map row_line piece)) → WritesPart old new (text_of lines)
+  pub piece_fails : WritesPart now new (pending ++ text_of_lines (map row_line piece)) → WritesPart old new (text_of_lines lines)
   piece_fails printed =
       comes_fails old now new lines (map row_line (take k (drop at rows))) (map row_line (take (n - k) (drop (at + k) rows))) pending
       (rw (piece_lines rows at k n within) at before) (rw is at printed)

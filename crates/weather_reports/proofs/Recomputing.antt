@@ -14,18 +14,18 @@ use Rattle.station_base.specs.LastStamp.{exceeds}
 use Rattle.station_base.specs.declared.row.Row.{Row}
 use Rattle.daily_summary.specs.declared.field_sum.FieldSum.{FieldSum}
 use Rattle.daily_summary.specs.Extremes.{IsGreatestAt, IsLeastAt}
-use Rattle.daily_summary.specs.Readings.{Reading, reading, readings, time, total, value_of, weighted, with_value}
+use Rattle.daily_summary.specs.Readings.{Reading, row_reading, readings, time, readings_total, field_value, weighted, with_reading}
 use Rattle.daily_summary.specs.Summary.{field_sum, is_of_day, rows_of_day, summary_of}
 use Rattle.daily_summary.proofs.Extremes.{greatest_first, least_first}
 use Rattle.daily_summary.proofs.Fields.{field_is}
 use Rattle.packed_rows.specs.Days.{Ascend, day_of_row, days_from, days_of, is_day, with_day}
-use Rattle.packed_rows.specs.Rising.{RowsRise}
+use Rattle.packed_rows.specs.Rising.{RowsRiseAfter}
 use Rattle.packed_rows.proofs.DayLaws.{days_in_order}
 use Rattle.packed_rows.proofs.RowLaws.{rise_when}
-use Rattle.weather_reports.specs.Line.{line_of, lines_from}
-use Rattle.weather_reports.specs.Recomputed.{AreDayLines, ComesBefore, DayLine, IsRecomputed, IsTold, printed}
+use Rattle.weather_reports.specs.Line.{field_line, field_lines_from}
+use Rattle.weather_reports.specs.Recomputed.{AreDayLines, ComesBefore, DayLine, IsRecomputed, FieldIsTold, printed_line}
 use Rattle.weather_reports.specs.Report.{all_day_lines, day_lines}
-use Rattle.weather_reports.specs.Reported.{text_of}
+use Rattle.weather_reports.specs.Reported.{text_of_lines}
 use Rattle.weather_reports.proofs.Ascending.{above}
 
 abbrev line_at : ℤ → ℕ → FieldSum → DayLine
@@ -46,22 +46,22 @@ abbrev told_in : List Row → ℤ → List DayLine
 told_in rows day = told_from day 0 (summary_of (rows_of_day day rows)).fields
 
 -- they are those that are printed
-one_printed : (day : ℤ) (field : ℕ) (sum : Option FieldSum) → map printed (told_of day field sum) ≡ line_of (codes "day " ++ day_text day) field sum
+one_printed : (day : ℤ) (field : ℕ) (sum : Option FieldSum) → map printed_line (told_of day field sum) ≡ field_line (codes "day " ++ day_text day) field sum
 one_printed day field None = refl
 one_printed day field (Some s) = refl
 
-day_printed : (day : ℤ) (field : ℕ) (sums : List (Option FieldSum)) → map printed (told_from day field sums) ≡ lines_from (codes "day " ++ day_text day) field sums
+day_printed : (day : ℤ) (field : ℕ) (sums : List (Option FieldSum)) → map printed_line (told_from day field sums) ≡ field_lines_from (codes "day " ++ day_text day) field sums
 day_printed day field [] = refl
 day_printed day field (sum ∷ sums) =
-    map-append printed (told_of day field sum) (told_from day (field + 1) sums)
-    ∙ ap (λ (xs : List (List ℕ)). xs ++ map printed (told_from day (field + 1) sums)) (one_printed day field sum)
-    ∙ ap (λ (xs : List (List ℕ)). line_of (codes "day " ++ day_text day) field sum ++ xs) (day_printed day (field + 1) sums)
+    map-append printed_line (told_of day field sum) (told_from day (field + 1) sums)
+    ∙ ap (λ (xs : List (List ℕ)). xs ++ map printed_line (told_from day (field + 1) sums)) (one_printed day field sum)
+    ∙ ap (λ (xs : List (List ℕ)). field_line (codes "day " ++ day_text day) field sum ++ xs) (day_printed day (field + 1) sums)
 
-all_printed : (rows : List Row) (days : List ℤ) → map printed (flat_map (told_in rows) days) ≡ flat_map (day_lines rows) days
+all_printed : (rows : List Row) (days : List ℤ) → map printed_line (flat_map (told_in rows) days) ≡ flat_map (day_lines rows) days
 all_printed rows [] = refl
 all_printed rows (day ∷ days) =
-    map-append printed (told_in rows day) (flat_map (told_in rows) days)
-    ∙ ap (λ (xs : List (List ℕ)). xs ++ map printed (flat_map (told_in rows) days)) (day_printed day 0 (summary_of (rows_of_day day rows)).fields)
+    map-append printed_line (told_in rows day) (flat_map (told_in rows) days)
+    ∙ ap (λ (xs : List (List ℕ)). xs ++ map printed_line (flat_map (told_in rows) days)) (day_printed day 0 (summary_of (rows_of_day day rows)).fields)
     ∙ ap (λ (xs : List (List ℕ)). day_lines rows day ++ xs) (all_printed rows days)
 
 -- what holds of each field that has a value holds of its line
@@ -137,21 +137,21 @@ exceeds_on (Some l) a b one two = lt_on (minute_of l) (minute_of a) (minute_of b
     lt_on : (l m n : ℕ) → nat_lt l m ≡ true → nat_lt m n ≡ true → nat_lt l n ≡ true
     lt_on l m n one two = grind (arith, nat_tests)
 
-rise_past : (last : Option CivilMinute) (stamp : CivilMinute) (rows : List Row) → exceeds last (Some stamp) ≡ true → RowsRise (Some stamp) rows → RowsRise last rows
+rise_past : (last : Option CivilMinute) (stamp : CivilMinute) (rows : List Row) → exceeds last (Some stamp) ≡ true → RowsRiseAfter (Some stamp) rows → RowsRiseAfter last rows
 rise_past last stamp [] one up = tt
 rise_past last stamp (row ∷ rows) one up = (exceeds_on last stamp row.stamp one up.0, up.1)
 
-rise_filtered : (p : Row → Bool) (last : Option CivilMinute) (rows : List Row) → RowsRise last rows → RowsRise last (filter p rows)
+rise_filtered : (p : Row → Bool) (last : Option CivilMinute) (rows : List Row) → RowsRiseAfter last rows → RowsRiseAfter last (filter p rows)
 rise_filtered p last [] up = tt
 rise_filtered p last (row ∷ rows) up =
     by (p row) (up.0, rise_filtered p (Some row.stamp) rows up.1) (rise_filtered p last rows (rise_past last row.stamp rows up.0 up.1))
   where
-    by : (b : Bool) → RowsRise last (row ∷ filter p rows) → RowsRise last (filter p rows) → RowsRise last (cond b (row ∷ filter p rows) (filter p rows))
+    by : (b : Bool) → RowsRiseAfter last (row ∷ filter p rows) → RowsRiseAfter last (filter p rows) → RowsRiseAfter last (cond b (row ∷ filter p rows) (filter p rows))
     by true taken left = taken
     by false taken left = left
 
 -- what is told of a field of a day is so
-field_told : (rows : List Row) (day : ℤ) (field : ℕ) → RowsRise None rows → IfSome (field_sum (readings field (rows_of_day day rows))) (λ s. IsRecomputed rows (line_at day field s))
+field_told : (rows : List Row) (day : ℤ) (field : ℕ) → RowsRiseAfter None rows → IfSome (field_sum (readings field (rows_of_day day rows))) (λ s. IsRecomputed rows (line_at day field s))
 field_told rows day field up =
     let up_there = rise_filtered (is_of_day day) None rows up in
     by (readings field (rows_of_day day rows)) refl (least_first field (rows_of_day day rows) up_there) (greatest_first field (rows_of_day day rows) up_there)
@@ -164,7 +164,7 @@ field_told rows day field up =
     by (r ∷ rs) e least greatest = record {
       least = least;
       greatest = greatest;
-      sum = ap total (sym e);
+      sum = ap readings_total (sym e);
       count = ap length (sym e);
       wsum = ap weighted (sym e);
       sumtime = ap time (sym e);
@@ -174,7 +174,7 @@ fields_long : (rows : List Row) → length (summary_of rows).fields ≡ 37
 unfolding summary_of
 fields_long rows = length-map-range_with_len (λ field. field_sum (readings field rows)) 0 37
 
-day_told : (rows : List Row) (day : ℤ) → RowsRise None rows → All (IsRecomputed rows) (told_in rows day)
+day_told : (rows : List Row) (day : ℤ) → RowsRiseAfter None rows → All (IsRecomputed rows) (told_in rows day)
 day_told rows day up =
     let here = rows_of_day day rows in
     of_fields (IsRecomputed rows) day 0 (summary_of here).fields (λ i lt.
@@ -236,21 +236,21 @@ filtered_there p (r ∷ rows) row is (k, within, at) = by k within at (λ here. 
     by (suc k) within at more = past (p r) (more (k, (let small : k < length rows = omega (arith, within) in small), at))
 
 -- its value is among the readings
-reading_there : (field : ℕ) (rows : List Row) (row : Row) (v : ℤ) → value_of field row ≡ Some v → Contains rows row → Contains (readings field rows) (reading row v)
+reading_there : (field : ℕ) (rows : List Row) (row : Row) (v : ℤ) → field_value field row ≡ Some v → Contains rows row → Contains (readings field rows) (row_reading row v)
 reading_there field [] row v is there = absurd (omega (arith, there.1))
 reading_there field (r ∷ rows) row v is (k, within, at) = by k within at (λ here. reading_there field rows row v is here)
   where
-    taken : (o : Option ℤ) → o ≡ Some v → Contains (with_value o row (readings field rows)) (reading row v)
+    taken : (o : Option ℤ) → o ≡ Some v → Contains (with_reading o row (readings field rows)) (row_reading row v)
     taken None e = absurd cc
-    taken (Some w) e = let same : w ≡ v = cc in (0, omega arith, ap (reading row) same)
+    taken (Some w) e = let same : w ≡ v = cc in (0, omega arith, ap (row_reading row) same)
 
-    past : (o : Option ℤ) → Contains (readings field rows) (reading row v) → Contains (with_value o r (readings field rows)) (reading row v)
+    past : (o : Option ℤ) → Contains (readings field rows) (row_reading row v) → Contains (with_reading o r (readings field rows)) (row_reading row v)
     past None there = there
-    past (Some w) there = behind (reading row v) (reading r w) (readings field rows) there
+    past (Some w) there = behind (row_reading row v) (row_reading r w) (readings field rows) there
 
-    by : (k : ℕ) → k < length (r ∷ rows) → get_or (r ∷ rows) k row ≡ row → (Contains rows row → Contains (readings field rows) (reading row v)) → Contains (readings field (r ∷ rows)) (reading row v)
-    by zero within at more = subst (λ (x : Row). Contains (with_value (value_of field x) x (readings field rows)) (reading row v)) (sym at) (taken (value_of field row) is)
-    by (suc k) within at more = past (value_of field r) (more (k, (let small : k < length rows = omega (arith, within) in small), at))
+    by : (k : ℕ) → k < length (r ∷ rows) → get_or (r ∷ rows) k row ≡ row → (Contains rows row → Contains (readings field rows) (row_reading row v)) → Contains (readings field (r ∷ rows)) (row_reading row v)
+    by zero within at more = subst (λ (x : Row). Contains (with_reading (field_value field x) x (readings field rows)) (row_reading row v)) (sym at) (taken (field_value field row) is)
+    by (suc k) within at more = past (field_value field r) (more (k, (let small : k < length rows = omega (arith, within) in small), at))
 
 some_sum : (rs : List Reading) (r : Reading) → Contains rs r → (s : FieldSum) × (field_sum rs ≡ Some s)
 some_sum [] r there = absurd (omega (arith, there.1))
@@ -279,11 +279,11 @@ line_there rows (d ∷ days) day line (suc k, within, at) told =
 own_day : (n : ℕ) → int_eq (pos n) (pos n) ≡ true
 own_day n = grind (arith, nat_tests)
 
-value_told : (rows : List Row) (row : Row) (field : ℕ) → Contains rows row → field < 37 → (v : ℤ) → value_of field row ≡ Some v → IsTold (flat_map (told_in rows) (days_of rows)) (day_of_row row) field
+value_told : (rows : List Row) (row : Row) (field : ℕ) → Contains rows row → field < 37 → (v : ℤ) → field_value field row ≡ Some v → FieldIsTold (flat_map (told_in rows) (days_of rows)) (day_of_row row) field
 value_told rows row field there small v is =
     let day = day_of_row row in let here = rows_of_day day rows in
     let mine : Contains here row = filtered_there (is_of_day day) rows row (own_day (archive_day_of row.stamp)) there in
-    let sum = some_sum (readings field here) (reading row v) (reading_there field here row v is mine) in
+    let sum = some_sum (readings field here) (row_reading row v) (reading_there field here row v is mine) in
     let line = line_at day (0 + field) sum.0 in
     let told : Contains (told_in rows day) line = field_there day 0 (summary_of here).fields field sum.0 (omega (arith, fields_long here)) (field_is here field small ∙ sum.1) in
     let there_day : Contains (days_of rows) day = elim (day_there None rows row there) [ inl is_there ↦ is_there | inr none ↦ absurd cc ] in
@@ -293,11 +293,11 @@ some_value : (o : Option ℤ) → IsSome o → (v : ℤ) × (o ≡ Some v)
 some_value None is = absurd cc
 some_value (Some v) is = (v, refl)
 
-pub day_lines_law : (rows : List Row) → RowsRise None rows → AreDayLines rows (text_of (all_day_lines rows))
+pub day_lines_law : (rows : List Row) → RowsRiseAfter None rows → AreDayLines rows (text_of_lines (all_day_lines rows))
 day_lines_law rows up = record {
   lines = flat_map (told_in rows) (days_of rows);
-  text_is = ap text_of (sym (all_printed rows (days_of rows)));
+  text_is = ap text_of_lines (sym (all_printed rows (days_of rows)));
   in_order = days_come_in_order rows (days_of rows) (days_in_order rows (rise_when None rows up));
   recomputed = of_days (IsRecomputed rows) rows (days_of rows) (λ k d lt. day_told rows (get_or (days_of rows) k d) up);
-  all = λ row field there small is. let some = some_value (value_of field row) is in value_told rows row field there small some.0 some.1;
+  all = λ row field there small is. let some = some_value (field_value field row) is in value_told rows row field there small some.0 some.1;
 }

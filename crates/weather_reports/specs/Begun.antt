@@ -7,26 +7,26 @@ use Rattle.daily_summary.specs.Bounds.{IsInBounds}
 use Rattle.daily_summary.specs.Summary.{summary_of}
 use Rattle.packed_rows.specs.Days.{days_of}
 use Rattle.weather_reports.specs.declared.month.Month.{Month}
-use Rattle.weather_reports.specs.Line.{lines_of}
+use Rattle.weather_reports.specs.Line.{field_lines}
 use Rattle.weather_reports.specs.Months.{month_text, months_from, months_of}
 use Rattle.weather_reports.specs.Report.{rows_of_days}
 
 -- its lines
 abbrev pub begun_lines : Option Month → List (List ℕ)
 begun_lines None = []
-begun_lines (Some month) = lines_of (codes "month " ++ month_text month.first.0) month.summary
+begun_lines (Some month) = field_lines (codes "month " ++ month_text month.first.0) month.summary
 
 -- its first day is one of a stamp, and its numbers are within bounds
-pub record IsInOrder (month : Month) : Type 0 where
+pub record MonthIsInOrder (month : Month) : Type 0 where
   pub first : IsDayNumber month.first.0
   pub summary : IsInBounds month.summary
 
 -- these days of it were read
-abbrev pub IsBegun : List Row → List ℤ → Option Month → Type 0
-IsBegun rows [] None = Unit {0}
-IsBegun rows [] (Some month) = ⊥
-IsBegun rows (day ∷ days) None = ⊥
-IsBegun rows (day ∷ days) (Some month) =
+abbrev pub MonthIsBegun : List Row → List ℤ → Option Month → Type 0
+MonthIsBegun rows [] None = Unit {0}
+MonthIsBegun rows [] (Some month) = ⊥
+MonthIsBegun rows (day ∷ days) None = ⊥
+MonthIsBegun rows (day ∷ days) (Some month) =
     (month.first.0 ≡ day) × (month.summary ≡ summary_of (rows_of_days rows (day ∷ days)))
 
 -- the days of each month, where the first month has begun with some, or with none
@@ -41,7 +41,7 @@ HasFewRows rows n month =
     → month.summary.rows + 1441 * unsigned_abs month.first.0 ≤ 1441 * unsigned_abs day
 
 -- A day of so many rows was added to a month that had begun.
-pub record Grows (more : ℕ) (old : Option Month) (month : Month) : Type 0 where
+pub record MonthGrows (more : ℕ) (old : Option Month) (month : Month) : Type 0 where
   pub before : Month
   pub was : old ≡ Some before
   pub first : month.first ≡ before.first

@@ -20,15 +20,15 @@ abbrev pub sum_line : List ℕ → ℕ → FieldSum → List ℕ
 sum_line head field s = head ++ codes " " ++ name_of field ++ codes " " ++ sum_text s ++ codes "\n"
 
 -- the line of a field that has a value
-abbrev pub line_of : List ℕ → ℕ → Option FieldSum → List (List ℕ)
-line_of head field None = []
-line_of head field (Some s) = sum_line head field s ∷ []
+abbrev pub field_line : List ℕ → ℕ → Option FieldSum → List (List ℕ)
+field_line head field None = []
+field_line head field (Some s) = sum_line head field s ∷ []
 
 -- the lines of the fields from a number on
-abbrev pub lines_from : List ℕ → ℕ → List (Option FieldSum) → List (List ℕ)
-lines_from head field [] = []
-lines_from head field (sum ∷ sums) = line_of head field sum ++ lines_from head (field + 1) sums
+abbrev pub field_lines_from : List ℕ → ℕ → List (Option FieldSum) → List (List ℕ)
+field_lines_from head field [] = []
+field_lines_from head field (sum ∷ sums) = field_line head field sum ++ field_lines_from head (field + 1) sums
 
 -- a line for each field that has a value, in the order of their numbers
-abbrev pub lines_of : List ℕ → DaySummary → List (List ℕ)
-lines_of head summary = lines_from head 0 summary.fields
+abbrev pub field_lines : List ℕ → DaySummary → List (List ℕ)
+field_lines head summary = field_lines_from head 0 summary.fields

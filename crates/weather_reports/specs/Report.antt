@@ -7,7 +7,7 @@ use Rattle.station_base.specs.declared.day.DayNumber.{DayNumber}
 use Rattle.station_base.specs.declared.row.Row.{Row}
 use Rattle.daily_summary.specs.Summary.{rows_of_day, summary_of}
 use Rattle.packed_rows.specs.Days.{days_of, is_within}
-use Rattle.weather_reports.specs.Line.{lines_of}
+use Rattle.weather_reports.specs.Line.{field_lines}
 use Rattle.weather_reports.specs.Months.{month_text, months_of}
 
 -- the line of each row of these days
@@ -28,7 +28,7 @@ days_among first last rows = filter (is_among first last) (days_of rows)
 
 -- `day YYYY-MM-DD` and what a field's values come to, for each field of the day that has a value
 abbrev pub day_lines : List Row → ℤ → List (List ℕ)
-day_lines rows day = lines_of (codes "day " ++ day_text day) (summary_of (rows_of_day day rows))
+day_lines rows day = field_lines (codes "day " ++ day_text day) (summary_of (rows_of_day day rows))
 
 -- the lines of each of these days
 abbrev pub day_table_lines : DayNumber → DayNumber → List Row → List (List ℕ)
@@ -49,7 +49,7 @@ month_head (first ∷ more) = codes "month " ++ month_text first
 
 -- `month YYYY-MM` and what a field's values come to over the days of a month that have a row
 abbrev pub month_lines : List Row → List ℤ → List (List ℕ)
-month_lines rows days = lines_of (month_head days) (summary_of (rows_of_days rows days))
+month_lines rows days = field_lines (month_head days) (summary_of (rows_of_days rows days))
 
 -- the lines of each month of these days, over those of its days that are among them
 abbrev pub month_table_lines : DayNumber → DayNumber → List Row → List (List ℕ)

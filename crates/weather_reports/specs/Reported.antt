@@ -13,14 +13,14 @@ use Rattle.weather_reports.specs.declared.end.ReportEnd.{ReportEnd}
 use Rattle.weather_reports.specs.declared.end.ReportEnd.TheVariants.{Done, DiskFault, WriteFault}
 
 -- lines, one behind another
-abbrev pub text_of : List (List ℕ) → List ℕ
-text_of lines = flat_map (λ line. line) lines
+abbrev pub text_of_lines : List (List ℕ) → List ℕ
+text_of_lines lines = flat_map (λ line. line) lines
 
 -- All lines are written; at a disk fault some in front, each whole; at a write fault a prefix of their bytes.
 abbrev pub Reports : Option (List ℕ) → Option (List ℕ) → List (List ℕ) → ReportEnd → Type 0
-Reports old new lines Done = Appends old new (text_of lines)
-Reports old new lines DiskFault = (front : List (List ℕ)) × IsFrontOf front lines × Appends old new (text_of front)
-Reports old new lines WriteFault = WritesPart old new (text_of lines)
+Reports old new lines Done = Appends old new (text_of_lines lines)
+Reports old new lines DiskFault = (front : List (List ℕ)) × IsFrontOf front lines × Appends old new (text_of_lines front)
+Reports old new lines WriteFault = WritesPart old new (text_of_lines lines)
 
 -- these bytes are what a report of the lines writes, by its end
 abbrev pub IsReport : List (List ℕ) → ReportEnd → List ℕ → Type 0

@@ -3,7 +3,7 @@ ghost use Rattle.causes.specs.Cause.{Cause};
 ghost use Rattle.causes.specs.Told.{WhereTold};
 ghost use Rattle.disk_model.specs.Disk.{Faults, Stays};
 ghost use Rattle.station_base.specs.declared.row.Row.{Row};
-ghost use Rattle.weather_book.specs.Book.{StandsFor};
+ghost use Rattle.weather_book.specs.Book.{BookStandsFor};
 ghost use Rattle.weather_book.specs.Stands.{StandsToReadOn};
 ghost use Rattle.weather_reports.specs.Report.{all_day_lines, day_table_lines};
 ghost use Rattle.weather_reports.specs.Reported.{IsReport, ReadsOver, Reports};
@@ -29,9 +29,10 @@ pub fn day_table<D: Disk, K: Sink>(
     ensures lines { (rows : List Row) → StandsToReadOn D.medium book.now disk.old rows
         → WhereTold (D.medium.seen disk.old) (λ _. Reports (K.outlet.taken out.old) (K.outlet.taken out.new)
         (day_table_lines first last rows) result) }
-    ensures wrote { Wrote K.outlet D.medium book.now disk.old (λ rows. IsReport (day_table_lines first last rows) result) out.old out.new }
+    ensures wrote { Wrote K.outlet D.medium book.now disk.old
+        (λ rows. IsReport (day_table_lines first last rows) result) out.old out.new }
     ensures stays { Stays D.medium disk.old disk.new }
-    ensures went { (rows : List Row) → StandsFor book.now rows → ReadsOver D.medium rows result disk.old disk.new }
+    ensures went { (rows : List Row) → BookStandsFor book.now rows → ReadsOver D.medium rows result disk.old disk.new }
     ensures disk_fault { Faults D.medium disk.old disk.new (result ≡ ReportEnd.DiskFault) }
     ensures write_fault { Cause (K.outlet.faults out.old) (K.outlet.faults out.new) (result ≡ ReportEnd.WriteFault) }
     ensures sink_still { result ≢ ReportEnd.WriteFault → K.outlet.faults out.new ≡ K.outlet.faults out.old }
@@ -57,9 +58,10 @@ pub fn all_days<D: Disk, K: Sink>(book: &Book, disk: &mut D, out: &mut K) -> Rep
     ensures lines { (rows : List Row) → StandsToReadOn D.medium book.now disk.old rows
         → WhereTold (D.medium.seen disk.old) (λ _. Reports (K.outlet.taken out.old) (K.outlet.taken out.new)
         (all_day_lines rows) result) }
-    ensures wrote { Wrote K.outlet D.medium book.now disk.old (λ rows. IsReport (all_day_lines rows) result) out.old out.new }
+    ensures wrote { Wrote K.outlet D.medium book.now disk.old
+        (λ rows. IsReport (all_day_lines rows) result) out.old out.new }
     ensures stays { Stays D.medium disk.old disk.new }
-    ensures went { (rows : List Row) → StandsFor book.now rows → ReadsOver D.medium rows result disk.old disk.new }
+    ensures went { (rows : List Row) → BookStandsFor book.now rows → ReadsOver D.medium rows result disk.old disk.new }
     ensures disk_fault { Faults D.medium disk.old disk.new (result ≡ ReportEnd.DiskFault) }
     ensures write_fault { Cause (K.outlet.faults out.old) (K.outlet.faults out.new) (result ≡ ReportEnd.WriteFault) }
     ensures sink_still { result ≢ ReportEnd.WriteFault → K.outlet.faults out.new ≡ K.outlet.faults out.old }

@@ -4,7 +4,7 @@ ghost use Rattle.causes.specs.Told.{WhereTold};
 ghost use Rattle.disk_model.specs.Disk.{Faults, Stays};
 ghost use Rattle.station_base.specs.RowLine.{row_line};
 ghost use Rattle.station_base.specs.declared.row.Row.{Row};
-ghost use Rattle.weather_book.specs.Book.{StandsFor, len_of};
+ghost use Rattle.weather_book.specs.Book.{BookStandsFor, len_of};
 ghost use Rattle.weather_book.specs.Stands.{StandsToReadOn};
 ghost use Rattle.weather_reports.specs.Report.{later_lines, listing_lines};
 ghost use Rattle.weather_reports.specs.Reported.{IsReport, ReadsOver, Reports};
@@ -30,9 +30,10 @@ pub fn listing<D: Disk, K: Sink>(
     ensures lines { (rows : List Row) → StandsToReadOn D.medium book.now disk.old rows
         → WhereTold (D.medium.seen disk.old) (λ _. Reports (K.outlet.taken out.old) (K.outlet.taken out.new)
         (listing_lines first last rows) result) }
-    ensures wrote { Wrote K.outlet D.medium book.now disk.old (λ rows. IsReport (listing_lines first last rows) result) out.old out.new }
+    ensures wrote { Wrote K.outlet D.medium book.now disk.old
+        (λ rows. IsReport (listing_lines first last rows) result) out.old out.new }
     ensures stays { Stays D.medium disk.old disk.new }
-    ensures went { (rows : List Row) → StandsFor book.now rows → ReadsOver D.medium rows result disk.old disk.new }
+    ensures went { (rows : List Row) → BookStandsFor book.now rows → ReadsOver D.medium rows result disk.old disk.new }
     ensures disk_fault { Faults D.medium disk.old disk.new (result ≡ ReportEnd.DiskFault) }
     ensures write_fault { Cause (K.outlet.faults out.old) (K.outlet.faults out.new) (result ≡ ReportEnd.WriteFault) }
     ensures sink_still { result ≢ ReportEnd.WriteFault → K.outlet.faults out.new ≡ K.outlet.faults out.old }
@@ -47,9 +48,10 @@ pub fn rows_from<D: Disk, K: Sink>(book: &Book, disk: &mut D, out: &mut K, from:
     ensures lines { (rows : List Row) → StandsToReadOn D.medium book.now disk.old rows
         → WhereTold (D.medium.seen disk.old) (λ _. Reports (K.outlet.taken out.old) (K.outlet.taken out.new)
         (later_lines from rows) result) }
-    ensures wrote { Wrote K.outlet D.medium book.now disk.old (λ rows. IsReport (later_lines from rows) result) out.old out.new }
+    ensures wrote { Wrote K.outlet D.medium book.now disk.old
+        (λ rows. IsReport (later_lines from rows) result) out.old out.new }
     ensures stays { Stays D.medium disk.old disk.new }
-    ensures went { (rows : List Row) → StandsFor book.now rows → ReadsOver D.medium rows result disk.old disk.new }
+    ensures went { (rows : List Row) → BookStandsFor book.now rows → ReadsOver D.medium rows result disk.old disk.new }
     ensures disk_fault { Faults D.medium disk.old disk.new (result ≡ ReportEnd.DiskFault) }
     ensures write_fault { Cause (K.outlet.faults out.old) (K.outlet.faults out.new) (result ≡ ReportEnd.WriteFault) }
     ensures sink_still { result ≢ ReportEnd.WriteFault → K.outlet.faults out.new ≡ K.outlet.faults out.old }
@@ -69,9 +71,10 @@ fn rows_between<D: Disk, K: Sink>(
     ensures lines { (rows : List Row) → StandsToReadOn D.medium book.now disk.old rows
         → WhereTold (D.medium.seen disk.old) (λ _. Reports (K.outlet.taken out.old) (K.outlet.taken out.new)
         (map row_line (take (end - from) (drop from rows))) result) }
-    ensures wrote { Wrote K.outlet D.medium book.now disk.old (λ rows. IsReport (map row_line (take (end - from) (drop from rows))) result) out.old out.new }
+    ensures wrote { Wrote K.outlet D.medium book.now disk.old
+        (λ rows. IsReport (map row_line (take (end - from) (drop from rows))) result) out.old out.new }
     ensures stays { Stays D.medium disk.old disk.new }
-    ensures went { (rows : List Row) → StandsFor book.now rows → ReadsOver D.medium rows result disk.old disk.new }
+    ensures went { (rows : List Row) → BookStandsFor book.now rows → ReadsOver D.medium rows result disk.old disk.new }
     ensures disk_fault { Faults D.medium disk.old disk.new (result ≡ ReportEnd.DiskFault) }
     ensures write_fault { Cause (K.outlet.faults out.old) (K.outlet.faults out.new) (result ≡ ReportEnd.WriteFault) }
     ensures sink_still { result ≢ ReportEnd.WriteFault → K.outlet.faults out.new ≡ K.outlet.faults out.old }

@@ -6,7 +6,7 @@ ghost use Rattle.station_base.specs.declared.row.Row.{Row};
 ghost use Rattle.daily_summary.specs.Summary.{rows_of_day, summary_of};
 ghost use Rattle.gated_log.specs.Calls.{Looked};
 ghost use Rattle.gated_log.specs.Layout.{slot_size};
-ghost use Rattle.weather_book.specs.Book.{StandsFor};
+ghost use Rattle.weather_book.specs.Book.{BookStandsFor};
 ghost use Rattle.packed_rows.specs.Rows.{slot_total};
 ghost use Rattle.weather_book.specs.Stands.{StandsToReadOn};
 ghost use Rattle.weather_book.specs.Start.{IsOfADay};
@@ -34,7 +34,7 @@ pub fn summary_of<D: Disk>(book: &Book, disk: &mut D, day: DayNumber) -> Option<
     ensures bounds { IfSome result IsOfADay }
     ensures stays { Stays D.medium disk.old disk.new }
     ensures cause { Faults D.medium disk.old disk.new (result ≡ None) }
-    ensures went { (rows : List Row) → StandsFor book.now rows
+    ensures went { (rows : List Row) → BookStandsFor book.now rows
         → Looked D.medium (slot_size * (slot_total rows + 1)) (is_none result) disk.old disk.new }
 {
     match book.day(disk, day) {

@@ -58,7 +58,8 @@ fn push_sum(line: &mut Line, sum: &FieldSum)
 // Appends an extreme and its stamp.
 fn push_extreme(line: &mut Line, name: &[u8], value: i32, at: Stamp)
     requires { array_vec_len line.old + length name.now + (DIGITS + 4 + STAMP) ≤ LINE_ROOM }
-    ensures text { line.new.items ≡ line.old.items ++ name.now ++ signed_decimal value ++ codes " at " ++ stamp_text at }
+    ensures text { line.new.items ≡ line.old.items ++ name.now ++ signed_decimal value ++ codes " at "
+        ++ stamp_text at }
     ensures length { array_vec_len line.new ≤ array_vec_len line.old + length name.now + (DIGITS + 4 + STAMP) }
 {
     push_signed(line, name, i64::from(value));

@@ -6,9 +6,9 @@ ghost use Rattle.station_base.specs.DayText.{IsDayNumber};
 ghost use Rattle.daily_summary.specs.Bounds.{IsInBounds};
 ghost use Rattle.station_base.specs.declared.row.Row.{Row};
 ghost use Rattle.daily_summary.specs.Summary.{rows_of_day, summary_of};
-ghost use Rattle.weather_reports.specs.Begun.{Grows, IsBegun, IsInOrder, begun_lines};
+ghost use Rattle.weather_reports.specs.Begun.{MonthGrows, MonthIsBegun, MonthIsInOrder, begun_lines};
 ghost use Rattle.weather_reports.specs.Months.{is_of_month, month_text};
-ghost use Rattle.weather_reports.specs.Reported.{text_of};
+ghost use Rattle.weather_reports.specs.Reported.{text_of_lines};
 ghost use Rattle.weather_reports.specs.Wrote.{Prints};
 
 use crate::printing::{PIECE, Pending, print_sums};
@@ -53,16 +53,17 @@ impl Month {
 // Adds what the rows of a day come to, where the day is of the month that has begun, and answers whether it is.
 pub fn join(month: &mut Option<Month>, day: DayNumber, summary: &DaySummary) -> bool
     requires day { IsDayNumber day.0 }
-    requires month { IfSome month.old IsInOrder }
+    requires month { IfSome month.old MonthIsInOrder }
     requires summary { IsInBounds summary.now }
-    requires few { IfSome month.old (λ m. month_text m.first.0 ≡ month_text day.0 → m.summary.rows + summary.now.rows ≤ 1048576) }
-    ensures month { IfSome month.new IsInOrder }
-    ensures joined { result ≡ true → (rows : List Row) (begun : List ℤ) → IsBegun rows begun month.old
+    requires few { IfSome month.old (λ m. month_text m.first.0 ≡ month_text day.0
+        → m.summary.rows + summary.now.rows ≤ 1048576) }
+    ensures month { IfSome month.new MonthIsInOrder }
+    ensures joined { result ≡ true → (rows : List Row) (begun : List ℤ) → MonthIsBegun rows begun month.old
         → summary.now ≡ summary_of (rows_of_day day.0 rows)
-        → (is_of_month begun day.0 ≡ true) × IsBegun rows (begun ++ day.0 ∷ []) month.new }
-    ensures grown { result ≡ true → IfSome month.new (Grows summary.now.rows month.old) }
+        → (is_of_month begun day.0 ≡ true) × MonthIsBegun rows (begun ++ day.0 ∷ []) month.new }
+    ensures grown { result ≡ true → IfSome month.new (MonthGrows summary.now.rows month.old) }
     ensures apart { result ≡ false → (month.new ≡ month.old)
-        × ((rows : List Row) (begun : List ℤ) → IsBegun rows begun month.old → is_of_month begun day.0 ≡ false) }
+        × ((rows : List Row) (begun : List ℤ) → MonthIsBegun rows begun month.old → is_of_month begun day.0 ≡ false) }
 {
     let Some(mut begun) = *month else {
         return false;
@@ -81,10 +82,11 @@ pub fn print_month<K: Sink>(pending: &mut Pending, month: &Option<Month>, out: &
     requires day { IfSome month.now (λ m. IsDayNumber m.first.0) }
     ensures room { array_vec_len pending.new < PIECE }
     ensures done { result ≡ Put.Done → Leaves (K.outlet.taken out.old) (K.outlet.taken out.new)
-        (pending.old.items ++ text_of (begun_lines month.now)) pending.new.items }
+        (pending.old.items ++ text_of_lines (begun_lines month.now)) pending.new.items }
     ensures failed { result ≡ Put.Failed → WritesPart (K.outlet.taken out.old) (K.outlet.taken out.new)
-        (pending.old.items ++ text_of (begun_lines month.now)) }
-    ensures wrote { Prints K.outlet result (pending.old.items ++ text_of (begun_lines month.now)) pending.new.items out.old out.new }
+        (pending.old.items ++ text_of_lines (begun_lines month.now)) }
+    ensures wrote { Prints K.outlet result (pending.old.items
+        ++ text_of_lines (begun_lines month.now)) pending.new.items out.old out.new }
     ensures cause { Cause (K.outlet.faults out.old) (K.outlet.faults out.new) (result ≡ Put.Failed) }
     ensures still { result ≢ Put.Failed → K.outlet.faults out.new ≡ K.outlet.faults out.old }
 {

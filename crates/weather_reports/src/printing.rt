@@ -5,8 +5,8 @@ ghost use Rattle.causes.specs.Cause.{Cause};
 ghost use Rattle.causes.specs.Written.{Leaves, WritesPart};
 ghost use Rattle.station_base.specs.RowLine.{row_line};
 ghost use Rattle.packed_rows.specs.Adding.{AreLimited, ArePrintable};
-ghost use Rattle.weather_reports.specs.Line.{lines_from};
-ghost use Rattle.weather_reports.specs.Reported.{text_of};
+ghost use Rattle.weather_reports.specs.Line.{field_lines_from};
+ghost use Rattle.weather_reports.specs.Reported.{text_of_lines};
 ghost use Rattle.weather_reports.specs.Wrote.{Flushes, Prints};
 
 use crate::ReportEnd;
@@ -27,7 +27,8 @@ pub type Pending = ArrayVec<u8, ROOM>;
 
 /// Writes what waits at the end, where there is any. The report ended so, unless this write fails.
 pub fn finish<K: Sink>(pending: &[u8], end: ReportEnd, out: &mut K) -> ReportEnd
-    ensures done { result ≢ ReportEnd.WriteFault → Appends (K.outlet.taken out.old) (K.outlet.taken out.new) pending.now }
+    ensures done { result ≢ ReportEnd.WriteFault
+        → Appends (K.outlet.taken out.old) (K.outlet.taken out.new) pending.now }
     ensures failed { result ≡ ReportEnd.WriteFault → end ≢ ReportEnd.WriteFault
         → WritesPart (K.outlet.taken out.old) (K.outlet.taken out.new) pending.now }
     ensures kind { (result ≡ end) ⊎ (result ≡ ReportEnd.WriteFault) }
@@ -73,10 +74,11 @@ pub fn print_rows<K: Sink>(pending: &mut Pending, rows: &[Row], out: &mut K) -> 
     requires limited { AreLimited rows.now }
     ensures room { array_vec_len pending.new < PIECE }
     ensures done { result ≡ Put.Done → Leaves (K.outlet.taken out.old) (K.outlet.taken out.new)
-        (pending.old.items ++ text_of (map row_line rows.now)) pending.new.items }
+        (pending.old.items ++ text_of_lines (map row_line rows.now)) pending.new.items }
     ensures failed { result ≡ Put.Failed → WritesPart (K.outlet.taken out.old) (K.outlet.taken out.new)
-        (pending.old.items ++ text_of (map row_line rows.now)) }
-    ensures wrote { Prints K.outlet result (pending.old.items ++ text_of (map row_line rows.now)) pending.new.items out.old out.new }
+        (pending.old.items ++ text_of_lines (map row_line rows.now)) }
+    ensures wrote { Prints K.outlet result (pending.old.items
+        ++ text_of_lines (map row_line rows.now)) pending.new.items out.old out.new }
     ensures cause { Cause (K.outlet.faults out.old) (K.outlet.faults out.new) (result ≡ Put.Failed) }
     ensures still { result ≢ Put.Failed → K.outlet.faults out.new ≡ K.outlet.faults out.old }
 {
@@ -100,10 +102,11 @@ pub fn print_sums<K: Sink>(
     requires head { length head.now ≤ 16 }
     ensures room { array_vec_len pending.new < PIECE }
     ensures done { result ≡ Put.Done → Leaves (K.outlet.taken out.old) (K.outlet.taken out.new)
-        (pending.old.items ++ text_of (lines_from head.now 0 sums.now)) pending.new.items }
+        (pending.old.items ++ text_of_lines (field_lines_from head.now 0 sums.now)) pending.new.items }
     ensures failed { result ≡ Put.Failed → WritesPart (K.outlet.taken out.old) (K.outlet.taken out.new)
-        (pending.old.items ++ text_of (lines_from head.now 0 sums.now)) }
-    ensures wrote { Prints K.outlet result (pending.old.items ++ text_of (lines_from head.now 0 sums.now)) pending.new.items out.old out.new }
+        (pending.old.items ++ text_of_lines (field_lines_from head.now 0 sums.now)) }
+    ensures wrote { Prints K.outlet result (pending.old.items
+        ++ text_of_lines (field_lines_from head.now 0 sums.now)) pending.new.items out.old out.new }
     ensures cause { Cause (K.outlet.faults out.old) (K.outlet.faults out.new) (result ≡ Put.Failed) }
     ensures still { result ≢ Put.Failed → K.outlet.faults out.new ≡ K.outlet.faults out.old }
 {

@@ -1,6 +1,6 @@
 ghost use Rattle.std.specs.Prelude.{◌≡◌, ◌≤◌, IfSome, IfOk};
 ghost use Rattle.schedule_file.specs.Pieces.{words_of, words_left};
-ghost use Rattle.schedule_file.specs.Forms.{IsInRanges, form_of, told_in, due_in, run_in, idle_in, open_in, round_in, host_in, reply_in, answer_in, late_in, mid_in, stop_in};
+ghost use Rattle.schedule_file.specs.Forms.{IsInRanges, form_of, told_in_words, due_form, run_in, idle_in, open_in, round_in, host_in, reply_in, answer_in, late_form, mid_in, stop_in};
 ghost use Rattle.schedule_file.specs.Forms as specs;
 
 use crate::schedule::fates::read_fate;
@@ -60,9 +60,9 @@ fn or_misspelled(form: Option<Form>) -> Result<Form, u8>
 }
 
 // DATE TIME [NAME=VALUE ..]
-#[tactic(auto, unfolding(crate::specs::Forms::told_in))]
+#[tactic(auto, unfolding(crate::specs::Forms::told_in_words))]
 fn read_told(date: &[u8], time: &[u8], words: &[u8]) -> Option<Told>
-    ensures { result ≡ told_in date.now time.now (words_left words.now) }
+    ensures { result ≡ told_in_words date.now time.now (words_left words.now) }
 {
     let date = read_date(date)?;
     let clock = read_clock(time)?;
@@ -74,7 +74,7 @@ fn read_told(date: &[u8], time: &[u8], words: &[u8]) -> Option<Told>
 }
 
 fn read_due(words: &[u8]) -> Option<Form>
-    ensures form { result ≡ due_in (words_left words.now) }
+    ensures form { result ≡ due_form (words_left words.now) }
     ensures ranges { IfSome result IsInRanges }
 {
     let (date, rest) = next_word(words)?;
@@ -160,7 +160,7 @@ fn read_answer(number: u32, words: &[u8]) -> Option<Form>
 
 fn read_late(number: u32, words: &[u8]) -> Option<Form>
     requires { 1 ≤ number }
-    ensures form { result ≡ late_in number (words_left words.now) }
+    ensures form { result ≡ late_form number (words_left words.now) }
     ensures ranges { IfSome result IsInRanges }
 {
     let (waits, rest) = next_word(words)?;

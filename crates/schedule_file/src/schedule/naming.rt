@@ -3,7 +3,7 @@ ghost use Rattle.std.specs.Int.{w32};
 ghost use Rattle.station_base.specs.Fields.{name_of};
 ghost use Rattle.schedule_file.specs.Pieces.{words_left};
 ghost use Rattle.schedule_file.specs.Words.{Named, named_in};
-ghost use Rattle.schedule_file.specs.Forms.{none_taken, no_values, values_in};
+ghost use Rattle.schedule_file.specs.Forms.{none_taken, no_values, named_values_in};
 ghost use Rattle.schedule_file.specs.Naming.{named_on};
 
 use crate::schedule::numbers::read_value;
@@ -35,7 +35,8 @@ impl Naming {
 
     // Takes a value under a name.
     fn take(&mut self, name: &[u8], value: i32)
-        ensures { (others : List Named) → named_on self.new others ≡ named_on self.old (record { name = name.now; value = value } ∷ others) }
+        ensures { (others : List Named)
+            → named_on self.new others ≡ named_on self.old (record { name = name.now; value = value } ∷ others) }
     {
         match FieldId::by_bytes(name) {
             Some(field) if !self.taken[field.index()] => {
@@ -48,9 +49,9 @@ impl Naming {
 }
 
 // Values for fields by their names.
-#[tactic(auto, unfolding(crate::specs::Forms::values_in))]
+#[tactic(auto, unfolding(crate::specs::Forms::named_values_in))]
 pub fn read_values(words: &[u8]) -> Option<Option<[Option<i32>; FIELD_COUNT]>>
-    ensures { result ≡ values_in (words_left words.now) }
+    ensures { result ≡ named_values_in (words_left words.now) }
 {
     let mut naming = Naming::new();
     let mut rest = words;
@@ -66,7 +67,8 @@ pub fn read_values(words: &[u8]) -> Option<Option<[Option<i32>; FIELD_COUNT]>>
 #[tactic(auto, unfolding(crate::specs::Words::named_in))]
 fn read_named(word: &[u8]) -> Option<(&[u8], i32)>
     ensures fits { IfSome result (λ pair. FitsSigned w32 pair.1) }
-    ensures named { MatchOption result (named_in word.now ≡ None) (λ pair. named_in word.now ≡ Some (record { name = pair.0.now; value = pair.1 })) }
+    ensures named { MatchOption result (named_in word.now ≡ None) (λ pair. named_in word.now
+        ≡ Some (record { name = pair.0.now; value = pair.1 })) }
 {
     let equals = place_in(word, b'=')?;
     let value = read_value(&word[equals + 1..])?;

@@ -1,5 +1,5 @@
 ghost use Rattle.std.specs.Prelude.{◌≡◌};
-ghost use Rattle.schedule_file.specs.Words.{date_of, clock_of, minute_at};
+ghost use Rattle.schedule_file.specs.Words.{date_in_word, clock_of, minute_at};
 
 use crate::schedule::numbers::read_number;
 use station_base::Stamp;
@@ -20,9 +20,9 @@ pub struct Clock {
 }
 
 // The date that a word of this form names.
-#[tactic(auto, unfolding(crate::specs::Words::date_of))]
+#[tactic(auto, unfolding(crate::specs::Words::date_in_word))]
 pub fn read_date(word: &[u8]) -> Option<Date>
-    ensures { result ≡ date_of word.now }
+    ensures { result ≡ date_in_word word.now }
 {
     if word.len() != 10 || word[4] != b'-' || word[7] != b'-' {
         return None;

@@ -4,9 +4,9 @@ ghost use Rattle.archive_record.specs.Reading.{reading};
 ghost use Rattle.schedule_file.specs.declared.schedule.form.Form.{Form};
 ghost use Rattle.schedule_file.specs.Forms.{IsInRanges};
 ghost use Rattle.schedule_file.specs.Steps.{nothing_said, no_details, turn_steps, steps_said, steps_seen, details_seen, record_told, last_minute_of};
-ghost use Rattle.schedule_file.specs.Kinds.{least, told_kinds, is_due};
-ghost use Rattle.schedule_file.specs.Reading.{accept, read_line};
-ghost use Rattle.schedule_file.specs.Reader.{said_by, Answers};
+ghost use Rattle.schedule_file.specs.Kinds.{first_applying, told_kinds, is_due};
+ghost use Rattle.schedule_file.specs.Reading.{accept, read_schedule_line};
+ghost use Rattle.schedule_file.specs.Reader.{said_by, ReaderAnswers};
 
 use crate::fate::Fate;
 use crate::fates::{Fates, MOST_MIDS, MOST_WAITS};
@@ -54,10 +54,11 @@ impl Reader {
     }
 
     // Takes a line of a number from 1 on.
-    #[tactic(auto, unfolding(crate::specs::Reading::read_line))]
+    #[tactic(auto, unfolding(crate::specs::Reading::read_schedule_line))]
     pub fn line(&mut self, number: u32, line: &[u8]) -> Result<(), Refusal>
         requires { number ≤ 10001 }
-        ensures said { Answers (read_line self.old.period number line.now (said_by self.old)) result (said_by self.new) }
+        ensures said { ReaderAnswers (read_schedule_line self.old.period number line.now (said_by self.old)) result
+            (said_by self.new) }
         ensures period { self.new.period ≡ self.old.period }
         ensures within { OnOk result (number ≤ 10000) }
     {
@@ -79,7 +80,7 @@ impl Reader {
     // Takes what a line says.
     fn accept(&mut self, form: Form) -> Result<(), Refusal>
         requires { IsInRanges form }
-        ensures said { Answers (accept self.old.period (said_by self.old) form) result (said_by self.new) }
+        ensures said { ReaderAnswers (accept self.old.period (said_by self.old) form) result (said_by self.new) }
         ensures period { self.new.period ≡ self.old.period }
     {
         match form {
@@ -104,8 +105,9 @@ impl Reader {
     fn record(&self, told: &Told, count: u32) -> Result<Rec52, u8>
         requires from { 1 ≤ count }
         ensures { MatchResult result
-            (λ r. (least (told_kinds self.now.period (said_by self.now) told.now count) ≡ None) × (reading r self.now.period ≡ record_told self.now.period told.now))
-            (λ kind. least (told_kinds self.now.period (said_by self.now) told.now count) ≡ Some kind) }
+            (λ r. (first_applying (told_kinds self.now.period (said_by self.now) told.now count) ≡ None)
+            × (reading r self.now.period ≡ record_told self.now.period told.now))
+            (λ kind. first_applying (told_kinds self.now.period (said_by self.now) told.now count) ≡ Some kind) }
     {
         let Some(stamp) = told.stamp else {
             return Err(5);
@@ -143,7 +145,8 @@ impl Reader {
     }
 
     fn due(&mut self, told: &Told) -> Result<(), Refusal>
-        ensures said { Answers (accept self.old.period (said_by self.old) (Form.Due told.now)) result (said_by self.new) }
+        ensures said { ReaderAnswers (accept self.old.period (said_by self.old) (Form.Due told.now)) result
+            (said_by self.new) }
         ensures period { self.new.period ≡ self.old.period }
     {
         let record = match self.record(told, 1) {
@@ -164,7 +167,8 @@ impl Reader {
     fn run(&mut self, told: &Told, count: u32) -> Result<(), Refusal>
         requires from { 1 ≤ count }
         requires to { count ≤ 9999999 }
-        ensures said { Answers (accept self.old.period (said_by self.old) (Form.Run told.now count)) result (said_by self.new) }
+        ensures said { ReaderAnswers (accept self.old.period (said_by self.old) (Form.Run told.now count)) result
+            (said_by self.new) }
         ensures period { self.new.period ≡ self.old.period }
     {
         let first = match self.record(told, count) {
@@ -183,7 +187,8 @@ impl Reader {
     }
 
     fn idle(&mut self, ticks: u8) -> Result<(), Refusal>
-        ensures said { Answers (accept self.old.period (said_by self.old) (Form.Idle ticks)) result (said_by self.new) }
+        ensures said { ReaderAnswers (accept self.old.period (said_by self.old) (Form.Idle ticks)) result
+            (said_by self.new) }
         ensures period { self.new.period ≡ self.old.period }
     {
         match self.since.push(Step::Idle(ticks)) {
@@ -193,7 +198,7 @@ impl Reader {
     }
 
     fn open(&mut self) -> Result<(), Refusal>
-        ensures said { Answers (accept self.old.period (said_by self.old) Form.Open) result (said_by self.new) }
+        ensures said { ReaderAnswers (accept self.old.period (said_by self.old) Form.Open) result (said_by self.new) }
         ensures period { self.new.period ≡ self.old.period }
     {
         if self.turns >= MOST_TURNS {
@@ -208,7 +213,7 @@ impl Reader {
     }
 
     fn round(&mut self) -> Result<(), Refusal>
-        ensures said { Answers (accept self.old.period (said_by self.old) Form.Round) result (said_by self.new) }
+        ensures said { ReaderAnswers (accept self.old.period (said_by self.old) Form.Round) result (said_by self.new) }
         ensures period { self.new.period ≡ self.old.period }
     {
         if self.turns >= MOST_TURNS {
@@ -241,7 +246,8 @@ impl Reader {
 
     fn host(&mut self, number: u32, fate: Fate) -> Result<(), Refusal>
         requires { 1 ≤ number }
-        ensures said { Answers (accept self.old.period (said_by self.old) (Form.Host number fate)) result (said_by self.new) }
+        ensures said { ReaderAnswers (accept self.old.period (said_by self.old) (Form.Host number fate)) result
+            (said_by self.new) }
         ensures period { self.new.period ≡ self.old.period }
     {
         if !self.turn.is_in_round() {
@@ -258,7 +264,8 @@ impl Reader {
 
     fn reply(&mut self, number: u32, fate: Fate) -> Result<(), Refusal>
         requires { 1 ≤ number }
-        ensures said { Answers (accept self.old.period (said_by self.old) (Form.Reply number fate)) result (said_by self.new) }
+        ensures said { ReaderAnswers (accept self.old.period (said_by self.old) (Form.Reply number fate)) result
+            (said_by self.new) }
         ensures period { self.new.period ≡ self.old.period }
     {
         if !self.turn.is_in_round() {
@@ -275,7 +282,8 @@ impl Reader {
 
     fn late(&mut self, number: u32, waits: u32, place: u32) -> Result<(), Refusal>
         requires { 1 ≤ number }
-        ensures said { Answers (accept self.old.period (said_by self.old) (Form.Late number waits place)) result (said_by self.new) }
+        ensures said { ReaderAnswers (accept self.old.period (said_by self.old) (Form.Late number waits place)) result
+            (said_by self.new) }
         ensures period { self.new.period ≡ self.old.period }
     {
         if !self.turn.is_in_round() {
@@ -295,7 +303,8 @@ impl Reader {
 
     fn mid(&mut self, number: u32, told: &Told) -> Result<(), Refusal>
         requires { 1 ≤ number }
-        ensures said { Answers (accept self.old.period (said_by self.old) (Form.Mid number told.now)) result (said_by self.new) }
+        ensures said { ReaderAnswers (accept self.old.period (said_by self.old) (Form.Mid number told.now)) result
+            (said_by self.new) }
         ensures period { self.new.period ≡ self.old.period }
     {
         let record = match self.record(told, 1) {
@@ -335,7 +344,8 @@ impl Reader {
     }
 
     fn stop(&mut self, stop: Stop) -> Result<(), Refusal>
-        ensures said { Answers (accept self.old.period (said_by self.old) (Form.Stop stop)) result (said_by self.new) }
+        ensures said { ReaderAnswers (accept self.old.period (said_by self.old) (Form.Stop stop)) result
+            (said_by self.new) }
         ensures period { self.new.period ≡ self.old.period }
     {
         if self.turn.is_neither() {

@@ -2,16 +2,16 @@ use Rattle.std.proofs.Common.{◌≡◌, ◌+◌, ◌-◌, ◌*◌, ◌≤◌, �
 use Rattle.std.proofs.lemmas.List.{take_all, length-drop}
 use Rattle.disk_model.specs.Disk.{stays_none, stays_joins}
 use Rattle.station_base.specs.declared.row.Row.{Row}
-use Rattle.weather_book.specs.Book.{StandsFor, len_of}
+use Rattle.weather_book.specs.Book.{BookStandsFor, len_of}
 use Rattle.packed_rows.specs.Rows.{slot_total}
 use Rattle.weather_book.proofs.Looks.{no_look}
 use Rattle.weather_book.proofs.Pieces.{more_reads}
-use Rattle.archive_copy.specs.Calls.{rows_in, slots_end}
+use Rattle.archive_copy.specs.Calls.{rows_of_batches, slots_end}
 use Rattle.archive_copy.proofs.Batches.{adds_none, adds_one, ends_so, fails_one, front_of}
-use Rattle.packed_rows.specs.Rising.{last_stamp, rise}
+use Rattle.packed_rows.specs.Rising.{last_row_stamp, rows_rise}
 use Rattle.weather_book.specs.Stands.{StandsOn}
 use Rattle.weather_book.proofs.Standing.{stands_rise, to_read_stays}
-use Rattle.archive_copy.specs.Adding.{HasSome, batches}
+use Rattle.archive_copy.specs.Adding.{HasSome, batch_count}
 use Rattle.archive_copy.proofs.Kept.{batch_leaves, leaves_join, nothing_left}
 use Rattle.archive_copy.proofs.NextRows.{batch_less, front_next, more_next, next_joins, next_rise, up_to_five}
 use Rattle.archive_copy.proofs.Reading.{ahead_none}
@@ -28,13 +28,13 @@ loop-reader-init g c =
       ahead = ahead_none g.D.Disk.medium c.args.theirs.now c.args.from.now c.new-reader.result c.new-reader.ensures.none c.new-reader.ensures.unused (omega (arith, first, c.requires.no_more));
       fresh = c.requires.fresh;
       most = c.requires.most;
-      moved = ap (λ n. m.moment c.args.to.now + 4 * batches (c.len-count.result - n)) first;
+      moved = ap (λ n. m.moment c.args.to.now + 4 * batch_count (c.len-count.result - n)) first;
       stays = stays_none g.D.Disk.medium c.args.from.now;
       from_faults = omega arith;
       to_faults = omega arith;
       from_went = λ rows stands. no_look g.D.Disk.medium (slots_end (slot_total rows)) c.args.from.now;
       added = λ mine two. adds_none m mine c.args.to.now _ _ (
-        subst (λ (rows : List Row). StandsFor c.args.mine.now rows) (sym (append-nil mine)) two,
+        subst (λ (rows : List Row). BookStandsFor c.args.mine.now rows) (sym (append-nil mine)) two,
         λ theirs one x told. let zero : at - length mine ≡ 0 = omega (arith, c.new-reader.ensures.at, c.len.ensures.rows mine two) in ap (λ n. take n (drop (length mine) theirs)) (sym zero),
       );
       stands = λ theirs mine one two x told.
@@ -49,9 +49,9 @@ returns-in-OutOfOrder-clause-in_order g c e theirs mine one two front x told =
     let i = c.loop-reader.invariant in let at = c.loop-reader.reader.at in
     let le : length mine ≤ at = omega (arith, i.from_first, two.stands_for.held_is) in
     let wrong = c.next_batch.ensures.out_of_order c.in-OutOfOrder.is theirs (to_read_stays g.D.Disk.medium c.args.theirs.now _ _ theirs one i.stays) x (i.stays.reads ∙ told) in
-    let last = c.last.ensures.rows _ (i.stands theirs mine one two x told).stands_for ∙ ap last_stamp (front_next mine theirs at front le) in
+    let last = c.last.ensures.rows _ (i.stands theirs mine one two x told).stands_for ∙ ap last_row_stamp (front_next mine theirs at front le) in
     let right = next_rise theirs at 5 (stands_rise c.args.theirs.now theirs one.stands_for) in
-    let no = sym wrong ∙ ap (λ o. rise o (take 5 (drop at theirs))) last ∙ right in cc
+    let no = sym wrong ∙ ap (λ o. rows_rise o (take 5 (drop at theirs))) last ∙ right in cc
 
 pub add_batch-requires-clause-printable : goal.add_batch-requires-clause-printable
 add_batch-requires-clause-printable g c = rw c.deref.ensures.0 c.next_batch.ensures.printable
@@ -117,14 +117,14 @@ loop-reader-preserved g c =
           let so = i.added mine two in let b = c.deref.result.now in
           adds_one m mine c.args.to.now _ _ _ _ c.loop-reader.to c.add_batch.new.to c.deref.result.now so (omega (arith, c.loop-reader-test.true, c.at.ensures))
           (omega (arith, many, items, c.loop-reader-test.true, c.at.ensures)) (omega (arith, many, items, place))
-          (λ later. omega (arith, later, many, items, place)) c.in-Done.ensures.moved (c.in-Done.ensures.went (mine ++ rows_in so.so_far) so.rows_are.0)
+          (λ later. omega (arith, later, many, items, place)) c.in-Done.ensures.moved (c.in-Done.ensures.went (mine ++ rows_of_batches so.so_far) so.rows_are.0)
           (λ is. (
-            subst (λ (rows : List Row). StandsFor c.add_batch.new.mine rows) (append_assoc mine (rows_in so.so_far) b) (c.in-Done.ensures.rows refl (mine ++ rows_in so.so_far) is.0),
+            subst (λ (rows : List Row). BookStandsFor c.add_batch.new.mine rows) (append_assoc mine (rows_of_batches so.so_far) b) (c.in-Done.ensures.rows refl (mine ++ rows_of_batches so.so_far) is.0),
             λ theirs one x told.
                 let le : length mine ≤ at = omega (arith, i.from_first, two.held_is) in
                 let read = c.in-Ready.ensures.ready refl theirs (to_read_stays g.D.Disk.medium c.args.theirs.now _ _ theirs one i.stays) x (i.stays.reads ∙ told) in
                 let five = up_to_five (drop at theirs) n (omega (arith, many, length-drop at theirs, c.len-count.ensures.rows theirs one.stands_for)) in
-                next_joins mine theirs (rows_in so.so_far) b at n le (is.1 theirs one x told) (c.deref.ensures.0 ∙ read ∙ sym five)
+                next_joins mine theirs (rows_of_batches so.so_far) b at n le (is.1 theirs one x told) (c.deref.ensures.0 ∙ read ∙ sym five)
                 ∙ ap (λ k. take (k - length mine) (drop (length mine) theirs)) (sym place),
           ));
       stands = λ theirs mine one two x told.
@@ -188,7 +188,7 @@ returns-in-OutOfMemory-clause-to_went g c mine two =
     let m = g.E.Disk.medium in let so = c.loop-reader.invariant.added mine two in
     let zero : g.E.Disk.medium.moment c.add_batch.new.to - g.E.Disk.medium.moment c.loop-reader.to ≡ 0 = omega (arith, c.in-OutOfMemory.ensures.moved) in
     ends_so m mine c.args.to.now _ _ _ c.loop-reader.to c.add_batch.new.to so c.in-OutOfMemory.ensures.moved
-    (rw zero at (c.in-OutOfMemory.ensures.went (mine ++ rows_in so.so_far) so.rows_are.0))
+    (rw zero at (c.in-OutOfMemory.ensures.went (mine ++ rows_of_batches so.so_far) so.rows_are.0))
     (λ is theirs one x told. front_of _ (drop (length mine) theirs) (c.loop-reader.reader.at - length mine) (is.1 theirs one x told))
 
 pub returns-in-Fault-add_batch-clause-to_went : goal.returns-in-Fault-add_batch-clause-to_went
@@ -197,11 +197,11 @@ returns-in-Fault-add_batch-clause-to_went g c mine two =
     let count = c.in-Ready.ensures.count refl in let items = ap length c.deref.ensures.0 in
     fails_one m mine c.args.to.now _ _ _ c.loop-reader.to c.add_batch.new.to c.deref.result.now so (omega (arith, c.loop-reader-test.true, c.at.ensures))
     (omega (arith, count, items, c.loop-reader-test.true, c.at.ensures, c.len-count.ensures.len)) (omega (arith, count, items))
-    c.in-Fault-add_batch.ensures.moved.0 (c.in-Fault-add_batch.ensures.went (mine ++ rows_in so.so_far) so.rows_are.0)
+    c.in-Fault-add_batch.ensures.moved.0 (c.in-Fault-add_batch.ensures.went (mine ++ rows_of_batches so.so_far) so.rows_are.0)
     (λ is theirs one x told.
     let n = length c.deref.result.now in
     let le : length mine ≤ at = omega (arith, i.from_first, two.held_is) in
     let read = c.in-Ready.ensures.ready refl theirs (to_read_stays g.D.Disk.medium c.args.theirs.now _ _ theirs one i.stays) x (i.stays.reads ∙ told) in
     let five = up_to_five (drop at theirs) n (omega (arith, count, items, length-drop at theirs, c.len-count.ensures.rows theirs one.stands_for, c.len-count.ensures.len)) in
     front_of _ (drop (length mine) theirs) (at + n - length mine)
-    (next_joins mine theirs (rows_in so.so_far) c.deref.result.now at n le (is.1 theirs one x told) (c.deref.ensures.0 ∙ read ∙ sym five)))
+    (next_joins mine theirs (rows_of_batches so.so_far) c.deref.result.now at n le (is.1 theirs one x told) (c.deref.ensures.0 ∙ read ∙ sym five)))

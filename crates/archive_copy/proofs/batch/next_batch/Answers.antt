@@ -11,7 +11,7 @@ use Rattle.weather_book.proofs.Looks.{no_look}
 use Rattle.weather_book.proofs.Pieces.{more_reads}
 use Rattle.archive_copy.specs.Calls.{slots_end}
 use Rattle.archive_copy.proofs.Looks.{some_look}
-use Rattle.packed_rows.specs.Rising.{exceeds, last_after}
+use Rattle.packed_rows.specs.Rising.{stamp_exceeds, last_stamp_after}
 use Rattle.packed_rows.proofs.RowLaws.{last_join, rise_join, rise_tells}
 use Rattle.weather_book.proofs.Standing.{to_read_stays}
 use Rattle.archive_copy.proofs.NextRows.{breaks_batch, next_row, one_rises, up_to_five}
@@ -42,7 +42,7 @@ returns-then-not-exceeds-clause-out_of_order g c e rows stands x told =
     let here = c.in-Row.ensures.row rows (to_read_stays g.D.Disk.medium c.args.theirs.now _ _ rows stands i.stays) x (i.stays.reads ∙ told) in
     breaks_batch c.args.last rows at (c.loop-last.reader.at - at) row (omega (arith, c.loop-last-test.true, c.at-in-loop-last.ensures, c.at.ensures, c.min-end.ensures))
     (ap (slice_get rows) place ∙ here)
-    (ap (λ (xs : List Row). exceeds (last_after c.args.last xs) row.stamp) (sym (i.rows rows stands x told))
+    (ap (λ (xs : List Row). stamp_exceeds (last_stamp_after c.args.last xs) row.stamp) (sym (i.rows rows stands x told))
     ∙ rw (sym i.last) (sym c.exceeds.ensures ∙ c.if-not-exceeds.true))
 
 pub loop-last-preserved : goal.loop-last-preserved
@@ -55,7 +55,7 @@ loop-last-preserved g c =
       within = omega (arith, c.in-Row.ensures.at, c.loop-last-test.true, c.at-in-loop-last.ensures);
       count = omega (arith, ap length items, length_push c.loop-last.batch.items row, i.count, i.from_first, c.in-Row.ensures.at);
       last = rw items (sym (last_join c.args.last c.loop-last.batch.items (row ∷ [])));
-      up = rw items (rise_join c.args.last c.loop-last.batch.items (row ∷ []) i.up (one_rises c.loop-last.last (last_after c.args.last c.loop-last.batch.items) row i.last rises));
+      up = rw items (rise_join c.args.last c.loop-last.batch.items (row ∷ []) i.up (one_rises c.loop-last.last (last_stamp_after c.args.last c.loop-last.batch.items) row i.last rises));
       printable = rw items (All-push (λ (r : Row). All IsPrintable r.values) c.loop-last.batch.items row i.printable c.in-Row.ensures.printable);
       limited = rw items (All-push (λ (r : Row). AreMissing r.limited r.values) c.loop-last.batch.items row i.limited c.in-Row.ensures.limited);
       ahead = c.next.ensures.ahead;

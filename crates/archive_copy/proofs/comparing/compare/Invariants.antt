@@ -3,7 +3,7 @@ use Rattle.causes.specs.Told.{WhereTold}
 use Rattle.disk_model.specs.Disk.{Stays}
 use Rattle.station_base.specs.declared.row.Row.{Row}
 use Rattle.gated_log.specs.Calls.{Looked}
-use Rattle.weather_book.specs.Book.{StandsFor}
+use Rattle.weather_book.specs.Book.{BookStandsFor}
 use Rattle.packed_rows.specs.Rows.{slot_total}
 use Rattle.archive_copy.specs.Calls.{slots_end}
 use Rattle.weather_book.specs.Stands.{StandsToReadOn}
@@ -17,8 +17,8 @@ invariant-loop-at g l = record {
   to_stays : Stays g.E.Disk.medium l.initial.to l.to;
   from_faults : g.D.Disk.medium.faults l.initial.from ≤ g.D.Disk.medium.faults l.from;
   to_faults : g.E.Disk.medium.faults l.initial.to ≤ g.E.Disk.medium.faults l.to;
-  from_went : (rows : List Row) → StandsFor l.theirs rows → Looked g.D.Disk.medium (slots_end (slot_total rows)) false l.initial.from l.from;
-  to_went : (rows : List Row) → StandsFor l.mine rows → Looked g.E.Disk.medium (slots_end (slot_total rows)) false l.initial.to l.to;
+  from_went : (rows : List Row) → BookStandsFor l.theirs rows → Looked g.D.Disk.medium (slots_end (slot_total rows)) false l.initial.from l.from;
+  to_went : (rows : List Row) → BookStandsFor l.mine rows → Looked g.E.Disk.medium (slots_end (slot_total rows)) false l.initial.to l.to;
   same : (theirs_rows mine_rows : List Row) → StandsToReadOn g.D.Disk.medium l.theirs l.initial.from theirs_rows
       → StandsToReadOn g.E.Disk.medium l.mine l.initial.to mine_rows → WhereTold (g.D.Disk.medium.seen l.initial.from) (λ _.
       WhereTold (g.E.Disk.medium.seen l.initial.to) (λ _. take l.at mine_rows ≡ take l.at theirs_rows));

@@ -8,7 +8,7 @@ use Rattle.weather_book.proofs.Pieces.{more_reads}
 use Rattle.weather_book.specs.Stands.{HasRows, StandsOn}
 use Rattle.weather_book.proofs.Standing.{to_read_stays}
 use Rattle.archive_copy.specs.declared.end.CopyEnd.TheVariants.{FromDamaged, FromFault, NotPrefix, ToFault}
-use Rattle.archive_copy.specs.Adding.{HasSome, batches, next_rows, to_add}
+use Rattle.archive_copy.specs.Adding.{HasSome, batch_count, next_rows, to_add}
 use Rattle.archive_copy.specs.Answers.{CanBeAddedTo, CanBeCopied}
 use Rattle.archive_copy.proofs.Ends.{adding_adds, adding_answers, adding_undamaged, adding_moves, done_count, from_answers, from_moves, no_from_fault, no_to_fault, to_answers, to_moves}
 use Rattle.archive_copy.specs.Calls.{is_from_fault, is_to_fault}
@@ -227,4 +227,4 @@ returns-in-Front-clause-moved g c x told y told2 =
     adding_moves c.add_missing.result (m.moment c.args.to.now) (m.moment c.open_to.new.to) (m.moment c.add_missing.new.to) _ y stands.0 c.add_missing.ensures.kind (stands.2 y told2)
     (c.in-Ok-open_to.ensures.moved y told2)
     (λ e. let moved = c.add_missing.ensures.moved e in let held = stands.1.stands_for.held_is in
-    rw (sym held) (moved ∙ ap (λ n. n + 4 * batches (len_of c.in-Ok.book - len_of c.in-Ok-open_to.book)) c.compare.ensures.to_stays.at))
+    rw (sym held) (moved ∙ ap (λ n. n + 4 * batch_count (len_of c.in-Ok.book - len_of c.in-Ok-open_to.book)) c.compare.ensures.to_stays.at))

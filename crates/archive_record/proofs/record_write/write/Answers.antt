@@ -1,6 +1,6 @@
 use Rattle.std.proofs.Common.{◌≡◌, true, Some, is_some, slice_index, ◌∙◌, ap, sym, inr, arith, rules}
 use Rattle.std.proofs.lemmas.Bool.{false≢true}
-use Rattle.archive_record.specs.Writing.{Tells}
+use Rattle.archive_record.specs.Writing.{TellsRow}
 use Rattle.archive_record.proofs.Back.{told_can_all}
 use Rattle.archive_record.proofs.Holding.{can_hold_all-decides, can_tell-holds}
 use Rattle.archive_record.proofs.Rows.{reads_as_row, row_parts}
@@ -30,7 +30,7 @@ pub new-requires : goal.new-requires
 new-requires c =
     let row = c.args.row.now in
     let revision : slice_index c.put_word.new.bytes 42 ≡ 0 = c.put_word.ensures.others 42 (inr (omega arith)) in
-    let tells : Tells c.put_values.new.bytes row =
+    let tells : TellsRow c.put_values.new.bytes row =
     tells_made c.put_word.new.bytes c.put_word-2.new.bytes c.put_values.new.bytes row c.date_word.result c.time_word.result
     c.date_word.ensures.word c.time_word.ensures revision c.put_word.ensures.word c.put_word-2.ensures.word c.put_word-2.ensures.others
     c.in_ok-put_values.ensures.others c.in_ok-put_values.ensures.values in
@@ -40,7 +40,7 @@ pub returns-clause-read_back : goal.returns-clause-read_back
 returns-clause-read_back c =
     let row = c.args.row.now in
     let revision : slice_index c.put_word.new.bytes 42 ≡ 0 = c.put_word.ensures.others 42 (inr (omega arith)) in
-    let tells : Tells c.put_values.new.bytes row =
+    let tells : TellsRow c.put_values.new.bytes row =
     tells_made c.put_word.new.bytes c.put_word-2.new.bytes c.put_values.new.bytes row c.date_word.result c.time_word.result
     c.date_word.ensures.word c.time_word.ensures revision c.put_word.ensures.word c.put_word-2.ensures.word c.put_word-2.ensures.others
     c.in_ok-put_values.ensures.others c.in_ok-put_values.ensures.values in
@@ -50,7 +50,7 @@ pub returns-clause-written_back : goal.returns-clause-written_back
 returns-clause-written_back c bytes is_record read =
     let row = c.args.row.now in
     let revision : slice_index c.put_word.new.bytes 42 ≡ 0 = c.put_word.ensures.others 42 (inr (omega arith)) in
-    let tells : Tells c.put_values.new.bytes row =
+    let tells : TellsRow c.put_values.new.bytes row =
     tells_made c.put_word.new.bytes c.put_word-2.new.bytes c.put_values.new.bytes row c.date_word.result c.time_word.result
     c.date_word.ensures.word c.time_word.ensures revision c.put_word.ensures.word c.put_word-2.ensures.word c.put_word-2.ensures.others
     c.in_ok-put_values.ensures.others c.in_ok-put_values.ensures.values in

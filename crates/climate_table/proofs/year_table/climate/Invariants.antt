@@ -4,7 +4,7 @@ use Rattle.arrayvec.specs.ArrayVec.{array_vec_len}
 use Rattle.causes.specs.Told.{WhereTold}
 use Rattle.disk_model.specs.Disk.{Stays}
 use Rattle.station_base.specs.declared.row.Row.{Row}
-use Rattle.weather_book.specs.Book.{StandsFor}
+use Rattle.weather_book.specs.Book.{BookStandsFor}
 use Rattle.packed_rows.specs.Days.{days_of}
 use Rattle.gated_log.specs.Calls.{Looked}
 use Rattle.gated_log.specs.Layout.{slot_size}
@@ -25,11 +25,11 @@ invariant-loop-n g l = record {
   faults : g.K.Sink.outlet.faults l.out ≡ g.K.Sink.outlet.faults l.initial.out;
   disk : g.D.Disk.medium.faults l.initial.disk ≤ g.D.Disk.medium.faults l.disk;
   stays : Stays g.D.Disk.medium l.initial.disk l.disk;
-  went : (rows : List Row) → StandsFor l.book rows → Looked g.D.Disk.medium (slot_size * (slot_total rows + 1)) false l.initial.disk l.disk;
+  went : (rows : List Row) → BookStandsFor l.book rows → Looked g.D.Disk.medium (slot_size * (slot_total rows + 1)) false l.initial.disk l.disk;
   month : IfSome l.table.month (IsInYear l.year);
   whole : IfSome l.table.year (IsInYear l.year);
-  month_days : (rows : List Row) → StandsFor l.book rows → IfSome l.table.month (HasDaysAhead rows l.n);
-  year_days : (rows : List Row) → StandsFor l.book rows → IfSome l.table.year (HasDaysAhead rows l.n);
+  month_days : (rows : List Row) → BookStandsFor l.book rows → IfSome l.table.month (HasDaysAhead rows l.n);
+  year_days : (rows : List Row) → BookStandsFor l.book rows → IfSome l.table.year (HasDaysAhead rows l.n);
   lines : (rows : List Row) → StandsToReadOn g.D.Disk.medium l.book l.initial.disk rows
       → WhereTold (g.D.Disk.medium.seen l.initial.disk) (λ _. (begun : List ℤ) × (days : List ℤ)
       × IsSpan rows begun l.table.month × IsSpan rows days l.table.year

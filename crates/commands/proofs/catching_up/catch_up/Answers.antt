@@ -1,5 +1,5 @@
 use Rattle.std.proofs.Common.{refl, sym, subst, ◌∙◌, rules}
-use Rattle.weather_book.specs.Book.{StandsFor}
+use Rattle.weather_book.specs.Book.{BookStandsFor}
 use Rattle.weather_book.specs.declared.book.Book.{Book}
 use Rattle.run_output.proofs.Behind.{ended, went_on}
 use Rattle.commands.proofs.catching_up.catch_up.Goals as goal
@@ -36,7 +36,7 @@ returns-in_err-connect g c =
 pub returns : goal.returns
 returns g c =
     let has = c.in_ok-book.ensures.to_write in
-    let stands = subst (λ (book : Book). StandsFor book has.0) (sym c.new-session.ensures.book) has.1.stands_for in
+    let stands = subst (λ (book : Book). BookStandsFor book has.0) (sym c.new-session.ensures.book) has.1.stands_for in
     let e = c.round-end.ensures in
     went_on _ _ _ _ _ _ _ _ (c.settle.ensures, refl) c.in_ok-settings.was
     (went_on _ _ _ _ _ _ _ _ (c.attach.ensures, refl) c.in_ok-attach.was

@@ -2,12 +2,12 @@ use Rattle.std.proofs.Common.{append_assoc, rules}
 use Rattle.std.proofs.lemmas.Int.{to_z-of_z}
 use Rattle.std.specs.Int.{w16}
 use Rattle.std.specs.Prelude.{FitsSigned}
-use Rattle.commands.specs.TaskText.{numbers_line}
+use Rattle.commands.specs.TaskText.{packet_numbers_line}
 use Rattle.commands.proofs.PacketLines.{packet_shown}
 use Rattle.commands.proofs.task_text.push_packet.Goals as goal
 
 pub returns-clause-line : goal.returns-clause-line
-unfolding numbers_line
+unfolding packet_numbers_line
 returns-clause-line c =
     let packet = c.args.packet.now in
     let inside : FitsSigned w16 packet.in_temp = search rules in

@@ -1,5 +1,5 @@
 use Rattle.std.proofs.Common.{◌≡◌, ℕ, suc, ◌+◌, ◌-◌, sym, ap, ◌∙◌, subst, arith}
-use Rattle.console_model.specs.Standing.{StandsFor}
+use Rattle.console_model.specs.Standing.{ConsoleStandsFor}
 use Rattle.console_model.specs.Tick.{tick}
 use Rattle.console_server.specs.Ready.{ticked}
 use Rattle.console_server.proofs.readying.pass_ticks.Goals as goal
@@ -14,4 +14,4 @@ pub returns : goal.returns
 returns c = λ k stands.
     let at = c.loop.invariant k stands in
     let none : c.args.ticks - c.loop.counter ≡ 0 = omega (arith, c.loop-test.false) in
-    subst (StandsFor c.loop.console) (sym (ap (λ (n : ℕ). ticked n at.0) none) ∙ at.2) at.1
+    subst (ConsoleStandsFor c.loop.console) (sym (ap (λ (n : ℕ). ticked n at.0) none) ∙ at.2) at.1

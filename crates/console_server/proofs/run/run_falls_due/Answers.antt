@@ -1,6 +1,6 @@
 use Rattle.std.proofs.Common.{◌≡◌, ℕ, suc, ◌+◌, ◌-◌, List, [], ◌∷◌, Option, Some, None, sym, ap, ◌∙◌, subst, arith}
 use Rattle.console_model.specs.Due.{due}
-use Rattle.console_model.specs.Standing.{StandsFor}
+use Rattle.console_model.specs.Standing.{ConsoleStandsFor}
 use Rattle.station_sim.specs.Line.{due_all}
 use Rattle.archive_record.specs.MovedOn.{moved_on}
 use Rattle.console_server.specs.Runs.{run_from}
@@ -15,7 +15,7 @@ returns-in_default c = λ k stands.
     let some : count ≡ suc (c.args.count - (c.loop.counter + 1)) = omega (arith, c.loop-test.true) in
     let ended : run_from period c.loop.next count ≡ [] =
     ap (λ (next : Option (List ℕ)). run_from period next count) c.in_default.is ∙ ap (run_from period None) some in
-    subst (StandsFor c.loop.console) (sym (ap (λ (rs : List (List ℕ)). due_all rs at.0) ended) ∙ at.2) at.1
+    subst (ConsoleStandsFor c.loop.console) (sym (ap (λ (rs : List (List ℕ)). due_all rs at.0) ended) ∙ at.2) at.1
 
 pub loop-preserved : goal.loop-preserved
 loop-preserved c = λ k stands.
@@ -37,4 +37,4 @@ returns c = λ k stands.
     let at = c.loop.invariant k stands in
     let none : c.args.count - c.loop.counter ≡ 0 = omega (arith, c.loop-test.false) in
     let ended = ap (run_from c.args.period c.loop.next) none ∙ none_left c.args.period c.loop.next in
-    subst (StandsFor c.loop.console) (sym (ap (λ (rs : List (List ℕ)). due_all rs at.0) ended) ∙ at.2) at.1
+    subst (ConsoleStandsFor c.loop.console) (sym (ap (λ (rs : List (List ℕ)). due_all rs at.0) ended) ∙ at.2) at.1

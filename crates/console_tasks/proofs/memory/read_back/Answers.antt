@@ -2,7 +2,7 @@ use Rattle.std.proofs.Common.{◌≡◌, ◌+◌, ◌-◌, [], ◌∷◌, length
 use Rattle.console_tasks.specs.Exchange.{ack_frame}
 use Rattle.console_tasks.specs.TaskTalk.{Exchanges, Fails}
 use Rattle.console_tasks.specs.Tasks.{reading_back}
-use Rattle.console_tasks.specs.Parts.{Completes}
+use Rattle.console_tasks.specs.Parts.{TaskCompletes}
 use Rattle.serial_link.proofs.Joining.{talks_as}
 use Rattle.console_tasks.proofs.Troubles.{talks_shown}
 use Rattle.console_tasks.proofs.Finishing.{fails_as}
@@ -28,6 +28,6 @@ returns g c =
     let size : length answer ≡ length sent + 3 = c.ask_bytes.ensures.size in
     let one : length sent + 1 - 1 ≡ length sent = omega arith in
     let read = take (length sent + 1 - 1) (drop 1 answer) in
-    talks_shown r (Completes (Exchanges (reading_back c.args.at sent ∷ [])) (λ done. ack_frame sent ∷ []) r)
+    talks_shown r (TaskCompletes (Exchanges (reading_back c.args.at sent ∷ [])) (λ done. ack_frame sent ∷ []) r)
     (compared_trouble c.args.at sent read r c.compare.ensures) c.in_ok-ask_bytes.ensures.talk
     (λ t k. back_finishes c.args.at _ sent answer read r t refl size (ap (λ m. take m (drop 1 answer)) one) c.compare.ensures k)

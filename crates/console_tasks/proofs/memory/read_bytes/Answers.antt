@@ -3,7 +3,7 @@ use Rattle.serial_link.proofs.Joining.{talks_as}
 use Rattle.console_tasks.specs.Exchange.{ack_frame}
 use Rattle.console_tasks.specs.TaskTalk.{Exchanges, Fails}
 use Rattle.console_tasks.specs.Tasks.{reading_memory}
-use Rattle.console_tasks.specs.Parts.{Completes}
+use Rattle.console_tasks.specs.Parts.{TaskCompletes}
 use Rattle.console_tasks.proofs.Finishing.{task_err, task_done}
 use Rattle.console_tasks.proofs.Reading.{read_done, read_fails}
 use Rattle.console_tasks.proofs.memory.read_bytes.Goals as goal
@@ -26,7 +26,7 @@ returns-clause-task g c =
     let size : length answer ≡ n + 3 = c.ask_bytes.ensures.size in
     let one : n + 1 - 1 ≡ n = omega arith in
     let answers = λ (done : Unit {0}). ack_frame into ∷ [] in
-    let two = talks_as (Completes (Exchanges (reading_memory c.args.at n)) answers (Ok tt)) c.in_ok-ask_bytes.ensures.talk
+    let two = talks_as (TaskCompletes (Exchanges (reading_memory c.args.at n)) answers (Ok tt)) c.in_ok-ask_bytes.ensures.talk
     (λ f. f) (λ f. f)
     (λ t k. read_done c.args.at n _ answer into t refl size
     (c.copy_from_slice.ensures.after ∙ ap (λ m. take m (drop 1 answer)) one) k) in

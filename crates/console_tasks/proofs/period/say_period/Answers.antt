@@ -3,7 +3,7 @@ use Rattle.vantage_frames.specs.declared.command.Command.TheVariants.{SetPeriod}
 use Rattle.serial_link.proofs.Joining.{talks_as}
 use Rattle.console_tasks.specs.Exchange.{command, ack_frame}
 use Rattle.console_tasks.specs.TaskTalk.{Exchanges}
-use Rattle.console_tasks.specs.Parts.{Completes}
+use Rattle.console_tasks.specs.Parts.{TaskCompletes}
 use Rattle.console_tasks.specs.Tasks.{said_line, reading_back, setting_period}
 use Rattle.console_tasks.proofs.Finishing.{task_err, task_tail, ends_here, command_finishes}
 use Rattle.console_tasks.proofs.period.say_period.Goals as goal
@@ -22,8 +22,8 @@ returns g c =
     let r = c.read_back.result in
     let p = c.args.period in
     let answers = λ (done : Unit {0}). ack_frame (p ∷ []) ∷ [] in
-    let last = talks_as (Completes (Exchanges (reading_back 0x2D (p ∷ []) ∷ [])) answers r) c.read_back.ensures (λ f. f) (λ f. f)
-    (λ t k. subst (λ m. Completes (Exchanges (reading_back 0x2D (m ∷ []) ∷ []))
+    let last = talks_as (TaskCompletes (Exchanges (reading_back 0x2D (p ∷ []) ∷ [])) answers r) c.read_back.ensures (λ f. f) (λ f. f)
+    (λ t k. subst (λ m. TaskCompletes (Exchanges (reading_back 0x2D (m ∷ []) ∷ []))
     (λ (done : Unit {0}). ack_frame (m ∷ []) ∷ []) r t) c.minutes.ensures.minutes k) in
     task_tail (setting_period p) c.in_ok-start.field-0 c.in_ok-start.ensures _ r
     (command_finishes (said_line (SetPeriod p))

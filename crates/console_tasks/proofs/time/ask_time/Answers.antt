@@ -7,7 +7,7 @@ use Rattle.console_tasks.specs.Exchange.{ack_frame}
 use Rattle.console_tasks.specs.Clock.{judge_clock}
 use Rattle.console_tasks.specs.TaskTalk.{Exchanges, Fails}
 use Rattle.console_tasks.specs.Tasks.{said_line, asking_time}
-use Rattle.console_tasks.specs.Parts.{Completes, FrameReplies}
+use Rattle.console_tasks.specs.Parts.{TaskCompletes, FrameReplies}
 use Rattle.console_tasks.proofs.Troubles.{talks_shown}
 use Rattle.console_tasks.proofs.Finishing.{task_err, task_tail}
 use Rattle.console_tasks.proofs.Reading.{clock_finishes, clock_trouble}
@@ -32,7 +32,7 @@ returns-clause-task g c =
     let said : c.deref.result.now ≡ said_line TimeGet = search rules in
     let size : length answer ≡ 9 = omega (arith, c.ask_frame.auto.answer) in
     let answers = λ (time : ClockTime). ack_frame (clock_bytes time) ∷ [] in
-    let two = talks_shown r (Completes (Exchanges asking_time) answers r)
+    let two = talks_shown r (TaskCompletes (Exchanges asking_time) answers r)
     (clock_trouble bytes r c.read_clock.ensures.judged) c.in_ok-ask_frame.ensures
     (λ t k. clock_finishes answer bytes r t size refl c.read_clock.ensures.judged
     (subst (λ (x : List ℕ). FrameReplies x 6 answer (Ok tt) t) said k)) in

@@ -7,7 +7,7 @@ use Rattle.vantage_frames.specs.Ack.{ack}
 use Rattle.console_tasks.specs.Exchange.{command}
 use Rattle.console_tasks.specs.TaskTalk.{Exchanges}
 use Rattle.console_tasks.specs.Tasks.{said_line, setting_time}
-use Rattle.console_tasks.specs.Parts.{Commands, Completes}
+use Rattle.console_tasks.specs.Parts.{Commands, TaskCompletes}
 use Rattle.console_tasks.proofs.Finishing.{task_err, task_tail, ends_here, command_finishes, last_command}
 use Rattle.console_tasks.proofs.time.say_time.Goals as goal
 
@@ -26,7 +26,7 @@ returns g c =
     let bytes = clock_bytes c.args.time.now in
     let said : c.clock_bytes.result ≡ bytes = search rules in
     let answers = λ (done : Unit {0}). ack ∷ [] in
-    let last = talks_as (Completes (Exchanges (command (sealed bytes) ∷ [])) answers r) c.say_frame.ensures (λ f. f) (λ f. f)
+    let last = talks_as (TaskCompletes (Exchanges (command (sealed bytes) ∷ [])) answers r) c.say_frame.ensures (λ f. f) (λ f. f)
     (λ t k. last_command (sealed bytes) r t (subst (λ (x : List ℕ). Commands (sealed x) r t) said k)) in
     task_tail (setting_time c.args.time.now) c.in_ok-start.field-0 c.in_ok-start.ensures _ r
     (command_finishes (said_line TimeSet)

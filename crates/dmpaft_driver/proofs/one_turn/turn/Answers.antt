@@ -1,11 +1,11 @@
 use Rattle.serial_link.specs.Talk.{message}
 use Rattle.serial_link.specs.declared.talk.TalkItem.{TalkItem}
-use Rattle.dmpaft_pump.specs.Shown.{Shows, said_at}
+use Rattle.dmpaft_pump.specs.Shown.{PumpShows, said_at}
 use Rattle.dmpaft_pump.specs.Pump.{pump_from}
 use Rattle.std.proofs.Common.{◌≡◌, ℕ, ◌<◌, [], ◌∷◌, List, length, sym, ◌∙◌, ap, subst, refl, inl, inr, arith}
 use Rattle.serial_link.proofs.Growing.{adds_none}
 use Rattle.dmpaft_pump.specs.Keeper.{Handed, one_batch, count, last_kept}
-use Rattle.dmpaft_pump.specs.Pump.{State}
+use Rattle.dmpaft_pump.specs.Pump.{AttemptState}
 use Rattle.dmpaft_driver.specs.Standing.{gives}
 use Rattle.dmpaft_driver.proofs.Cutting.{some_words, stays_saying, says_saying, listened, keeps_same, last_same, not_keeping_said, not_keeping_heard}
 use Rattle.dmpaft_pump.proofs.Keeping.{one_size, one_some}
@@ -83,7 +83,7 @@ pub returns-in-Keep-clause-turns : goal.returns-in-Keep-clause-turns
 returns-in-Keep-clause-turns g c = λ start after s h.
     let tells = c.in-Keep.ensures.tells start after s h in
     let answer = c.keep-answer.result in
-    let given : one_batch answer c.in-Keep.rows.now ≡ gives after s (answer ∷ []) = ap (λ (y : List (List ℕ)). one_batch answer y) tells.5 ∙ ap (λ (y : State). gives after y (answer ∷ [])) (sym tells.4) in
+    let given : one_batch answer c.in-Keep.rows.now ≡ gives after s (answer ∷ []) = ap (λ (y : List (List ℕ)). one_batch answer y) tells.5 ∙ ap (λ (y : AttemptState). gives after y (answer ∷ [])) (sym tells.4) in
     record {
       said = [];
       answers = answer ∷ [];
@@ -125,7 +125,7 @@ returns-in-Done-clause-turns g c = λ start after s h.
       newest = last_same g.K.Keeper.ledger after s k;
       few = omega arith;
       turns = (
-        subst (λ (y : List TalkItem). Shows start after (pump_from after s y []) c.said.new.self) (sym (said.1 ∙ ap message words)) (c.said.ensures.shows start after s h),
+        subst (λ (y : List TalkItem). PumpShows start after (pump_from after s y []) c.said.new.self) (sym (said.1 ∙ ap message words)) (c.said.ensures.shows start after s h),
         inl (refl, inl (c.as_slice.result.now, some_words c.as_slice.result.now (subst (λ (y : List ℕ). 0 < length y) (sym c.as_slice.ensures.value) allows.1), inl said.1)),
       );
     }

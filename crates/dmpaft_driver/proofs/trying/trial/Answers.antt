@@ -3,8 +3,8 @@ use Rattle.std.proofs.Common.{◌≡◌, ◌-◌, ℕ, [], ◌++◌, List, lengt
 use Rattle.serial_link.specs.declared.talk.TalkItem.{TalkItem}
 use Rattle.dmpaft_pump.specs.Pump.{Settling, begun, pump_from}
 use Rattle.dmpaft_pump.specs.Shown.{no_tally}
-use Rattle.dmpaft_driver.specs.Trial.{Tried}
-use Rattle.dmpaft_driver.specs.Trying.{StopsAt, later}
+use Rattle.dmpaft_driver.specs.Trial.{TalkIsTried}
+use Rattle.dmpaft_driver.specs.Trying.{TrialStopsAt, later}
 use Rattle.dmpaft_driver.proofs.Dumping.{shown_no_astray}
 use Rattle.dmpaft_driver.proofs.Trials.{tried, tries_on, drop_front}
 use Rattle.dmpaft_driver.proofs.trying.trial.Goals as goal
@@ -39,8 +39,8 @@ returns-in-Err c =
     let a = c.args.after in
     let talk = c.args.talk.now in
     let left : take (length talk - c.steps.at) (drop c.steps.at talk) ≡ i.1 = left_of_talk talk i.0 i.1 c.steps.at i.4 i.5 in
-    let stops = subst (λ (y : List TalkItem). StopsAt a i.3 y c.in-Err.end) left (c.in-Err.ensures.steps no_tally a i.3 i.8) in
+    let stops = subst (λ (y : List TalkItem). TrialStopsAt a i.3 y c.in-Err.end) left (c.in-Err.ensures.steps no_tally a i.3 i.8) in
     record {
-      tried = subst (λ y. Tried a talk y) (sym c.behind.ensures) (subst (λ n. Tried a talk (later n c.in-Err.end)) i.5
+      tried = subst (λ y. TalkIsTried a talk y) (sym c.behind.ensures) (subst (λ n. TalkIsTried a talk (later n c.in-Err.end)) i.5
           (tried a talk i.0 i.1 i.2 i.3 i.4 i.6 i.7 (shown_no_astray no_tally a i.3 c.steps.pump i.8) c.in-Err.end stops));
     }

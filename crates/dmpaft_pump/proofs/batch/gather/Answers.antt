@@ -4,7 +4,7 @@ use Rattle.vantage_frames.specs.Slots.{slot_at}
 use Rattle.archive_record.specs.Reading.{stamp_in}
 use Rattle.station_base.specs.LastStamp.{exceeds}
 use Rattle.dmpaft_pump.specs.Slot.{is_record, is_skipped}
-use Rattle.dmpaft_pump.specs.Batch.{slots}
+use Rattle.dmpaft_pump.specs.Batch.{slots_in_page}
 use Rattle.station_base.specs.LastStamp.{last_stamp}
 use Rattle.dmpaft_pump.proofs.Rows.{last_snoc, going_newer, going_past, going_skipped, going_as, older, no_record}
 use Rattle.dmpaft_pump.proofs.batch.gather.Goals as goal
@@ -15,13 +15,13 @@ loop-place-preserved c =
     let i = c.loop-place.invariant in
     let a = c.args.last.now in
     let page = c.args.page.now in
-    let all = slots c.args.from page in
+    let all = slots_in_page c.args.from page in
     let rows = c.loop-place.batch in
     let b = c.loop-place.last in
     let n = c.loop-place.skipped in
     let place = c.loop-place.place in
     let at = c.slot.ensures in
-    let left = slots (place + 1) page in
+    let left = slots_in_page (place + 1) page in
     elim c.match-read_slot.branch [
       | in-Record+then-is_after w ↦
           let slot : w.in-Record.record ≡ slot_at page place = w.in-Record.ensures.2 ∙ at in

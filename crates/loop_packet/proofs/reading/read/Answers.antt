@@ -1,18 +1,18 @@
 use Rattle.std.proofs.Common.{◌≡◌, ◌≤◌, ◌-◌, ◌∙◌, length, take, arith, rules, refl, ap}
 use Rattle.std.specs.Prelude.{Ok}
 use Rattle.crc_ccitt.specs.Check.{sealed}
-use Rattle.loop_packet.specs.Reading.{Tells}
+use Rattle.loop_packet.specs.Reading.{TellsPacket}
 use Rattle.loop_packet.proofs.Inverse.{tells_one, written_again}
 use Rattle.loop_packet.proofs.reading.read.Goals as goal
 
 pub returns-clause-only : goal.returns-clause-only
 returns-clause-only c packet asked =
-    let told : Tells c.args.bytes.now (Ok c.fields.result) = search rules in
+    let told : TellsPacket c.args.bytes.now (Ok c.fields.result) = search rules in
     tells_one c.args.bytes.now (Ok c.fields.result) packet told asked
 
 pub returns-clause-again : goal.returns-clause-again
 returns-clause-again c =
-    let told : Tells c.args.bytes.now (Ok c.fields.result) = search rules in
+    let told : TellsPacket c.args.bytes.now (Ok c.fields.result) = search rules in
     let long : length c.args.bytes.now ≡ 99 = search rules in
     let two : 2 ≤ length c.args.bytes.now = omega arith in
     let body : length c.args.bytes.now - 2 ≡ 97 = omega arith in

@@ -4,7 +4,7 @@ use Rattle.std.specs.Int.{w8, w16}
 use Rattle.std.specs.Prelude.{FitsSigned, Ok}
 use Rattle.loop_packet.specs.Layout.{layout, values}
 use Rattle.loop_packet.specs.Part.{signed_byte_of, word_of, signed_word_of}
-use Rattle.loop_packet.specs.Reading.{Tells, packet_bytes, frame_of}
+use Rattle.loop_packet.specs.Reading.{TellsPacket, packet_bytes, frame_of}
 use Rattle.loop_packet.proofs.InOrder.{AreOf}
 use Rattle.loop_packet.proofs.Inverse.{told_of_packet}
 use Rattle.loop_packet.proofs.Pieces.{joins, keeps, keeps_byte}
@@ -165,5 +165,5 @@ returns-clause-told c =
       ),
     )
     in
-    let P : List ℕ → Type 0 = λ bytes. Tells bytes (Ok packet) in
+    let P : List ℕ → Type 0 = λ bytes. TellsPacket bytes (Ok packet) in
     subst P (sym (written c)) (told_of_packet packet are)

@@ -2,8 +2,8 @@ use Rattle.std.proofs.Common.{◌≡◌, ◌+◌, ◌-◌, ◌++◌, ℕ, suc, t
 use Rattle.station_base.proofs.Minutes.{last_minute_number}
 use Rattle.schedule_file.specs.declared.schedule.step.Step as code_step
 use Rattle.schedule_file.specs.declared.schedule.step.Step.TheVariants as code
-use Rattle.schedule_file.specs.Steps.{Step, step_seen, steps_seen}
-use Rattle.draws.specs.Draws.{next}
+use Rattle.schedule_file.specs.Steps.{ScheduleStep, step_seen, steps_seen}
+use Rattle.draws.specs.Draws.{next_draw}
 use Rattle.made_run.specs.Made.{after_kind, after_rounds, is_round, kind_drawn, made_steps, round_of, rounds_behind, steps_from}
 use Rattle.made_run.proofs.Falling.{first_due_number}
 use Rattle.made_run.proofs.Stepwise.{due_seen, record_made, round_made}
@@ -29,15 +29,15 @@ loop-number-preserved c =
             let r = w.in_ok-drawn_round.field-0 in
             let items : c.if-is_round.steps.items ≡ (xs ++ code.Due c.drawn_record.result ∷ []) ++ r ∷ [] =
             ap (λ s. s.items) w.steps-is ∙ w.in_ok-push-2.ensures.items ∙ ap (λ (z : List code_step.Step). z ++ r ∷ []) c.in_ok-push.ensures.items in
-            let round : step_seen 5 r ∷ [] ≡ rounds_behind true (next (next y)) =
-            ap (λ (s : Step). s ∷ []) (w.in_ok-drawn_round.ensures.step 5 ∙ ap (λ (n : ℕ). round_of (kind_drawn n) (next n)) c.drawn_record.ensures.draws) in
-            let drew : c.if-is_round.draws.number ≡ after_rounds true (next (next y)) =
-            ap (λ d. d.number) w.draws-is ∙ w.in_ok-drawn_round.ensures.draws ∙ ap (λ (n : ℕ). after_kind (kind_drawn n) (next n)) c.drawn_record.ensures.draws in
+            let round : step_seen 5 r ∷ [] ≡ rounds_behind true (next_draw (next_draw y)) =
+            ap (λ (s : ScheduleStep). s ∷ []) (w.in_ok-drawn_round.ensures.step 5 ∙ ap (λ (n : ℕ). round_of (kind_drawn n) (next_draw n)) c.drawn_record.ensures.draws) in
+            let drew : c.if-is_round.draws.number ≡ after_rounds true (next_draw (next_draw y)) =
+            ap (λ d. d.number) w.draws-is ∙ w.in_ok-drawn_round.ensures.draws ∙ ap (λ (n : ℕ). after_kind (kind_drawn n) (next_draw n)) c.drawn_record.ensures.draws in
             ap (λ (z : List code_step.Step). steps_seen 5 z ++ steps_from left (number + 1) c.if-is_round.draws.number) items
             ∙ round_made xs (code.Due c.drawn_record.result) r left number y c.if-is_round.draws.number (made_steps c.args.seed c.args.count) due (sym test ∙ w.if-is_round.true) round drew made
         | else-is_round w ↦
             let items : c.if-is_round.steps.items ≡ xs ++ code.Due c.drawn_record.result ∷ [] = ap (λ s. s.items) w.steps-is ∙ c.in_ok-push.ensures.items in
-            let drew : c.if-is_round.draws.number ≡ next (next y) = ap (λ d. d.number) w.draws-is ∙ c.drawn_record.ensures.draws in
+            let drew : c.if-is_round.draws.number ≡ next_draw (next_draw y) = ap (λ d. d.number) w.draws-is ∙ c.drawn_record.ensures.draws in
             ap (λ (z : List code_step.Step). steps_seen 5 z ++ steps_from left (number + 1) c.if-is_round.draws.number) items
             ∙ ap (λ (n : ℕ). steps_seen 5 (xs ++ code.Due c.drawn_record.result ∷ []) ++ steps_from left (number + 1) n) drew
             ∙ record_made xs (code.Due c.drawn_record.result) left number y (made_steps c.args.seed c.args.count) due (sym test ∙ w.if-is_round.false) made

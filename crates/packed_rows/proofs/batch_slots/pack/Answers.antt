@@ -2,8 +2,8 @@ use Rattle.std.proofs.Common.{◌≡◌, ◌+◌, ◌≤◌, ◌++◌, List, ℕ
 use Rattle.std.proofs.lemmas.List.{drop_all, take_all}
 use Rattle.station_base.specs.CivilMinute.{CivilMinute}
 use Rattle.row_slot.specs.Slot.{slot_of}
-use Rattle.packed_rows.specs.Closing.{closing}
-use Rattle.packed_rows.specs.Rising.{rise}
+use Rattle.packed_rows.specs.Closing.{closing_before}
+use Rattle.packed_rows.specs.Rising.{rows_rise}
 use Rattle.packed_rows.specs.Rows.{slots_after}
 use Rattle.packed_rows.specs.Tail.{EndsRows}
 use Rattle.std.specs.Prelude.{All}
@@ -51,12 +51,12 @@ loop-row-preserved c =
       slots = λ before ends.
           let b = before ++ take at rows in
           ap (λ (x : List ℕ). x ++ joined_slots (slots_after (before ++ take (at + 1) rows) (drop (at + 1) rows))) (c.push_row.ensures.slots b (i.ends before ends))
-          ∙ append_assoc c.loop-row.slots.items (joined_slots (closing b row ++ slot_of row ∷ [])) (joined_slots (slots_after (before ++ take (at + 1) rows) (drop (at + 1) rows)))
-          ∙ ap (λ (r : List Row). c.loop-row.slots.items ++ (joined_slots (closing b row ++ slot_of row ∷ []) ++ joined_slots (slots_after r (drop (at + 1) rows))))
+          ∙ append_assoc c.loop-row.slots.items (joined_slots (closing_before b row ++ slot_of row ∷ [])) (joined_slots (slots_after (before ++ take (at + 1) rows) (drop (at + 1) rows)))
+          ∙ ap (λ (r : List Row). c.loop-row.slots.items ++ (joined_slots (closing_before b row ++ slot_of row ∷ []) ++ joined_slots (slots_after r (drop (at + 1) rows))))
           (sym (append_assoc before (take at rows) (row ∷ []) ∙ ap (λ (r : List Row). before ++ r) (front_at rows at row lt is)))
           ∙ ap (λ (x : List ℕ). c.loop-row.slots.items ++ x) (sym (packed_at rows at row lt is b)) ∙ i.slots before ends;
       size = omega (arith, i.size, c.push_row.ensures.length);
-      rising = ap (λ (o : Option CivilMinute). rise o (drop (at + 1) rows)) c.push.ensures.last ∙ rises_on rows at row lt is c.loop-row.end.last i.rising;
+      rising = ap (λ (o : Option CivilMinute). rows_rise o (drop (at + 1) rows)) c.push.ensures.last ∙ rises_on rows at row lt is c.loop-row.end.last i.rising;
       read_back = read_back_at rows at row lt is i.read_back c.push_row.ensures.read_back;
     }
 

@@ -1,6 +1,6 @@
 use Rattle.std.proofs.Common.{rules, ◌≡◌, length, sym, ap, ◌∙◌, arith}
 use Rattle.station_base.specs.CivilMinute.{CivilMinute}
-use Rattle.row_slot.specs.Slot.{row_in}
+use Rattle.row_slot.specs.Slot.{row_in_slot}
 use Rattle.std.specs.Prelude.{Option}
 use Rattle.gated_log.specs.Layout.{slot_size}
 use Rattle.packed_rows.specs.Closing.{closings, begins_day}
@@ -37,4 +37,4 @@ returns-clause-length c =
 
 pub returns-clause-read_back : goal.returns-clause-read_back
 returns-clause-read_back c = let long : length c.write-slot.result ≡ slot_size = search rules in
-    record { back = ap row_in (sym c.write-slot.ensures.bytes) ∙ c.write-slot.ensures.read_back; size = ap length (sym c.write-slot.ensures.bytes) ∙ long }
+    record { back = ap row_in_slot (sym c.write-slot.ensures.bytes) ∙ c.write-slot.ensures.read_back; size = ap length (sym c.write-slot.ensures.bytes) ∙ long }

@@ -1,7 +1,7 @@
 use Rattle.std.proofs.Common.{◌-◌, List}
 use Rattle.station_base.specs.declared.row.Row.{Row}
 use Rattle.weather_reports.specs.Report.{later_lines}
-use Rattle.query_service.specs.Answers.{last_line}
+use Rattle.query_service.specs.Answers.{last_row_line}
 use Rattle.query_service.proofs.WrittenAnswer.{last_of, replies_report}
 use Rattle.query_service.proofs.reply.say_last.Goals as goal
 
@@ -9,5 +9,5 @@ pub returns : goal.returns
 returns g c =
     let e = c.rows_from.ensures in
     replies_report g.K.Sink.outlet g.D.Disk.medium c.args.book.now (λ (rows : List Row). later_lines (c.len-count.result - 1) rows) c.rows_from.result
-    c.args.disk.now _ c.args.out.now _ e.wrote e.stays e.went e.disk_fault e.write_fault e.sink_still last_line
+    c.args.disk.now _ c.args.out.now _ e.wrote e.stays e.went e.disk_fault e.write_fault e.sink_still last_row_line
     (λ rows stands. last_of c.len-count.result rows c.if-count-eq0.false (c.len-count.ensures.rows rows stands))

@@ -1,5 +1,5 @@
 use Rattle.std.proofs.Common.{◌+◌, ◌∷◌, [], refl, subst, sym, arith}
-use Rattle.query_service.specs.Service.{Serves}
+use Rattle.query_service.specs.Service.{ServesQueries}
 use Rattle.query_service.specs.Turns.{AnswersBytes}
 use Rattle.query_service.specs.declared.service.QueryEnd.{QueryEnd}
 use Rattle.query_service.specs.declared.service.QueryEnd.TheVariants.{Done}
@@ -16,7 +16,7 @@ returns-then-byte-ne-LINE_FEED-clause-serves g c =
 pub returns-in-Done-clause-serves : goal.returns-in-Done-clause-serves
 returns-in-Done-clause-serves g c =
     let m = g.D.Disk.medium in let book = c.args.book.now in
-    subst (λ (end : QueryEnd). Serves g.L.Link.traffic m book end (AnswersBytes m book c.args.disk.now end (c.args.byte ∷ []) c.args.line.now.items c.clear.new.self.items
+    subst (λ (end : QueryEnd). ServesQueries g.L.Link.traffic m book end (AnswersBytes m book c.args.disk.now end (c.args.byte ∷ []) c.args.line.now.items c.clear.new.self.items
     c.args.count.now.lines (c.args.count.now.lines + 1)) c.args.link.now c.answer-end.new.link c.args.disk.now c.answer-end.new.disk) (sym c.in-Done.is)
     (serves_as g.L.Link.traffic m book Done _ _ c.args.link.now c.answer-end.new.link c.args.disk.now c.answer-end.new.disk (rw c.deref.ensures.0 at c.in-Done.ensures)
     (λ t one. line_answered m book c.args.disk.now c.args.byte c.args.line.now.items c.clear.new.self.items c.args.count.now.lines (c.args.count.now.lines + 1) t

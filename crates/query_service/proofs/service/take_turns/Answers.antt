@@ -1,5 +1,5 @@
 use Rattle.std.proofs.Common.{ℕ, ◌≡◌, ◌+◌, refl, subst, arith}
-use Rattle.query_service.specs.Service.{Serves}
+use Rattle.query_service.specs.Service.{ServesQueries}
 use Rattle.query_service.specs.Turns.{TakesTurns}
 use Rattle.query_service.specs.declared.service.QueryEnd.TheVariants.{Done, LinkFault, DiskFault, OutOfMemory}
 use Rattle.query_service.proofs.Joined.{serves_none}
@@ -50,5 +50,5 @@ pub returns : goal.returns
 returns g c =
     let m = g.D.Disk.medium in let book = c.args.book.now in
     let all : c.loop.counter ≡ c.args.turns = omega (arith, c.loop-test.false, c.loop.invariant.within) in
-    subst (λ (turns : ℕ). Serves g.L.Link.traffic m book Done (TakesTurns m book c.args.disk.now Done turns c.args.line.now.items c.loop.line.items
+    subst (λ (turns : ℕ). ServesQueries g.L.Link.traffic m book Done (TakesTurns m book c.args.disk.now Done turns c.args.line.now.items c.loop.line.items
     c.args.count.now.lines c.loop.count.lines) c.args.link.now c.loop.link c.args.disk.now c.loop.disk) all c.loop.invariant.serves

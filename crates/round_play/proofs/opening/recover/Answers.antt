@@ -2,7 +2,7 @@ use Rattle.std.proofs.Common.{◌≡◌, ◌∙◌, ap, subst, inl, inr, arith}
 use Rattle.disk_model.specs.Disk.{stays_none}
 use Rattle.disk_model.specs.Stopping.{stopping_medium, stopping_state_of}
 use Rattle.weather_book.specs.Book.{slots_of_book}
-use Rattle.weather_book.specs.Start.{is_fault, slots_found}
+use Rattle.weather_book.specs.Start.{is_book_fault, book_slots_found}
 use Rattle.round_play.proofs.Beginning.{IsKnown, starts_at_rest, is_known, never_wrong}
 use Rattle.round_play.proofs.Changing.{limits_stay}
 use Rattle.round_play.proofs.Opened.{is_opened, opens, unarmed_state}
@@ -18,8 +18,8 @@ unreachable-requires c =
       | inr (inl old) ↦ subst IsKnown old known
       | inr (inr (inl place)) ↦ subst IsKnown place.1 known
       | inr (inr (inr fault)) ↦
-          never_wrong (stopping_state_of d).pick ready.0 ready.1 d e start (slots_found c.recover.result) (is_fault c.recover.result)
-          c.recover.ensures.begun c.recover.ensures.went (ap is_fault fault)
+          never_wrong (stopping_state_of d).pick ready.0 ready.1 d e start (book_slots_found c.recover.result) (is_book_fault c.recover.result)
+          c.recover.ensures.begun c.recover.ensures.went (ap is_book_fault fault)
     ]
 
 pub returns-in-Book-clause-opened : goal.returns-in-Book-clause-opened

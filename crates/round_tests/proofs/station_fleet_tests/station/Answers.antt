@@ -1,7 +1,7 @@
 use Rattle.std.proofs.Common.{ℕ, ◌≡◌, sym, subst, ◌∙◌, arith, rules, Ok, Result}
 use Rattle.eeprom_map.specs.Memory.{new_memory}
-use Rattle.schedule_file.specs.Answer.{ReadsAs}
-use Rattle.schedule_file.specs.Reading.{steps_of}
+use Rattle.schedule_file.specs.Answer.{ScheduleReadsAs}
+use Rattle.schedule_file.specs.Reading.{said_by_text}
 use Rattle.schedule_file.specs.declared.schedule.Schedule.{Schedule}
 use Rattle.schedule_file.specs.declared.schedule.ScheduleFault.{ScheduleFault}
 use Rattle.schedule_replay.specs.Replayed.{IsNewDisk}
@@ -22,7 +22,7 @@ new-requires-clause-line g c =
 pub returns-clause-left : goal.returns-clause-left
 returns-clause-left g c =
     let is : c.read.result ≡ Ok c.expect-schedule.result = search rules in
-    let reads : ReadsAs (steps_of c.as_bytes.result.now c.period.result) (Ok c.expect-schedule.result) =
-    subst (λ (r : Result Schedule ScheduleFault). ReadsAs (steps_of c.as_bytes.result.now c.period.result) r) is c.read.ensures.said in
+    let reads : ScheduleReadsAs (said_by_text c.as_bytes.result.now c.period.result) (Ok c.expect-schedule.result) =
+    subst (λ (r : Result Schedule ScheduleFault). ScheduleReadsAs (said_by_text c.as_bytes.result.now c.period.result) r) is c.read.ensures.said in
     let few = few_steps c.as_bytes.result.now c.period.result c.expect-schedule.result reads in
     c.new.ensures.left (omega (arith, few))

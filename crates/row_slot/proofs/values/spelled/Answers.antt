@@ -4,7 +4,7 @@ use Rattle.std.specs.Int.{w32}
 use Rattle.std.specs.Prelude.{FitsSigned}
 use Rattle.std.proofs.lemmas.Int.{to_z-of_z}
 use Rattle.std.proofs.lemmas.List.{ext_get_or, get_or-map, length-map}
-use Rattle.row_slot.specs.Values.{numbers_of, spelled}
+use Rattle.row_slot.specs.Values.{numbers_of, spelled_numbers}
 use Rattle.row_slot.proofs.values.spelled.Goals as goal
 
 pub loop-field-preserved : goal.loop-field-preserved
@@ -28,4 +28,4 @@ returns-clause-bytes c =
     let numbers = c.loop-field.numbers in
     let long : length numbers ≡ length (numbers_of values) = c.loop-field.invariant.long ∙ sym (length-map values (λ (value : Option ℤ). unwrap_or value (pos 0)) ∙ c.told-values) in
     let same : numbers ≡ numbers_of values = ext_get_or (pos 0) numbers (numbers_of values) long (λ i within. c.loop-field.invariant.each i (omega arith)) in
-    c.write_i32_into.ensures ∙ ap spelled same
+    c.write_i32_into.ensures ∙ ap spelled_numbers same

@@ -1,7 +1,7 @@
 use Rattle.std.proofs.Common.{◌≡◌, ℕ, List}
 use Rattle.loop_packet.specs.declared.packet.LoopPacket.{LoopPacket}
 use Rattle.station_replay.specs.Replay.{Item, start}
-use Rattle.schedule_replay.specs.Replaying.{Replaying, left_of}
+use Rattle.schedule_replay.specs.Replaying.{Replaying, run_turns_left}
 use Rattle.schedule_replay.specs.Standing.{LineAt}
 use Rattle.schedule_replay.proofs.replaying.replay_steps.Given as goal
 
@@ -14,4 +14,4 @@ invariant-turns g l = record {
 }
 
 abbrev pub decreases-turns : goal.decreases-turns
-decreases-turns g l = left_of l.steps l.run
+decreases-turns g l = run_turns_left l.steps l.run

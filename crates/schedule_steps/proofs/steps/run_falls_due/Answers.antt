@@ -2,7 +2,7 @@ use Rattle.std.proofs.Common.{◌≡◌, ℕ, suc, ◌+◌, ◌-◌, List, ◌�
 use Rattle.schedule_file.specs.Lists.{fates_of}
 use Rattle.station_sim.specs.declared.sim.Sim.{Sim}
 use Rattle.station_sim.specs.Line.{waited}
-use Rattle.station_sim.specs.Standing.{StandsFor}
+use Rattle.station_sim.specs.Standing.{SimStandsFor}
 use Rattle.schedule_steps.specs.Runs.{run_records, IsRun}
 use Rattle.schedule_steps.proofs.RunRecords.{left_of, IsLeft, all_left, none_left, next_left}
 use Rattle.schedule_steps.proofs.steps.run_falls_due.Goals as goal
@@ -26,7 +26,7 @@ returns c = record {
       let none : c.args.count - c.loop.counter ≡ 0 = omega (arith, c.loop-test.false) in
       let at = c.loop.invariant.stands w s in
       let ended = ap (left_of period c.loop.next) none ∙ none_left period c.loop.next in
-      subst (StandsFor c.loop.line) (sym (ap (λ (rs : List (List ℕ)). waited rs at.0) ended) ∙ at.2) at.1;
+      subst (SimStandsFor c.loop.line) (sym (ap (λ (rs : List (List ℕ)). waited rs at.0) ended) ∙ at.2) at.1;
 }
 
 pub returns-in_default : goal.returns-in_default

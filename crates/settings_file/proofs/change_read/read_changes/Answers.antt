@@ -3,7 +3,7 @@ use Rattle.std.proofs.lemmas.List.{length-append}
 use Rattle.station_base.proofs.LastStamps.{last_stamp-append}
 use Rattle.toml.specs.Data.{as_array}
 use Rattle.toml.specs.View.{view, array_view, items_view}
-use Rattle.settings_file.specs.Changes.{last_start, start_of}
+use Rattle.settings_file.specs.Changes.{last_start, change_start}
 use Rattle.settings_file.specs.ChangesRead.{change_of}
 use Rattle.settings_file.proofs.ChangesWalk.{changes_of-many, changes_of-walked, walk-goes, walk-faults, walk-over}
 use Rattle.settings_file.proofs.change_read.read_changes.Goals as goal
@@ -47,7 +47,7 @@ loop-index-preserved c =
     let more = c.push.ensures.more in (
       c.push.ensures.valid,
       rw more (omega (arith, length-append c.loop-index.changes (change ∷ []))),
-      rw more (sym (last_stamp-append start_of c.loop-index.changes (change ∷ []) None)),
+      rw more (sym (last_stamp-append change_start c.loop-index.changes (change ∷ []) None)),
       rw more (sym goes ∙ same),
     )
 

@@ -1,6 +1,6 @@
 use Rattle.std.proofs.Common.{refl, subst}
 use Rattle.std.specs.declared.option.Option.{Option}
-use Rattle.command_words.specs.Command.{CommandLine, command_of, texts}
+use Rattle.command_words.specs.Command.{CommandLine, command_of_words, texts}
 use Rattle.run_output.specs.Outside.{means}
 use Rattle.station_top.specs.Run.{performs_words}
 use Rattle.station_top.proofs.Runs as runs
@@ -9,7 +9,7 @@ use Rattle.station_top.proofs.program.run.Goals as goal
 pub returns : goal.returns
 returns g c =
     let m = means g.F.Files.shelf g.K.Sink.outlet g.L.Link.traffic g.D.Disk.medium in
-    let words = command_of (texts c.args.words.now) in
+    let words = command_of_words (texts c.args.words.now) in
     let old = c.args.outside.now in
     let e = c.perform-ended in
     let new = record e.new.outside { out = c.finish.new.out } in

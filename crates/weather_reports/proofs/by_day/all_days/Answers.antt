@@ -5,7 +5,7 @@ use Rattle.causes.proofs.Writing.{Appends-nil}
 use Rattle.std.specs.Io.KnownBytes.{Appends}
 use Rattle.packed_rows.specs.Days.{days_of}
 use Rattle.weather_reports.specs.Report.{day_lines}
-use Rattle.weather_reports.specs.Reported.{text_of}
+use Rattle.weather_reports.specs.Reported.{text_of_lines}
 use Rattle.weather_reports.proofs.Ascending.{all_among}
 use Rattle.weather_reports.proofs.Behind.{wrote_as, wrote_nothing}
 use Rattle.weather_reports.proofs.by_day.all_days.Goals as goal
@@ -14,7 +14,7 @@ pub returns-then-days-eq0-clause-lines : goal.returns-then-days-eq0-clause-lines
 returns-then-days-eq0-clause-lines g c rows stands x told =
     let few : length (days_of rows) ≤ 0 = omega (arith, c.days-days.ensures.rows rows stands.stands_for) in
     let none = sym (take_all 0 (days_of rows) few) in
-    let P : List ℤ → Type 0 = λ days. Appends (g.K.Sink.outlet.taken c.args.out.now) (g.K.Sink.outlet.taken c.args.out.now) (text_of (flat_map (day_lines rows) days)) in
+    let P : List ℤ → Type 0 = λ days. Appends (g.K.Sink.outlet.taken c.args.out.now) (g.K.Sink.outlet.taken c.args.out.now) (text_of_lines (flat_map (day_lines rows) days)) in
     subst P (sym none) (Appends-nil (g.K.Sink.outlet.taken c.args.out.now))
 
 pub returns-clause-lines : goal.returns-clause-lines
@@ -30,7 +30,7 @@ pub returns-then-days-eq0-clause-wrote : goal.returns-then-days-eq0-clause-wrote
 returns-then-days-eq0-clause-wrote g c =
     wrote_nothing g.K.Sink.outlet g.D.Disk.medium c.args.book.now c.args.disk.now _ c.args.out.now (λ rows stands x told.
     let few : length (days_of rows) ≤ 0 = omega (arith, c.days-days.ensures.rows rows stands.stands_for) in
-    ap (λ (days : List ℤ). text_of (flat_map (day_lines rows) days)) (take_all 0 (days_of rows) few))
+    ap (λ (days : List ℤ). text_of_lines (flat_map (day_lines rows) days)) (take_all 0 (days_of rows) few))
 
 pub returns-clause-wrote : goal.returns-clause-wrote
 returns-clause-wrote g c =

@@ -4,7 +4,7 @@ use Rattle.causes.specs.Told.{WhereTold}
 use Rattle.disk_model.specs.Disk.{Stays}
 use Rattle.station_base.specs.RowLine.{row_line}
 use Rattle.station_base.specs.declared.row.Row.{Row}
-use Rattle.weather_book.specs.Book.{StandsFor}
+use Rattle.weather_book.specs.Book.{BookStandsFor}
 use Rattle.gated_log.specs.Calls.{Looked}
 use Rattle.gated_log.specs.Layout.{slot_size}
 use Rattle.packed_rows.specs.Rows.{slot_total}
@@ -21,7 +21,7 @@ invariant-loop-at g l = record {
   faults : g.K.Sink.outlet.faults l.out ≡ g.K.Sink.outlet.faults l.initial.out;
   disk : g.D.Disk.medium.faults l.initial.disk ≤ g.D.Disk.medium.faults l.disk;
   stays : Stays g.D.Disk.medium l.initial.disk l.disk;
-  went : (rows : List Row) → StandsFor l.book rows → Looked g.D.Disk.medium (slot_size * (slot_total rows + 1)) false l.initial.disk l.disk;
+  went : (rows : List Row) → BookStandsFor l.book rows → Looked g.D.Disk.medium (slot_size * (slot_total rows + 1)) false l.initial.disk l.disk;
   lines : (rows : List Row) → StandsToReadOn g.D.Disk.medium l.book l.initial.disk rows
       → WhereTold (g.D.Disk.medium.seen l.initial.disk) (λ _. Comes (g.K.Sink.outlet.taken l.initial.out) (g.K.Sink.outlet.taken l.out)
       (map row_line (take (l.end - l.fn.from) (drop l.fn.from rows))) (map row_line (take (l.end - l.at) (drop l.at rows))) l.pending.items);

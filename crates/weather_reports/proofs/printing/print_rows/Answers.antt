@@ -2,7 +2,7 @@ use Rattle.std.proofs.Common.{◌≡◌, ◌<◌, ◌+◌, ◌++◌, ◌∙◌, 
 use Rattle.station_base.specs.FieldSet.{AreMissing}
 use Rattle.station_base.specs.RowLine.{IsPrintable, row_line}
 use Rattle.station_base.specs.declared.row.Row.{Row}
-use Rattle.weather_reports.specs.Reported.{text_of}
+use Rattle.weather_reports.specs.Reported.{text_of_lines}
 use Rattle.weather_reports.proofs.Behind.{prints_more, prints_part}
 use Rattle.weather_reports.proofs.Held.{held_grows, held_shrinks, held_fails}
 use Rattle.weather_reports.proofs.Lines.{rows_step}
@@ -27,7 +27,7 @@ returns-in-Failed-clause-failed g c e =
     let rows = c.args.rows.now in let k = c.loop-row.row-index in let row = get_or rows k c.row-item.result in
     let left = rw (rows_step rows k c.row-item.result (omega arith)) at c.loop-row.invariant.left in
     let line : c.deref.result.now ≡ row_line row = search rules in
-    let ahead = text_of (map row_line (drop (k + 1) rows)) in
+    let ahead = text_of_lines (map row_line (drop (k + 1) rows)) in
     held_fails _ _ _ _ (c.loop-row.pending.items ++ row_line row) ahead
     (held_grows _ _ _ c.loop-row.pending.items (row_line row) ahead left) (rw line at (c.print_line.ensures.failed c.in-Failed.is))
 
@@ -35,7 +35,7 @@ pub returns-in-Failed-clause-wrote : goal.returns-in-Failed-clause-wrote
 returns-in-Failed-clause-wrote g c =
     let rows = c.args.rows.now in let k = c.loop-row.row-index in let row = get_or rows k c.row-item.result in
     let line : c.deref.result.now ≡ row_line row = search rules in
-    let ahead = text_of (map row_line (drop (k + 1) rows)) in
+    let ahead = text_of_lines (map row_line (drop (k + 1) rows)) in
     prints_part g.K.Sink.outlet _ c.loop-row.pending.items (row_line row) ahead [] [] _ _ _
     (rw (rows_step rows k c.row-item.result (omega arith)) at c.loop-row.invariant.wrote)
     (rw (line, c.in-Failed.is) at c.print_line.ensures.wrote)
@@ -45,7 +45,7 @@ loop-row-preserved g c =
     let rows = c.args.rows.now in let k = c.loop-row.row-index in let row = get_or rows k c.row-item.result in
     let left = rw (rows_step rows k c.row-item.result (omega arith)) at c.loop-row.invariant.left in
     let line : c.deref.result.now ≡ row_line row = search rules in
-    let ahead = text_of (map row_line (drop (k + 1) rows)) in
+    let ahead = text_of_lines (map row_line (drop (k + 1) rows)) in
     record {
       room = c.print_line.ensures.room;
       faults = c.print_line.ensures.still c.in_default.not-Failed ∙ c.loop-row.invariant.faults;

@@ -1,7 +1,7 @@
 use Rattle.std.proofs.Common.{◌≡◌, ◌+◌, ◌++◌, ◌∙◌, [], drop, rules, arith}
 use Rattle.std.proofs.lemmas.List.{append-nil, drop_all}
-use Rattle.weather_reports.specs.Line.{lines_from, sum_line}
-use Rattle.weather_reports.specs.Reported.{text_of}
+use Rattle.weather_reports.specs.Line.{field_lines_from, sum_line}
+use Rattle.weather_reports.specs.Reported.{text_of_lines}
 use Rattle.weather_reports.proofs.Behind.{prints_more, prints_part}
 use Rattle.weather_reports.proofs.Held.{held_grows, held_shrinks, held_fails}
 use Rattle.weather_reports.proofs.Lines.{sums_some}
@@ -12,7 +12,7 @@ returns-in-Failed-clause-failed g c e =
     let head = c.args.head.now in let sums = c.args.sums.now in let k = c.loop-index.index in let s = c.in-Some.sum in
     let left = rw (sums_some head sums k c.index-sums-index.result s (omega arith) c.in-Some.is) at c.loop-index.invariant.left in
     let line : c.deref.result.now ≡ sum_line head k s = search rules in
-    let ahead = text_of (lines_from head (k + 1) (drop (k + 1) sums)) in
+    let ahead = text_of_lines (field_lines_from head (k + 1) (drop (k + 1) sums)) in
     held_fails _ _ _ _ (c.loop-index.pending.items ++ sum_line head k s) ahead
     (held_grows _ _ _ c.loop-index.pending.items (sum_line head k s) ahead left) (rw line at (c.print_line.ensures.failed c.in-Failed.is))
 
@@ -20,7 +20,7 @@ pub returns-in-Failed-clause-wrote : goal.returns-in-Failed-clause-wrote
 returns-in-Failed-clause-wrote g c =
     let head = c.args.head.now in let sums = c.args.sums.now in let k = c.loop-index.index in let s = c.in-Some.sum in
     let line : c.deref.result.now ≡ sum_line head k s = search rules in
-    let ahead = text_of (lines_from head (k + 1) (drop (k + 1) sums)) in
+    let ahead = text_of_lines (field_lines_from head (k + 1) (drop (k + 1) sums)) in
     prints_part g.K.Sink.outlet _ c.loop-index.pending.items (sum_line head k s) ahead [] [] _ _ _
     (rw (sums_some head sums k c.index-sums-index.result s (omega arith) c.in-Some.is) at c.loop-index.invariant.wrote)
     (rw (line, c.in-Failed.is) at c.print_line.ensures.wrote)
@@ -30,7 +30,7 @@ loop-index-preserved g c =
     let head = c.args.head.now in let sums = c.args.sums.now in let k = c.loop-index.index in let s = c.in-Some.sum in
     let left = rw (sums_some head sums k c.index-sums-index.result s (omega arith) c.in-Some.is) at c.loop-index.invariant.left in
     let line : c.deref.result.now ≡ sum_line head k s = search rules in
-    let ahead = text_of (lines_from head (k + 1) (drop (k + 1) sums)) in
+    let ahead = text_of_lines (field_lines_from head (k + 1) (drop (k + 1) sums)) in
     record {
       room = c.print_line.ensures.room;
       faults = c.print_line.ensures.still c.in_default-print_line.not-Failed ∙ c.loop-index.invariant.faults;

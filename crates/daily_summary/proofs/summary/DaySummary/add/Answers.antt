@@ -1,7 +1,7 @@
 use Rattle.std.proofs.Common.{◌≡◌, ◌+◌, ◌<◌, ℕ, get_or, Option, None, subst, ap, ◌∙◌, arith}
 use Rattle.std.proofs.lemmas.List.{get_or_default}
 use Rattle.daily_summary.specs.declared.field_sum.FieldSum.{FieldSum}
-use Rattle.daily_summary.specs.Joined.{merged, count_of, sum_of_value}
+use Rattle.daily_summary.specs.Joined.{merged, value_count, sum_of_value}
 use Rattle.daily_summary.proofs.Fields.{count_in, wider, merged_more, rows_added, printable_at, IsMerged}
 use Rattle.daily_summary.proofs.summary.DaySummary.add.Goals as goal
 
@@ -13,7 +13,7 @@ loop-field-preserved c =
     let i = c.loop-field.field in let inv = c.loop-field.invariant.fields in
     let small : i < 37 = omega arith in
     let same = get_or_default c.loop-field.self.fields i c.index-self-field.result None (omega (arith, inv.long)) in
-    let one = ap count_of (same ∙ inv.left i (omega arith)) in
+    let one = ap value_count (same ∙ inv.left i (omega arith)) in
     let two = count_in c.args.self.now c.requires.bounds i in
     record {
       fields = merged_more i _ c.args.self.now.fields c.loop-field.self.fields _ c.add.new.sum small inv

@@ -1,7 +1,7 @@
 use Rattle.std.proofs.Common.{rules, ◌≡◌, ◌+◌, ◌<◌, ℕ, length, get_or, Option, None, subst, ap, ◌∙◌, arith}
 use Rattle.std.proofs.lemmas.List.{get_or_default}
 use Rattle.daily_summary.specs.declared.field_sum.FieldSum.{FieldSum}
-use Rattle.daily_summary.specs.Joined.{merged, count_of}
+use Rattle.daily_summary.specs.Joined.{merged, value_count}
 use Rattle.daily_summary.proofs.Fields.{count_in, wider, merged_more, rows_joined, IsMerged}
 use Rattle.daily_summary.proofs.summary.DaySummary.merge.Goals as goal
 
@@ -12,10 +12,10 @@ loop-field-preserved c =
     let long : length c.args.later.now.fields ≡ 37 = search rules in
     let same = get_or_default c.loop-field.self.fields i c.index-self-field.result None (omega (arith, inv.long)) in
     let other = get_or_default c.args.later.now.fields i c.index-later-field.result None (omega (arith, long)) in
-    let one = ap count_of (same ∙ inv.left i (omega arith)) in
+    let one = ap value_count (same ∙ inv.left i (omega arith)) in
     let two = count_in c.args.self.now c.requires.bounds i in
     let three = count_in c.args.later.now c.requires.later i in
-    let four = ap count_of other in
+    let four = ap value_count other in
     record {
       fields = merged_more i _ c.args.self.now.fields c.loop-field.self.fields _ c.merge.new.sum small inv
           (c.merge.ensures.exact ∙ ap (λ (o : Option FieldSum). merged o (get_or c.args.later.now.fields i c.index-later-field.result)) same

@@ -1,10 +1,10 @@
 use Rattle.std.proofs.Common.{subst}
 use Rattle.disk_model.specs.Stopping.{stopping_medium}
-use Rattle.weather_book.specs.Book.{last_of}
+use Rattle.weather_book.specs.Book.{last_stamp_of}
 use Rattle.station_session.specs.declared.round.Turn.{Turn}
-use Rattle.station_session.specs.Turning.{AnswersTurn, LeavesTurn, TakesTurn}
+use Rattle.station_session.specs.Turning.{AnswersTurn, LeavesTurn, RoundTakesTurn}
 use Rattle.station_session.specs.UnderWay.{GoesOnFrom}
-use Rattle.station_sim.specs.Telling.{told}
+use Rattle.station_sim.specs.Telling.{sim_traffic}
 use Rattle.round_play.specs.declared.playing.Playing.{Playing}
 use Rattle.round_play.proofs.TurnPlayed.{desk_of, goes_on, is_over, one_call, says_or_stores}
 use Rattle.round_play.proofs.playing.Playing.turn.Goals as goal
@@ -22,7 +22,7 @@ pub returns-clause-more : goal.returns-clause-more
 returns-clause-more c more fates stop old u =
     let now : Playing = record { session = c.turn.new.self; round = c.turn.new.round; report = c.turn.new.report; stop = c.args.self.now.stop } in
     goes_on fates stop old c.args.self.now now c.args.line.now c.turn.new.link c.args.disk.now c.turn.new.disk u
-    (subst (λ (r : Turn). GoesOnFrom told stopping_medium r u.began u.talk u.kept (desk_of now c.turn.new.link c.turn.new.disk)) more (c.turn.ensures.goes_on u.began u.talk u.kept u.way))
+    (subst (λ (r : Turn). GoesOnFrom sim_traffic stopping_medium r u.began u.talk u.kept (desk_of now c.turn.new.link c.turn.new.disk)) more (c.turn.ensures.goes_on u.began u.talk u.kept u.way))
 
 pub returns-clause-ended : goal.returns-clause-ended
 returns-clause-ended c end is fates stop old u =
@@ -30,8 +30,8 @@ returns-clause-ended c end is fates stop old u =
     let before = desk_of c.args.self.now c.args.line.now c.args.disk.now in
     let after = desk_of now c.turn.new.link c.turn.new.disk in
     is_over fates stop old end c.args.self.now now c.args.line.now c.turn.new.link c.args.disk.now c.turn.new.disk u
-    (subst (λ (r : Turn). TakesTurn told stopping_medium r (last_of u.began.session.book) u.talk u.kept before after) is (c.turn.ensures.takes (last_of u.began.session.book) u.talk u.kept u.way.at))
-    (subst (λ (r : Turn). AnswersTurn told stopping_medium r before after) is c.turn.ensures.answers)
+    (subst (λ (r : Turn). RoundTakesTurn sim_traffic stopping_medium r (last_stamp_of u.began.session.book) u.talk u.kept before after) is (c.turn.ensures.takes (last_stamp_of u.began.session.book) u.talk u.kept u.way.at))
+    (subst (λ (r : Turn). AnswersTurn sim_traffic stopping_medium r before after) is c.turn.ensures.answers)
     (subst (λ (r : Turn). LeavesTurn stopping_medium r before after) is c.turn.ensures.leaves)
 
 pub returns-clause-left : goal.returns-clause-left
@@ -44,7 +44,7 @@ returns-clause-one_call c more =
     let after = desk_of now c.turn.new.link c.turn.new.disk in
     let m = c.requires.may.fits.marked in
     one_call m.last m.talk m.kept c.args.self.now now c.args.line.now c.turn.new.link c.args.disk.now c.turn.new.disk
-    (subst (λ (r : Turn). TakesTurn told stopping_medium r m.last m.talk m.kept before after) more (c.turn.ensures.takes m.last m.talk m.kept m.at))
+    (subst (λ (r : Turn). RoundTakesTurn sim_traffic stopping_medium r m.last m.talk m.kept before after) more (c.turn.ensures.takes m.last m.talk m.kept m.at))
 
 pub returns-clause-says_or_stores : goal.returns-clause-says_or_stores
 returns-clause-says_or_stores c =

@@ -2,11 +2,11 @@ use Rattle.std.proofs.Common.{ap, sym, ◌∙◌, ◌+◌, arith}
 use Rattle.schedule_file.specs.Reader.{said_by}
 use Rattle.schedule_file.proofs.Limits.{counted_steps}
 use Rattle.schedule_file.specs.Pieces.{lines_of}
-use Rattle.schedule_file.specs.Reading.{steps_of, read_lines}
+use Rattle.schedule_file.specs.Reading.{said_by_text, read_lines}
 use Rattle.schedule_file.proofs.schedule.Schedule.read.Goals as goal
 
 pub loop-rest-init : goal.loop-rest-init
-unfolding steps_of
+unfolding said_by_text
 loop-rest-init c = record {
   said = ap (read_lines c.args.period 1 (lines_of c.args.bytes.now)) (sym c.new-reader.ensures.said);
   period = c.new-reader.ensures.period;

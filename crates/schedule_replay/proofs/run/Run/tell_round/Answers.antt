@@ -1,6 +1,6 @@
 use Rattle.std.proofs.Common.{◌≡◌, false, length, refl, sym, ap, subst, ◌∙◌, rules}
 use Rattle.weather_book.specs.declared.book.Book.{Book}
-use Rattle.weather_book.specs.Book.{StandsFor}
+use Rattle.weather_book.specs.Book.{BookStandsFor}
 use Rattle.disk_model.specs.StoppingState.{StoppingState}
 use Rattle.station_replay.specs.Replay.{is_stop}
 use Rattle.schedule_steps.specs.Stops.{stop_set}
@@ -13,7 +13,7 @@ returns g c = record {
   ok = λ settings openings r a told number written.
       let ends = c.ending.ensures r.end told.tells.ends in
       let still : is_stop r.end ≡ false = ap is_stop (sym ends) ∙ not_stopped c.ending.result c.in_default.not-Stopped in
-      let stands : StandsFor c.book.result.now r.rows = subst (λ (b : Book). StandsFor b r.rows) (sym c.book.ensures) (told.goes_on still).stands.stands_for in
+      let stands : BookStandsFor c.book.result.now r.rows = subst (λ (b : Book). BookStandsFor b r.rows) (sym c.book.ensures) (told.goes_on still).stands.stands_for in
       let long = c.len.ensures.rows r.rows stands in
       let tells = line_tells (stop_set c.args.stop) c.args.played.now _ r r.end ends told.tells refl number refl refl refl refl (sym c.acked.ensures) (λ z. sym long) c.args.self.now.written written in (
         told_on settings openings (stop_set c.args.stop) c.args.session c.args.played.now c.args.disk.now c.round.new.disk r a c.args.self.now.written c.args.self.now.rounds c.len.result told c.round.ensures.disk still (long ∙ ap length (sym told.rows)),

@@ -1,6 +1,6 @@
 use Rattle.std.proofs.Common.{◌≡◌, ◌+◌, ◌++◌, List, None, Some, sym, subst, rules}
-use Rattle.station_replay.specs.Replay.{Item, first, start}
-use Rattle.station_replay.specs.Schedule.{IsSchedule, Step}
+use Rattle.station_replay.specs.Replay.{Item, opening_if_closed, start}
+use Rattle.station_replay.specs.Schedule.{IsSchedule, ReplayStep}
 use Rattle.schedule_steps.specs.Steps.{steps_for}
 use Rattle.schedule_replay.specs.Turns.{CutsRun, EndsRun}
 use Rattle.schedule_replay.proofs.Looping.{all_done, end_cut, steps_all}
@@ -47,7 +47,7 @@ returns-in-Ok-clause-turns_to g c k items line p end =
     let told = c.in-Ok.ensures.tells s ahead.stage.archive.rows x.goes_on in
     let rest = c.ended.ensures.disk.rests _ _ x.rests in
     subst (λ (z : List Item). EndsRun g.T.Teller.telling s (start k.eeprom k.packet) (steps_for s.period k.steps) z k.before line c.ended.new.disk c.args.teller.now c.ended.new.self) (sym ahead.items_are)
-    (subst (λ (z : List Step). EndsRun g.T.Teller.telling s (start k.eeprom k.packet) z (ahead.given ++ first ahead.stage.is_open ahead.stage) k.before line c.ended.new.disk c.args.teller.now c.ended.new.self) all
+    (subst (λ (z : List ReplayStep). EndsRun g.T.Teller.telling s (start k.eeprom k.packet) z (ahead.given ++ opening_if_closed ahead.stage.is_open ahead.stage) k.before line c.ended.new.disk c.args.teller.now c.ended.new.self) all
     (all_done g.T.Teller.telling s k.eeprom k.packet _ ahead.given ahead.stage c.args.teller.now c.ended.new.self k.before line c.ended.new.disk (subst IsSchedule (sym all) p.accepted.rules) ahead.runs ahead.at ahead.said (ahead.openings + 1) rest told))
 
 pub returns-clause-turns_to : goal.returns-clause-turns_to
@@ -60,5 +60,5 @@ returns-clause-turns_to g c k items line p end =
     let told = told_front g.T.Teller.telling c.args.teller.now c.ended.new.self _ c.in-Err.cut (c.in-Err.ensures.tells s ahead.stage.archive.rows x.goes_on) in
     cut_to g.T.Teller.telling c.cut_off.result k s items _ _ _ c.args.teller.now c.ended.new.self c.cut_off.ensures.answer
     (subst (λ (z : List Item). CutsRun g.T.Teller.telling s (start k.eeprom k.packet) (steps_for s.period k.steps) z c.args.teller.now c.ended.new.self) (sym ahead.items_are)
-    (subst (λ (z : List Step). CutsRun g.T.Teller.telling s (start k.eeprom k.packet) z (ahead.given ++ first ahead.stage.is_open ahead.stage) c.args.teller.now c.ended.new.self) all
+    (subst (λ (z : List ReplayStep). CutsRun g.T.Teller.telling s (start k.eeprom k.packet) z (ahead.given ++ opening_if_closed ahead.stage.is_open ahead.stage) c.args.teller.now c.ended.new.self) all
     (end_cut g.T.Teller.telling s k.eeprom k.packet _ ahead.given ahead.stage c.args.teller.now c.ended.new.self (subst IsSchedule (sym all) p.accepted.rules) ahead.runs told)))

@@ -1,12 +1,12 @@
 use Rattle.std.proofs.Common.{◌≡◌, ◌+◌, ◌++◌, [], true, false, Bool, List, None, Some, Option, inl, length, sym, subst, ap, ◌∙◌, append-nil, arith, rules}
 use Rattle.std.specs.Prelude.{is_some}
 use Rattle.std.proofs.lemmas.Option.{same_Some}
-use Rattle.station_replay.specs.Replay.{Item, Stage, first, opened, start}
+use Rattle.station_replay.specs.Replay.{Item, Stage, opening_if_closed, opened, start}
 use Rattle.station_replay.specs.Schedule.{records}
 use Rattle.schedule_file.specs.declared.schedule.step.Stop as code_stop
 use Rattle.round_play.specs.declared.playing.Playing.{Playing}
-use Rattle.round_play.specs.Opening.{limits_of}
-use Rattle.round_play.specs.Playing.{IsUnderWay}
+use Rattle.round_play.specs.Opening.{stopping_limits}
+use Rattle.round_play.specs.Playing.{RoundIsUnderWay}
 use Rattle.schedule_replay.specs.Replaying.{StandsAt}
 use Rattle.schedule_replay.specs.Running.{After}
 use Rattle.schedule_replay.specs.Standing.{HasSaid, HoldsAt, LineAt, round_step}
@@ -51,7 +51,7 @@ returns-in-More-clause-turns_to g c k items stands =
           is_round = w.is_round ∙ ap (λ (z : Option code_stop.Stop). round_step w.fates z) (sym stop);
           old = w.old;
           begun = w.begun;
-          way = subst (λ (z : Option code_stop.Stop). IsUnderWay w.fates (stop_set z) w.old c.turn.new.self c.turn.new.line c.turn.new.disk) (sym stop) (e.more c.in-More.is w.fates (stop_set c.in-Some.playing.stop) w.old w.way);
+          way = subst (λ (z : Option code_stop.Stop). RoundIsUnderWay w.fates (stop_set z) w.old c.turn.new.self c.turn.new.line c.turn.new.disk) (sym stop) (e.more c.in-More.is w.fates (stop_set c.in-Some.playing.stop) w.old w.way);
           may = e.may c.in-More.is;
           said = w.said;
           limits = w.limits;
@@ -92,7 +92,7 @@ returns-in-Ok-false-clause-turns_to g c k items stands =
     let over = taken_out w.fates w.old c.in-Ended.end c.in-Some.playing c.turn.new.self now c.turn.new.line c.turn.new.disk e.stop same (e.ended c.in-Ended.end c.in-Ended.is w.fates (stop_set c.in-Some.playing.stop) w.old w.way) in
     let u = opened w.stage.is_open w.stage in
     let seen : c.in-Ok-false.field-0 ≡ false = search rules in
-    let after = subst (λ (t : Bool). After g.T.Teller.telling t s (round_step w.fates now.stop) u (λ is v. (HoldsAt (w.openings + 1) s v c.end_round.new.self c.end_round.new.disk × LineAt v c.end_round.new.line × HasSaid is w.old.link c.end_round.new.line) × (limits_of c.end_round.new.disk ≡ limits_of w.old.disk)) c.args.teller.now c.end_round.new.teller) seen
+    let after = subst (λ (t : Bool). After g.T.Teller.telling t s (round_step w.fates now.stop) u (λ is v. (HoldsAt (w.openings + 1) s v c.end_round.new.self c.end_round.new.disk × LineAt v c.end_round.new.line × HasSaid is w.old.link c.end_round.new.line) × (stopping_limits c.end_round.new.disk ≡ stopping_limits w.old.disk)) c.args.teller.now c.end_round.new.teller) seen
     (c.in-Ok-false.ensures.ok (length (records (steps_for s.period k.steps))) (w.openings + 1) s u w.fates w.old w.begun over) in
     let t = round_taken s k.eeprom k.packet k.steps i k.made w.old.disk w.given w.stage w.openings (ready s k.steps k.made p.accepted p.room) w.runs w.few w.limits
     g.T.Teller.telling p.stands.0 w.fates now.stop k.before w.old.link c.end_round.new.line w.old.disk c.end_round.new.disk c.end_round.new.self c.args.teller.now c.end_round.new.teller p.stands.1
@@ -102,7 +102,7 @@ returns-in-Ok-false-clause-turns_to g c k items stands =
       accepted = p.accepted;
       room = p.room;
       few = omega (arith, p.few, opens);
-      stands = inl (taken_on k s i items (w.given ++ first w.stage.is_open w.stage) t.0 c.end_round.new.line c.end_round.new.disk c.end_round.new.self w.items_are t.2);
+      stands = inl (taken_on k s i items (w.given ++ opening_if_closed w.stage.is_open w.stage) t.0 c.end_round.new.line c.end_round.new.disk c.end_round.new.self w.items_are t.2);
     } in
     (t.0, t.1, subst (λ (o : Option Playing). StandsAt o k s (i + 1) (c.args.self.now.turns + 1) (items ++ t.0) c.end_round.new.self c.end_round.new.line c.end_round.new.disk) (sym c.take.ensures.after) whole)
 
@@ -128,7 +128,7 @@ returns-in-Ok-true-clause-turns_to g c k items stands =
     let over = taken_out w.fates w.old c.in-Ended.end c.in-Some.playing c.turn.new.self now c.turn.new.line c.turn.new.disk e.stop same (e.ended c.in-Ended.end c.in-Ended.is w.fates (stop_set c.in-Some.playing.stop) w.old w.way) in
     let u = opened w.stage.is_open w.stage in
     let unseen : c.in-Ok-true.field-0 ≡ true = search rules in
-    let P : List Item → Stage → Type 0 = λ is v. (HoldsAt (w.openings + 1) s v c.end_round.new.self c.end_round.new.disk × LineAt v c.end_round.new.line × HasSaid is w.old.link c.end_round.new.line) × (limits_of c.end_round.new.disk ≡ limits_of w.old.disk) in
+    let P : List Item → Stage → Type 0 = λ is v. (HoldsAt (w.openings + 1) s v c.end_round.new.self c.end_round.new.disk × LineAt v c.end_round.new.line × HasSaid is w.old.link c.end_round.new.line) × (stopping_limits c.end_round.new.disk ≡ stopping_limits w.old.disk) in
     let after = subst (λ (t : Bool). After g.T.Teller.telling t s (round_step w.fates now.stop) u P c.args.teller.now c.end_round.new.teller) unseen
     (c.in-Ok-true.ensures.ok (length (records (steps_for s.period k.steps))) (w.openings + 1) s u w.fates w.old w.begun over) in
     subst (λ (z : List Item). BreaksRun g.T.Teller.telling s (start k.eeprom k.packet) (steps_for s.period k.steps) z c.args.teller.now c.end_round.new.teller) (sym w.items_are)

@@ -1,5 +1,5 @@
 use Rattle.std.proofs.Common.{◌+◌, ◌++◌, None, Option, inr, refl, sym, subst, ap, ◌∙◌, arith}
-use Rattle.station_replay.specs.Replay.{first}
+use Rattle.station_replay.specs.Replay.{opening_if_closed}
 use Rattle.round_play.specs.declared.playing.Playing.{Playing}
 use Rattle.schedule_replay.specs.Left.{left_to_open}
 use Rattle.schedule_replay.specs.Replaying.{StandsAt}
@@ -20,7 +20,7 @@ returns-in-Ok-clause-turns_to g c k items line p next =
     let x = c.in-Ok.ensures.ok so.openings so.stage so.holds in
     let was = ap left_to_open c.requires.closed in
     let is = left_open c.recover.new.self.session c.in-Ok.ensures.is_open in
-    let given = first so.stage.is_open so.stage in
+    let given = opening_if_closed so.stage.is_open so.stage in
     let now : StandsAt None k s i (c.args.self.now.turns + 1) (items ++ given) c.recover.new.self line c.recover.new.disk = record {
       accepted = p.accepted;
       room = p.room;

@@ -2,7 +2,7 @@ use Rattle.std.proofs.Common.{ℕ, ◌≡◌, ◌≢◌, ◌<◌, Some, refl, sy
 use Rattle.std.proofs.lemmas.Bool.{eqb-false, eqb-true}
 use Rattle.station_base.specs.CivilMinute.{minute_of}
 use Rattle.station_base.specs.Period.{IsPeriod}
-use Rattle.soft_record.specs.Entry.{end_of, moment}
+use Rattle.soft_record.specs.Entry.{interval_end, moment}
 use Rattle.soft_record.specs.Given.{IsRowOf}
 use Rattle.soft_record.specs.Interval.{interval_of}
 use Rattle.soft_record.specs.SoftRow.{IsSoftRow}
@@ -34,7 +34,7 @@ returns-then-eq-clause-takes c = λ period entries rows stands.
     let valid : IsPeriod period = subst IsPeriod stands.its_period at.period in
     let is_open = keeps_some period entries old.open o stands.last c.in-Some-open.is in
     let later : moment o.last < moment e = omega (arith, c.if-moment.false, c.moment.ensures, c.moment-2.ensures) in
-    let same : minute_of o.end ≡ end_of period e = sym (eqb-true _ _ (sym c.if-eq.ensures)) ∙ ends.1 in
+    let same : minute_of o.end ≡ interval_end period e = sym (eqb-true _ _ (sym c.if-eq.ensures)) ∙ ends.1 in
     let follows = later_follows period (Some o.last) o.last e refl told.1 later ends.0 in (
       e,
       (told.0, later_follows period _ o.last e is_open.last told.1 later ends.0),
@@ -53,7 +53,7 @@ returns-clause-takes c = λ period entries rows stands.
     let is_open = keeps_some period entries old.open o stands.last c.in-Some-open.is in
     let later : moment o.last < moment e = omega (arith, c.if-moment.false, c.moment.ensures, c.moment-2.ensures) in
     let other : minute_of o.end ≢ minute_of c.in-Some-interval_end.end = λ same. eqb-false _ _ (sym c.if-eq.ensures) (sym same) in
-    let apart : minute_of o.end ≢ end_of period e = λ same. other (same ∙ sym ends.1) in
+    let apart : minute_of o.end ≢ interval_end period e = λ same. other (same ∙ sym ends.1) in
     let follows = later_follows period (Some o.last) o.last e refl told.1 later ends.0 in
     let P : ℕ → Type 0 = λ (p : ℕ). IsSoftRow p (minute_of o.end) (interval_of period (minute_of o.end) entries) c.row_of.result in
     let row : IsRowOf period entries (minute_of o.end) c.row_of.result = subst P stands.its_period (c.row_of.ensures.row _ is_open.civil is_open.sums) in (

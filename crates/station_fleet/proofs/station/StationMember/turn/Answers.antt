@@ -1,6 +1,6 @@
 use Rattle.std.proofs.Common.{List, sym, subst}
 use Rattle.fleet.specs.declared.member.MemberTurn.{MemberTurn}
-use Rattle.fleet.specs.MemberTurns.{TakesTurn}
+use Rattle.fleet.specs.MemberTurns.{MemberTakesTurn}
 use Rattle.schedule_file.specs.declared.schedule.step.Step as code_step
 use Rattle.schedule_replay.specs.Replaying.{MayTurn}
 use Rattle.station_fleet.specs.StationTurns.{station_turning}
@@ -16,7 +16,7 @@ pub returns : goal.returns
 returns g c =
     let took = c.turn-turn.ensures in
     let new = with_parts c.args.self.now c.turn-turn.new.self c.turn-turn.new.line c.turn-turn.new.disk in
-    subst (λ (answer : MemberTurn). TakesTurn station_turning g.K.Sink.outlet c.args.self.now c.args.out.now answer new c.turn-turn.new.teller) (sym c.answer_of.ensures)
+    subst (λ (answer : MemberTurn). MemberTakesTurn station_turning g.K.Sink.outlet c.args.self.now c.args.out.now answer new c.turn-turn.new.teller) (sym c.answer_of.ensures)
     (takes g.K.Sink.outlet c.args.self.now c.steps.result.now c.args.out.now c.turn-turn.result c.turn-turn.new.self
     c.turn-turn.new.line c.turn-turn.new.disk c.turn-turn.new.teller
     (record {

@@ -2,8 +2,8 @@ use Rattle.std.proofs.Common.{List, length, refl, sym, ◌∙◌, ap, subst, ari
 use Rattle.std.proofs.lemmas.Grind.{common_steps}
 use Rattle.station_base.specs.declared.row.Row.{Row}
 use Rattle.packed_rows.specs.Adding.{ArePrintable, AreLimited}
-use Rattle.packed_rows.specs.Rising.{RowsRise}
-use Rattle.weather_book.specs.Book.{last_of}
+use Rattle.packed_rows.specs.Rising.{RowsRiseAfter}
+use Rattle.weather_book.specs.Book.{last_stamp_of}
 use Rattle.causes.specs.declared.stored.Stored.TheVariants as stored
 use Rattle.dmpaft_pump.proofs.Keeping.{one_size}
 use Rattle.station_session.proofs.Stamps.{rises, same_count}
@@ -17,7 +17,7 @@ add-requires-clause-some g c = omega (arith, same_count c.args.self.now.settings
 
 pub add-requires-clause-rising : goal.add-requires-clause-rising
 add-requires-clause-rising g c =
-    subst (λ (x : List Row). RowsRise (last_of c.args.self.now.book.now) x) (sym (c.deref.ensures.0 ∙ c.stored_rows-rows.ensures.rows)) (rises c.args.self.now.settings.now c.args.records.now (last_of c.args.self.now.book.now) c.stored_rows-rows.ensures.read c.requires.rising)
+    subst (λ (x : List Row). RowsRiseAfter (last_stamp_of c.args.self.now.book.now) x) (sym (c.deref.ensures.0 ∙ c.stored_rows-rows.ensures.rows)) (rises c.args.self.now.settings.now c.args.records.now (last_stamp_of c.args.self.now.book.now) c.stored_rows-rows.ensures.read c.requires.rising)
 
 pub add-requires-clause-printable : goal.add-requires-clause-printable
 add-requires-clause-printable g c = subst (λ (x : List Row). ArePrintable x) (sym c.deref.ensures.0) c.stored_rows-rows.ensures.printable

@@ -3,7 +3,7 @@ use Rattle.weather_book.specs.Book.{spare}
 use Rattle.dmpaft_pump.specs.declared.outcome.Trouble.{Trouble}
 use Rattle.station_session.specs.Attempts.{stamp_behind}
 use Rattle.station_session.specs.RoundAt.{tally_of}
-use Rattle.station_session.specs.Turning.{desk}
+use Rattle.station_session.specs.Turning.{round_desk}
 use Rattle.station_session.proofs.OneTurn.{turned, takes, fits_then, room_then, goes_on, answers, leaves}
 use Rattle.station_session.proofs.Rounds.{few_troubles}
 use Rattle.station_session.proofs.SoFar.{suits, pump_stands, room_least, few_then}
@@ -49,8 +49,8 @@ returns-clause-fits g c =
 
 pub returns-clause-room : goal.returns-clause-room
 returns-clause-room g c more =
-    room_then (turned g.L.Link.traffic g.D.Disk.medium (desk c.args.self.now c.args.link.now c.args.disk.now c.args.round.now c.args.report.now)
-    (desk (record { book = c.step-end.new.book; settings = c.args.self.now.settings }) c.step-end.new.link c.step-end.new.disk c.go_on-turn.new.self
+    room_then (turned g.L.Link.traffic g.D.Disk.medium (round_desk c.args.self.now c.args.link.now c.args.disk.now c.args.round.now c.args.report.now)
+    (round_desk (record { book = c.step-end.new.book; settings = c.args.self.now.settings }) c.step-end.new.link c.step-end.new.disk c.go_on-turn.new.self
     (record { rows_before = c.args.report.now.rows_before; rows_after = c.len-report.result; attempts = c.attempts-report.result; tally = c.tally-report.result; marks = c.step-end.new.marks; troubles = c.troubles-report.result }))
     c.step-end.result c.go_on-turn.result (record { pump = c.step-end.new.pump; more = c.args.round.now.more; troubles = c.args.round.now.troubles }) c.last.result c.requires.fits c.step-end.ensures.steps refl refl c.last.ensures.last
     c.go_on-turn.ensures.goes c.attempts-report.ensures c.tally-report.ensures c.troubles-report.ensures c.step-end.ensures.capacity refl refl) more c.requires.room

@@ -2,7 +2,7 @@ use Rattle.std.proofs.Common.{◌≡◌, [], ℕ, Some, sym, ◌∙◌, ap, subs
 use Rattle.std.specs.Prelude.{get_or}
 use Rattle.gated_log.specs.GatedLog.{slot_count, log_version}
 use Rattle.gated_log.specs.Stands.{StandsToRead}
-use Rattle.row_slot.specs.Slot.{row_in}
+use Rattle.row_slot.specs.Slot.{row_in_slot}
 use Rattle.packed_rows.specs.Rows.{slot_total, as_read}
 use Rattle.gated_log.specs.declared.version.Version.{Version}
 use Rattle.weather_book.specs.ReadBack.{row_back, slot_in, slot_number}
@@ -20,7 +20,7 @@ returns-in-Done-clause-row g c rows stands x told =
     let at = place_is (map (as_read stands.version) stands.slots) rows c.args.n c.place-place.result stands.rows_are (omega (arith, c.requires, keeps.count_is)) (c.place-place.ensures.rows rows keeps) in
     let version : c.version.result ≡ stands.version = c.version.ensures ∙ stands.version_is x told in
     let back = slot_row stands.version (get_or stands.slots c.place-place.result []) c.slot.new.buf at.0 (c.in-Done.ensures.bytes stands.slots log x told)
-    (ap row_in (sym (read_at stands.version stands.slots c.place-place.result)) ∙ at.2) in
+    (ap row_in_slot (sym (read_at stands.version stands.slots c.place-place.result)) ∙ at.2) in
     at.1 ∙ ap Some (sym (c.row_of.ensures.row ∙ ap (λ (v : Version). row_back v c.slot.new.buf) version ∙ back))
 
 pub returns-in-Done-clause-file : goal.returns-in-Done-clause-file

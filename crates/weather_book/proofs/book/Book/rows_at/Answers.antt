@@ -4,7 +4,7 @@ use Rattle.gated_log.specs.Stands.{StandsToRead}
 use Rattle.weather_book.specs.declared.answers.RowsAnswer.{RowsAnswer}
 use Rattle.weather_book.specs.declared.answers.RowsAnswer.TheVariants as rows
 use Rattle.std.specs.Prelude.{get_or}
-use Rattle.row_slot.specs.Slot.{row_in}
+use Rattle.row_slot.specs.Slot.{row_in_slot}
 use Rattle.packed_rows.specs.Rows.{slot_total, as_read}
 use Rattle.gated_log.specs.declared.version.Version.{Version}
 use Rattle.gated_log.specs.Layout.{slot_size}
@@ -32,8 +32,8 @@ returns-clause-rows g c =
     (let p = c.place-place.ensures.rows rows keeps in let q = c.rest-count.ensures.place rows keeps k lt in omega (arith, p, q)) in (
       at.0,
       at.1,
-      ap (λ (v : Version). row_in (as_read v (get_or stands.slots (c.place-place.result + k) []))) (stands.version_is x told)
-          ∙ ap row_in (sym (read_at stands.version stands.slots (c.place-place.result + k))) ∙ at.2,
+      ap (λ (v : Version). row_in_slot (as_read v (get_or stands.slots (c.place-place.result + k) []))) (stands.version_is x told)
+          ∙ ap row_in_slot (sym (read_at stands.version stands.slots (c.place-place.result + k))) ∙ at.2,
     )) x told
     ∙ ap (λ (n : ℕ). take n (drop c.args.n rows)) (c.rest-count.ensures.rows rows keeps)) c.read_slots.ensures.rows
 
