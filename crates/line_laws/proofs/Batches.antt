@@ -25,7 +25,8 @@ use Rattle.station_sim.specs.Calm.{IsCalm}
 use Rattle.station_sim.specs.Sound.{AreRecords, IsSound, AreSound}
 use Rattle.station_sim.proofs.Sounding.{records_front}
 use Rattle.line_laws.specs.Host.{ArePages}
-use Rattle.line_laws.specs.Gathers.{IsStamp, IsFrontOf, newer_held, AttemptGives}
+use Rattle.line_laws.specs.Gathers.{IsStamp, newer_held, AttemptGives}
+use Rattle.causes.specs.Lists.{IsFrontOf}
 use Rattle.line_laws.proofs.Attempts.{attempt_law}
 use Rattle.line_laws.proofs.Headers.{plan_small}
 use Rattle.line_laws.proofs.Levels.{level, level_of, Ascend, newer_level, all_ascend}

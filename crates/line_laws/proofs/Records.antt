@@ -40,7 +40,7 @@ use Rattle.station_sim.specs.Talk.{console_talk, line_step}
 use Rattle.serial_link.specs.declared.talk.TalkItem.TheVariants.{Said, Heard, Quiet}
 use Rattle.line_laws.specs.Host.{OnlyListens}
 use Rattle.console_model.specs.Valid.{IsTidy, EachFollows}
-use Rattle.line_laws.specs.Gathers.{IsFrontOf}
+use Rattle.causes.specs.Lists.{IsFrontOf}
 use Rattle.line_laws.specs.Records.{BegunIn, Sums, Now}
 use Rattle.line_laws.proofs.Asked.{at_state}
 use Rattle.station_sim.specs.Joining.{and_then_some}

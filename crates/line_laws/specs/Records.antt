@@ -4,7 +4,7 @@ use Rattle.console_model.specs.Console.{Begun}
 use Rattle.console_model.specs.Laws.{records_of}
 use Rattle.console_model.specs.Valid.{IsTidy}
 use Rattle.station_sim.specs.Line.{Line}
-use Rattle.line_laws.specs.Gathers.{IsFrontOf}
+use Rattle.causes.specs.Lists.{IsFrontOf}
 
 -- each dump began with the first of these
 abbrev pub BegunIn : List (List ℕ) → List Begun → Type 0

@@ -18,7 +18,8 @@ use Rattle.station_sim.specs.Standing.{SimStandsFor}
 use Rattle.gated_log.specs.Layout.{empty_size}
 use Rattle.station_replay.specs.Keeping.{Archive}
 use Rattle.station_replay.specs.Replay.{IsBroken, Item, Stage, after_round, opening_if_closed, is_stop, left_by_round, opened}
-use Rattle.station_replay.specs.Schedule.{ReplayStep, Stop, no_fates}
+use Rattle.station_replay.specs.Schedule.{ReplayStep, Stop}
+use Rattle.schedule_file.specs.Lists.{no_fates}
 use Rattle.station_replay.specs.Round.{tried_of}
 use Rattle.station_session.specs.Attempts.{all_said}
 use Rattle.station_replay.proofs.Leaving.{total_few}

@@ -16,7 +16,8 @@ use Rattle.schedule_file.specs.declared.schedule.step.Step as code_step
 use Rattle.schedule_file.specs.declared.schedule.step.Step.TheVariants as code
 use Rattle.schedule_file.specs.declared.schedule.step.Stop as code_stop
 use Rattle.station_sim.specs.Standing.{SimStandsFor}
-use Rattle.station_replay.specs.Schedule.{ReplayStep, no_fates}
+use Rattle.station_replay.specs.Schedule.{ReplayStep}
+use Rattle.schedule_file.specs.Lists.{no_fates}
 use Rattle.station_replay.specs.Replay.{Does, Item, Rounded, Stage, is_stop, opened}
 use Rattle.station_replay.specs.Keeping.{Archive}
 use Rattle.station_replay.specs.Stopped.{IsStop}

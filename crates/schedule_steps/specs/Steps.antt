@@ -5,7 +5,8 @@ use Rattle.schedule_file.specs.declared.schedule.step.Step.TheVariants as code
 use Rattle.station_sim.specs.Line.{Line, waited}
 use Rattle.schedule_file.specs.Lists.{fates_of, records_left_in}
 use Rattle.station_sim.specs.Talk.{idles}
-use Rattle.station_replay.specs.Schedule.{ReplayStep, no_fates}
+use Rattle.station_replay.specs.Schedule.{ReplayStep}
+use Rattle.schedule_file.specs.Lists.{no_fates}
 use Rattle.schedule_steps.specs.Runs.{run_records}
 use Rattle.schedule_steps.specs.Stops.{stop_set}
 

@@ -2,7 +2,7 @@ ghost use Rattle.std.specs.Prelude.{◌≡◌, OnOk};
 ghost use Rattle.schedule_steps.specs.Accepted.{IsInRange};
 ghost use Rattle.schedule_steps.specs.Runs.{IsRun, run_records};
 ghost use Rattle.schedule_steps.specs.Steps.{passed, step_of};
-ghost use Rattle.station_replay.specs.Schedule.{no_fates};
+ghost use Rattle.schedule_file.specs.Lists.{no_fates};
 ghost use Rattle.station_sim.specs.Line.{Line, waited};
 ghost use Rattle.schedule_file.specs.Lists.{fates_of};
 ghost use Rattle.station_sim.specs.Standing.{SimStandsFor};
