@@ -10,8 +10,8 @@ use Rattle.wake_retry.specs.Parts.{heard}
 use Rattle.wake_retry.proofs.Endings.{heard-append}
 
 -- how many bytes were heard and waits passed
-abbrev pub count_met : List TalkItem → ℕ
-count_met t = length (heard t) + count_quiets t
+abbrev pub count_served : List TalkItem → ℕ
+count_served t = length (heard t) + count_quiets t
 
 -- nothing is heard in it, and no wait passes
 abbrev pub TalkOnlySays : List TalkItem → Type 0

@@ -4,15 +4,15 @@ use Rattle.archive_record.specs.declared.record_read.RecordRead.{RecordRead}
 use Rattle.archive_record.specs.declared.record_read.RecordRead.TheVariants.{Row as ReadRow, Empty, OtherRevision, BadStamp}
 use Rattle.archive_record.specs.Reading.{reading}
 use Rattle.archive_record.specs.Record.{IsRow, ReadsAsRow}
-use Rattle.schedule_file.specs.Rows.{is_row, reads_as_row}
+use Rattle.schedule_file.specs.Rows.{is_row_read, reads_as_row}
 
-passes : (x : RecordRead) → IsRow x → is_row x ≡ true
+passes : (x : RecordRead) → IsRow x → is_row_read x ≡ true
 passes (ReadRow row) h = refl
 passes Empty h = absurd h
 passes (OtherRevision n) h = absurd h
 passes (BadStamp d t) h = absurd h
 
-passed : (x : RecordRead) → is_row x ≡ true → IsRow x
+passed : (x : RecordRead) → is_row_read x ≡ true → IsRow x
 passed (ReadRow row) h = tt
 passed Empty h = cc
 passed (OtherRevision n) h = cc

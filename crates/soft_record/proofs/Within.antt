@@ -4,7 +4,7 @@ use Rattle.std.specs.Int.{int_div_euclid, int_min, int_max}
 use Rattle.std.proofs.lemmas.Int.{ints}
 use Rattle.std.proofs.lemmas.Nat.{div_below}
 use Rattle.station_base.specs.RowLine.{IsValueWithin}
-use Rattle.soft_record.specs.Readings.{IsReading}
+use Rattle.soft_record.specs.Readings.{IsPacketReading}
 
 -- between bounds by its magnitude
 between : (n : ℕ) (z : ℤ) → unsigned_abs z ≤ n → (neg_ℤ (pos n) ≤ℤ z) × (z ≤ℤ pos n)
@@ -12,7 +12,7 @@ between n (pos a) small = (omega (arith, ints), omega (arith, ints))
 between n (negsuc a) small = (omega (arith, ints), omega (arith, ints))
 
 -- a reading is a value that a record can hold
-pub reading_within : (number : Option ℤ) → IsReading number → IsValueWithin 65535 number
+pub reading_within : (number : Option ℤ) → IsPacketReading number → IsValueWithin 65535 number
 reading_within None small x is = absurd (let no : None ≡ Some x = is in cc)
 reading_within (Some n) small x is = between 65535 x (let same : n ≡ x = cc in let P : ℤ → Type 0 = λ (z : ℤ). unsigned_abs z ≤ 65535 in subst P same small)
 

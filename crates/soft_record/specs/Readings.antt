@@ -5,8 +5,8 @@ use Rattle.station_base.specs.RowLine.{IsValueWithin}
 use Rattle.station_base.specs.declared.row.Row.{Row}
 
 -- no number, or one of two bytes at most
-abbrev pub IsReading : Option ℤ → Type 0
-IsReading number = IfSome number (λ n. unsigned_abs n ≤ 65535)
+abbrev pub IsPacketReading : Option ℤ → Type 0
+IsPacketReading number = IfSome number (λ n. unsigned_abs n ≤ 65535)
 
 -- each value of the row is a number of two bytes at most, and limits made none of them missing
 pub record HasReadings (row : Row) : Type 0 where

@@ -2,7 +2,7 @@
 use Rattle.std.specs.Prelude.{ℕ, ◌≡◌, ◌≤◌, ◌*◌, List, sum_by}
 use Rattle.soft_record.specs.Interval.{Rising}
 use Rattle.soft_record.specs.Numbers.{last_of_numbers}
-use Rattle.soft_record.specs.Readings.{IsReading}
+use Rattle.soft_record.specs.Readings.{IsPacketReading}
 use Rattle.soft_record.specs.SoftRow.{out_temps, in_temps, barometers, radiations, winds, uvs, rain_rates, in_humidities, out_humidities}
 use Rattle.soft_record.specs.Spread.{IsSpreadOf, IsSmallOf}
 use Rattle.soft_record.specs.declared.sums.Sums.{Sums}
@@ -34,7 +34,7 @@ pub record AreSmall (s : Sums) : Type 0 where
   pub wind : IsSmallOf (entries_in s) s.wind
   pub uv : IsSmallOf (entries_in s) s.uv
   pub rain_rate : IsSmallOf (entries_in s) s.rain_rate
-  pub in_humidity : IsReading s.in_humidity
-  pub out_humidity : IsReading s.out_humidity
+  pub in_humidity : IsPacketReading s.in_humidity
+  pub out_humidity : IsPacketReading s.out_humidity
   pub rain : s.rain ≤ 65535 * entries_in s
   pub et : s.et ≤ 65535 * entries_in s

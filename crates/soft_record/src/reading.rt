@@ -1,6 +1,6 @@
 ghost use Rattle.std.specs.Prelude.{◌≡◌, pos, Some};
 ghost use Rattle.soft_record.specs.Marks.{latest, no_barometer, no_byte, no_radiation, no_temperature, there};
-ghost use Rattle.soft_record.specs.Readings.{IsReading};
+ghost use Rattle.soft_record.specs.Readings.{IsPacketReading};
 
 use loop_packet::LoopPacket;
 
@@ -16,7 +16,7 @@ const NO_BYTE: u8 = 255;
 /// The temperature outside, if it is there.
 pub fn out_temp(packet: &LoopPacket) -> Option<i32>
     ensures exact { result ≡ there no_temperature packet.now.out_temp }
-    ensures small { IsReading result }
+    ensures small { IsPacketReading result }
 {
     let number = packet.out_temp;
     temperature(number)
@@ -25,7 +25,7 @@ pub fn out_temp(packet: &LoopPacket) -> Option<i32>
 /// The temperature inside, if it is there.
 pub fn in_temp(packet: &LoopPacket) -> Option<i32>
     ensures exact { result ≡ there no_temperature packet.now.in_temp }
-    ensures small { IsReading result }
+    ensures small { IsPacketReading result }
 {
     let number = packet.in_temp;
     temperature(number)
@@ -34,7 +34,7 @@ pub fn in_temp(packet: &LoopPacket) -> Option<i32>
 // A temperature, if it is there.
 fn temperature(number: i16) -> Option<i32>
     ensures exact { result ≡ there no_temperature number }
-    ensures small { IsReading result }
+    ensures small { IsPacketReading result }
 {
     if number == NO_TEMPERATURE {
         return None;
@@ -45,7 +45,7 @@ fn temperature(number: i16) -> Option<i32>
 /// A barometer's number, if it is there.
 pub fn barometer(number: u16) -> Option<i32>
     ensures exact { result ≡ there no_barometer (pos number) }
-    ensures small { IsReading result }
+    ensures small { IsPacketReading result }
 {
     if number == NO_BAROMETER {
         return None;
@@ -56,7 +56,7 @@ pub fn barometer(number: u16) -> Option<i32>
 /// A radiation, if it is there.
 pub fn radiation(number: u16) -> Option<i32>
     ensures exact { result ≡ there no_radiation (pos number) }
-    ensures small { IsReading result }
+    ensures small { IsPacketReading result }
 {
     if number == NO_RADIATION {
         return None;
@@ -67,7 +67,7 @@ pub fn radiation(number: u16) -> Option<i32>
 /// A humidity, a wind or a UV index, if it is there.
 pub fn byte(number: u8) -> Option<i32>
     ensures exact { result ≡ there no_byte (pos number) }
-    ensures small { IsReading result }
+    ensures small { IsPacketReading result }
 {
     if number == NO_BYTE {
         return None;
@@ -78,17 +78,17 @@ pub fn byte(number: u8) -> Option<i32>
 /// A rate of rain, which is always there.
 pub fn rain_rate(number: u16) -> Option<i32>
     ensures exact { result ≡ Some (pos number) }
-    ensures small { IsReading result }
+    ensures small { IsPacketReading result }
 {
     Some(i32::from(number))
 }
 
 /// The number, or the one before if it is not there.
 pub fn latest(number: Option<i32>, before: Option<i32>) -> Option<i32>
-    requires number { IsReading number }
-    requires before { IsReading before }
+    requires number { IsPacketReading number }
+    requires before { IsPacketReading before }
     ensures exact { result ≡ latest number before }
-    ensures small { IsReading result }
+    ensures small { IsPacketReading result }
 {
     match number {
         Some(number) => Some(number),

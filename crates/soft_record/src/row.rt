@@ -1,7 +1,7 @@
 ghost use Rattle.std.specs.Prelude.{◌≡◌, List};
 ghost use Rattle.station_base.specs.CivilMinute.{IsCivilMinute, minute_of};
 ghost use Rattle.soft_record.specs.Interval.{Rising};
-ghost use Rattle.soft_record.specs.Readings.{HasReadings, IsReading};
+ghost use Rattle.soft_record.specs.Readings.{HasReadings, IsPacketReading};
 ghost use Rattle.soft_record.specs.SoftRow.{IsSoftRow, at_most};
 ghost use Rattle.soft_record.specs.Sums.{AreSmall, AreSumsOf};
 
@@ -68,7 +68,7 @@ pub fn row_of(end: Stamp, period: Period, sums: &Sums) -> Row
 // A sum, and of a greater one the most that two bytes hold.
 fn at_most(sum: u32) -> Option<i32>
     ensures exact { result ≡ at_most sum }
-    ensures reading { IsReading result }
+    ensures reading { IsPacketReading result }
 {
     Some(sum.min(MOST) as i32)
 }

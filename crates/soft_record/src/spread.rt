@@ -2,7 +2,7 @@ ghost use Rattle.std.specs.Prelude.{◌≡◌, ◌+◌, ◌<◌, ◌≤◌, [], 
 ghost use Rattle.std.specs.Int.{int_max, int_min};
 ghost use Rattle.soft_record.specs.IntervalEnd.{longest};
 ghost use Rattle.soft_record.specs.Numbers.{greatest_of, least_of, mean_of, with_number};
-ghost use Rattle.soft_record.specs.Readings.{IsReading};
+ghost use Rattle.soft_record.specs.Readings.{IsPacketReading};
 
 /// What numbers come to.
 #[derive(Clone, Copy, Debug, PartialEq, Eq)]
@@ -37,7 +37,7 @@ impl Spread {
     /// With one more number, if it is there.
     pub fn with(self, number: Option<i32>) -> Spread
         requires few { self.count < longest }
-        requires reading { IsReading number }
+        requires reading { IsPacketReading number }
         requires small { IsSmall self }
         ensures spread { (numbers : List ℤ) → IsSpreadOf numbers self → IsSpreadOf (with_number numbers number) result }
         ensures small { IsSmall result }
@@ -88,7 +88,7 @@ impl Spread {
     pub fn mean(self) -> Option<i32>
         requires { IsSmall self }
         ensures mean { (numbers : List ℤ) → IsSpreadOf numbers self → result ≡ mean_of numbers }
-        ensures reading { IsReading result }
+        ensures reading { IsPacketReading result }
     {
         if self.count == 0 {
             return None;
@@ -99,7 +99,7 @@ impl Spread {
     /// How many numbers there are.
     pub fn samples(self) -> Option<i32>
         ensures samples { (numbers : List ℤ) → IsSpreadOf numbers self → result ≡ Some (pos (length numbers)) }
-        ensures reading { IsReading result }
+        ensures reading { IsPacketReading result }
     {
         Some(i32::from(self.count))
     }
@@ -109,7 +109,7 @@ impl Spread {
     pub fn least(self) -> Option<i32>
         requires { IsSmall self }
         ensures least { (numbers : List ℤ) → IsSpreadOf numbers self → result ≡ least_of numbers }
-        ensures reading { IsReading result }
+        ensures reading { IsPacketReading result }
     {
         if self.count == 0 {
             return None;
@@ -122,7 +122,7 @@ impl Spread {
     pub fn greatest(self) -> Option<i32>
         requires { IsSmall self }
         ensures greatest { (numbers : List ℤ) → IsSpreadOf numbers self → result ≡ greatest_of numbers }
-        ensures reading { IsReading result }
+        ensures reading { IsPacketReading result }
     {
         if self.count == 0 {
             return None;
