@@ -4,11 +4,13 @@
     tools/definitions.py            writes the page
     tools/definitions.py --check    writes nothing; the status is 1 if the page is not what would be written
 
-What no comment says, such as the sources, stands in tools/definitions/sources.md by crates.
+A name that two definitions have is printed, and the status is 1 then. What no comment says, such as the sources, stands in
+tools/definitions/sources.md by crates.
 """
 import re
 import sys
 import textwrap
+from collections import defaultdict
 
 sys.dont_write_bytecode = True  # nothing is left beside the scripts
 
@@ -20,6 +22,7 @@ SOURCES = spec_files.TOP / 'tools/definitions/sources.md'
 WIDTH = 120
 TESTS = '_tests'
 FIELD = re.compile(r'^  pub (\w+) :', re.M)
+OF_MANY = ('◌>>=◌',)  # `do` reads it by this name
 
 
 def sources():
@@ -58,9 +61,17 @@ def file_part(file, cited):
     return f'[{file.module}](../{path}). {file.heading}\n\n' + '\n'.join(entries) + '\n'
 
 
-def page():
+def shared(files):
+    """The names that several definitions have, each with the crates in which they stand."""
+    crates = defaultdict(list)
+    for file in files.values():
+        for word in file.definitions:
+            crates[word].append(file.crate)
+    return {word: found for word, found in crates.items() if len(found) > 1 and word not in OF_MANY}
+
+
+def page(files):
     """The text of the page."""
-    files = spec_files.read_specs()
     crates = [crate for crate in spec_files.crates_in_order() if not crate.endswith(TESTS)]
     cited = set().union(*(public_contracts.cited_by(crate, files) for crate in crates))
     opening, said = sources()
@@ -80,13 +91,16 @@ def main(words):
     if words not in ([], ['--check']):
         print(__doc__.split('\n\n')[1], file=sys.stderr)
         return 2
-    text = page()
+    files = spec_files.read_specs()
+    text, several = page(files), shared(files)
+    for word, crates in several.items():
+        print(f'{word} stands in {" and ".join(crates)}: give each definition a name with its subject')
     if not words:
         PAGE.write_text(text, encoding='utf-8')
     elif PAGE.read_text(encoding='utf-8') != text:
         print('docs/DEFINITIONS.md is not what tools/definitions.py makes: run it, and read what changed')
         return 1
-    return 0
+    return 1 if several else 0
 
 
 if __name__ == '__main__':

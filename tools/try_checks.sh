@@ -131,5 +131,8 @@ expect 'a page on the headline that was edited' 1 '*HEADLINE.md is not what*' \
     made_page headline pages/docs/HEADLINE.md 's/replay/replays/'
 expect 'a page of definitions that was edited' 1 '*DEFINITIONS.md is not what*' \
     made_page definitions pages/docs/DEFINITIONS.md 's/well/ill/'
+pages/tools/definitions.py
+expect 'a name of two definitions' 1 'one stands in low and station_top*' \
+    made_page definitions pages/crates/station_top/specs/Run.antt '$ a\\n-- another one\nabbrev pub one : N\none = 2'
 
 conclude
