@@ -12,7 +12,7 @@ use Rattle.dmpaft_pump.specs.declared.outcome.DumpEnd.TheVariants as dump_end
 use Rattle.dmpaft_pump.proofs.Keeping.{join_none, kept_in_all}
 use Rattle.station_session.specs.declared.round_end.RoundEnd.{RoundEnd}
 use Rattle.station_session.specs.declared.round_end.RoundEnd.TheVariants as round_end
-use Rattle.station_session.specs.Attempts.{Attempts, EndsBefore, IsTried, Tried, all_batches, all_said, batches_in, end_after, page_count, skip_count, stamp_after}
+use Rattle.station_session.specs.Attempts.{Attempts, EndsBefore, IsTried, Tried, all_batches, all_said, batches_in, end_after, most_attempts, page_count, skip_count, stamp_after}
 use Rattle.station_session.specs.Batches.{Fit, kept_count, kept_records}
 use Rattle.station_session.proofs.Ends.{goes_on, kept_done, last_in, went_on}
 use Rattle.station_session.proofs.Parts.{count_parts, fit_parts}
@@ -259,15 +259,15 @@ module _ (most : ℕ) (stop : Option Stop) (f : Fates) where
 
   -- a round of no more attempts is given up
   gave_up : (fails : Bool) (made stored held : ℕ) (last : Option CivilMinute) (w : Line) (end : RoundEnd) (v : Line)
-      → RoundFrom fails made stored held last w [] end v → (made ≡ 3) × (end ≡ round_end.GaveUp)
+      → RoundFrom fails made stored held last w [] end v → (made ≡ most_attempts) × (end ≡ round_end.GaveUp)
   gave_up fails made stored held last w end v h = go h.attempts
     where
-      go : Attempts made last [] end → (made ≡ 3) × (end ≡ round_end.GaveUp)
+      go : Attempts made last [] end → (made ≡ most_attempts) × (end ≡ round_end.GaveUp)
       go (inl (none, before)) = absurd (not_before end before h.may_end)
       go (inr gave) = gave
 
   less_made : (fails : Bool) (made stored held : ℕ) (last : Option CivilMinute) (w : Line) (t : Tried) (ts : List Tried) (end : RoundEnd)
-      (v : Line) → RoundFrom fails made stored held last w (t ∷ ts) end v → made < 3
+      (v : Line) → RoundFrom fails made stored held last w (t ∷ ts) end v → made < most_attempts
   less_made fails made stored held last w t ts end v h = h.attempts.0
 
   -- Two rounds are the same, end alike and lead to one line.

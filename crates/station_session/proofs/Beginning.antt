@@ -43,7 +43,7 @@ round_begun last round shows more none = record {
   troubles = none;
 }
 
-pub fits_begun : (session : Session) (round : Round) (report : Report) → RoundAt (last_stamp_of session.book) [] [] round → session_is_stale session ≡ false → report.attempts + round.more ≡ 3 → report.tally ≡ round.pump.tally
+pub fits_begun : (session : Session) (round : Round) (report : Report) → RoundAt (last_stamp_of session.book) [] [] round → session_is_stale session ≡ false → report.attempts + round.more ≡ most_attempts → report.tally ≡ round.pump.tally
     → report.troubles.items ≡ round.troubles.items → report.marks.items ≡ [] → MOST_ROWS ≤ spare session.book → MOST_BATCHES ≤ vec_capacity report.marks → RoundFits session round report
 fits_begun session round report at fresh attempts tally troubles none rows marks =
     let count : vec_len report.marks ≡ 0 = omega (arith, report.marks.ok.0, ap (λ (x : List Mark). length x) none) in

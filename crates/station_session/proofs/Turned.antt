@@ -184,7 +184,7 @@ module _ {last : Option CivilMinute} {talk : List TalkItem} {kept : List (List (
     troubles_are noted is =
         is ∙ ap (λ (x : List Trouble). x ++ trouble_of end) r.troubles ∙ sym (troubles_is last r.tries (r.said ++ t) end (handed_over a s) tally r.failed less b)
 
-    pub ends_round : (e : RoundEnd) → (end_after end ≡ Some e) ⊎ ((end_after end ≡ None) × (e ≡ round_end.GaveUp) × (round.more ≡ 0)) → (report : Report) → report.attempts + round.more ≡ 3 → report.tally ≡ tally
+    pub ends_round : (e : RoundEnd) → (end_after end ≡ Some e) ⊎ ((end_after end ≡ None) × (e ≡ round_end.GaveUp) × (round.more ≡ 0)) → (report : Report) → report.attempts + round.more ≡ most_attempts → report.tally ≡ tally
         → report.troubles.items ≡ round.troubles.items ++ trouble_of end → EndsRound last (talk ++ t) (join (kept_all kept) given) e report
     unfolding tries
     ends_round e how report made counts noted = record {
@@ -327,7 +327,7 @@ module _ {last : Option CivilMinute} {talk : List TalkItem} {kept : List (List (
         ]
 
     -- its batch was refused
-    pub refuses : (mid round' : Round) → mid.pump ≡ new.pump → mid.more ≡ round.more → mid.troubles.items ≡ round.troubles.items → (end : RoundEnd) → IsRefused end mid round' → (report : Report) → report.attempts + round'.more ≡ 3 → report.tally ≡ round'.pump.tally
+    pub refuses : (mid round' : Round) → mid.pump ≡ new.pump → mid.more ≡ round.more → mid.troubles.items ≡ round.troubles.items → (end : RoundEnd) → IsRefused end mid round' → (report : Report) → report.attempts + round'.more ≡ most_attempts → report.tally ≡ round'.pump.tally
         → report.troubles.items ≡ round'.troubles.items → EndsRound last (talk ++ v.said) (join (kept_all kept) (gives a r.state v.answers)) end report × IsOneAtMost v.said (gives a r.state v.answers)
     refuses mid round' pump more before end (is, e, at_end, refused) report made counts noted =
         let ended : end_at new.pump.stage ≡ Some e = sym (ap (λ (x : Pump). end_at x.stage) pump) ∙ at_end in
@@ -360,7 +360,7 @@ module _ {last : Option CivilMinute} {talk : List TalkItem} {kept : List (List (
         by_end (inl (place, taken, e, is, end_is, none, noks)) = ap (λ (x : DumpEnd). answer_at (round_end_of x)) end_is ∙ mild_answer e (never_refused r place taken e is)
         by_end (inr (cut, noks, talks, stays, says)) = cut_answer end cut
 
-    pub ends : (mid round' : Round) → mid.pump ≡ new.pump → mid.more ≡ round.more → mid.troubles.items ≡ round.troubles.items → Notes end mid round' → (report : Report) → report.attempts + round'.more ≡ 3 → report.tally ≡ round'.pump.tally
+    pub ends : (mid round' : Round) → mid.pump ≡ new.pump → mid.more ≡ round.more → mid.troubles.items ≡ round.troubles.items → Notes end mid round' → (report : Report) → report.attempts + round'.more ≡ most_attempts → report.tally ≡ round'.pump.tally
         → report.troubles.items ≡ round'.troubles.items → EndsRound last (talk ++ v.said) (join (kept_all kept) (gives a r.state v.answers)) (round_end_of end) report × IsOneAtMost v.said (gives a r.state v.answers)
     ends mid round' pump more before is report made counts noted =
         let how = subst (λ (x : Pump). EndsAt end r.state v.said v.answers ⊎ CutsAt end a r.state v.said v.answers x) same v.turns.1 in
