@@ -1,6 +1,6 @@
 -- On whatever line an attempt goes to an end.
 use Rattle.std.proofs.Common.{◌≡◌, ◌≢◌, ℕ, zero, suc, Bool, true, false, List, [], ◌∷◌, ◌++◌, length, Option}
-use Rattle.std.proofs.Common.{refl, sym, ◌∙◌, ap}
+use Rattle.std.proofs.Common.{refl, sym, ◌∙◌, ap, ◌-◌}
 use Rattle.std.specs.Prelude.{bytes_eq}
 use Rattle.station_base.specs.CivilMinute.{CivilMinute}
 use Rattle.causes.specs.declared.stored.Stored.{Stored}
@@ -21,7 +21,7 @@ use Rattle.dmpaft_driver.specs.Turning.{dump_end_of}
 use Rattle.dmpaft_pump.specs.Pump.{AttemptPart, Settling, Waking, Calling, Heading, Asking, Resettling, Acking, GivingUp}
 use Rattle.dmpaft_pump.specs.Pump.{AttemptState, Keeping, Over, words, quiets, most as most_bytes, batch_of}
 use Rattle.dmpaft_pump.specs.Pump.{onward, batched, woken, called, headed, asked_again, page_judged, next_after_part, begun}
-use Rattle.dmpaft_pump.specs.Pump.{state_at, pump_from}
+use Rattle.dmpaft_pump.specs.Pump.{state_at, most_askings, pump_from}
 use Rattle.dmpaft_driver.proofs.Exactly.{some_quiets, some_bytes, told_is, kept_done}
 use Rattle.dmpaft_driver.proofs.Rest.{Listens}
 use Rattle.dmpaft_pump.proofs.Walking.{said_in, heard_in}
@@ -218,13 +218,13 @@ module _ (after : Option CivilMinute) (most held before : ℕ) (stop : Option St
   -- so many pages more are asked for
   goes_on_all : (more : ℕ) → GoesOn more
   goes_on_all zero place taken w k = acks place taken w k
-  goes_on_all (suc more) place taken w k = asks_from more (goes_on_all more) 3 place taken 6 w k
+  goes_on_all (suc more) place taken w k = asks_from more (goes_on_all more) (most_askings - 1) place taken 6 w k
 
   module _ (kept_none : (place : ℕ) → HasKept stored.Done place []) where
     -- after the stamp frame, by what answered it
     heads : (reply : Reply) (w : Line) → Ends (state_at after (headed reply)) w
     heads (Reply.Header zero place) w = ended place [] pump_end.Whole w (kept_none place)
-    heads (Reply.Header (suc more) place) w = asks_from more (goes_on_all more) 3 place [] 6 w (kept_none place)
+    heads (Reply.Header (suc more) place) w = asks_from more (goes_on_all more) (most_askings - 1) place [] 6 w (kept_none place)
     heads (Reply.NoHeader trouble) w = gives_up 0 [] trouble w (kept_none 0)
 
     -- after DMPAFT, by what answered it
