@@ -18,7 +18,7 @@ use Rattle.station_base.proofs.FieldSets.{missing_below}
 use Rattle.station_base.proofs.Periods.{period_bound}
 use Rattle.station_base.proofs.Words.{stamp_of_words-of, words_of-stamp}
 use Rattle.row_slot.specs.Values.{presence_of, numbers_of, spelled_numbers, slot_values_in}
-use Rattle.row_slot.specs.Slot.{slot_of, number_at, is_marked, stamp_in_slot, interval_in, limited_in, row_of, row_in_slot, row_size}
+use Rattle.row_slot.specs.Slot.{slot_of, number_at, is_marked, stamp_in_slot, interval_in, presence_in, values_in, limited_in, row_of, row_in_slot, row_size}
 use Rattle.causes.specs.Lists.{AreBytes}
 use Rattle.causes.proofs.Bytes.{bytes_behind}
 use Rattle.row_slot.proofs.Bytes.{bytes_again}
@@ -117,11 +117,11 @@ unfolding slot_of
 interval_written row period =
     little_number-reads_back 2 row.interval (drop 10 (slot_of row)) (omega (arith, period_bound row.interval period))
 
-values_written : (row : Row) → length row.values ≡ 37 → All IsPrintable row.values → slot_values_in 37 (number_at 8 12 (slot_of row)) (drop 20 (slot_of row)) ≡ Some row.values
+values_written : (row : Row) → length row.values ≡ 37 → All IsPrintable row.values → values_in (slot_of row) ≡ Some row.values
 unfolding slot_of
 values_written row long printable =
     let below : presence_of row.values < 2 ^ 37 = subst (λ (n : ℕ). presence_of row.values < 2 ^ n) long (presence_below row.values) in
-    let presence : number_at 8 12 (slot_of row) ≡ presence_of row.values = little_number-reads_back 8 (presence_of row.values) (drop 20 (slot_of row)) (omega arith) in
+    let presence : presence_in (slot_of row) ≡ presence_of row.values = little_number-reads_back 8 (presence_of row.values) (drop 20 (slot_of row)) (omega arith) in
     ap (λ (n : ℕ). slot_values_in 37 n (drop 20 (slot_of row))) presence
     ∙ ap (λ (n : ℕ). slot_values_in n (presence_of row.values) (drop 20 (slot_of row))) (sym long)
     ∙ values_back row.values (little_bytes 8 row.limited) printable
@@ -132,7 +132,7 @@ unfolding row_in_slot
 row_in-slot_of row is =
     let slot : List ℕ = slot_of row in
     let interval = interval_written row is.period in
-    parts_row (is_marked slot) (is_period (interval_in slot)) (stamp_in_slot slot) (interval_in slot) (slot_values_in 37 (number_at 8 12 slot) (drop 20 slot)) (limited_in slot) row
+    parts_row (is_marked slot) (is_period (interval_in slot)) (stamp_in_slot slot) (interval_in slot) (values_in slot) (limited_in slot) row
     (is_marked-marks slot (marks_written row is.long)) (stamp_written row is.civil) (ap is_period interval ∙ is.period) interval
     (values_written row is.long is.printable) (limited_written row is.long (missing_below row.limited row.values is.missing)) is.missing
 
@@ -142,7 +142,7 @@ pub record AreParts (slot : List ℕ) (row : Row) : Type 0 where
   pub stamp : stamp_in_slot slot ≡ Some row.stamp
   pub period : is_period (interval_in slot) ≡ true
   pub interval : interval_in slot ≡ row.interval
-  pub values : slot_values_in 37 (number_at 8 12 slot) (drop 20 slot) ≡ Some row.values
+  pub values : values_in slot ≡ Some row.values
   pub limited : limited_in slot ≡ row.limited
   pub missing : AreMissing row.limited row.values
 
@@ -167,7 +167,7 @@ parts_by true true (Some stamp) interval (Some values) limited row is = go (are_
 pub parts-row_in : (slot : List ℕ) (row : Row) → row_in_slot slot ≡ Some row → AreParts slot row
 unfolding row_in_slot
 parts-row_in slot row is =
-    let parts = parts_by (is_marked slot) (is_period (interval_in slot)) (stamp_in_slot slot) (interval_in slot) (slot_values_in 37 (number_at 8 12 slot) (drop 20 slot)) (limited_in slot) row is in
+    let parts = parts_by (is_marked slot) (is_period (interval_in slot)) (stamp_in_slot slot) (interval_in slot) (values_in slot) (limited_in slot) row is in
     record { marked = parts.0; stamp = parts.1; period = parts.2; interval = parts.3; values = parts.4; limited = parts.5; missing = parts.6 }
 
 -- one part of a slot, and what stands behind it
@@ -193,8 +193,8 @@ slot_of-row_in slot row long fits is =
     let parts : AreParts slot row = parts-row_in slot row is in
     let marks : AreMarks slot = marks-is_marked slot parts.marked in
     let words = words_of-stamp (number_at 2 4 slot) (number_at 2 6 slot) row.stamp parts.stamp in
-    let told : AreTold 37 (number_at 8 12 slot) (drop 20 slot) row.values =
-    values_again 37 (number_at 8 12 slot) (drop 20 slot) row.values (omega (arith, length-drop 20 slot)) (bytes_behind 20 slot fits) parts.values in
+    let told : AreTold 37 (presence_in slot) (drop 20 slot) row.values =
+    values_again 37 (presence_in slot) (drop 20 slot) row.values (omega (arith, length-drop 20 slot)) (bytes_behind 20 slot fits) parts.values in
     let values : drop 20 slot ≡ spelled_numbers (numbers_of row.values) ++ drop 168 slot =
     sym (take-append-drop 148 (drop 20 slot)) ∙ ap (λ (xs : List ℕ). xs ++ drop 148 (drop 20 slot)) (sym told.numbers)
     ∙ ap (λ (xs : List ℕ). spelled_numbers (numbers_of row.values) ++ xs) (drop-drop 148 20 slot) in
@@ -217,7 +217,7 @@ slot_of-row_in slot row long fits is =
 pub printable-row_in : (slot : List ℕ) (row : Row) → length slot ≡ row_size → AreBytes slot → row_in_slot slot ≡ Some row → All IsPrintable row.values
 printable-row_in slot row long fits is =
     let parts : AreParts slot row = parts-row_in slot row is in
-    (values_again 37 (number_at 8 12 slot) (drop 20 slot) row.values (omega (arith, length-drop 20 slot)) (bytes_behind 20 slot fits) parts.values).printable
+    (values_again 37 (presence_in slot) (drop 20 slot) row.values (omega (arith, length-drop 20 slot)) (bytes_behind 20 slot fits) parts.values).printable
 
 -- and a field that limits made missing has none
 pub missing-row_in : (slot : List ℕ) (row : Row) → row_in_slot slot ≡ Some row → AreMissing row.limited row.values

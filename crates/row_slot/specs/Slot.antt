@@ -42,6 +42,14 @@ stamp_in_slot slot = stamp_of_words (number_at 2 4 slot) (number_at 2 6 slot)
 abbrev pub interval_in : List ℕ → ℕ
 interval_in slot = number_at 2 8 slot
 
+-- the presence bits
+abbrev pub presence_in : List ℕ → ℕ
+presence_in slot = number_at 8 12 slot
+
+-- the values of the fields, where each is allowed
+abbrev pub values_in : List ℕ → Option (List (Option ℤ))
+values_in slot = slot_values_in 37 (presence_in slot) (drop 20 slot)
+
 -- the bits of the fields that limits made missing
 abbrev pub limited_in : List ℕ → ℕ
 limited_in slot = number_at 8 168 slot
@@ -59,5 +67,5 @@ row_of true (Some stamp) true interval (Some values) limited =
 -- the row of a slot, and none where it is ill-formed
 unfoldable pub row_in_slot : List ℕ → Option Row
 row_in_slot slot =
-    row_of (is_marked slot) (stamp_in_slot slot) (is_period (interval_in slot)) (interval_in slot)
-    (slot_values_in 37 (number_at 8 12 slot) (drop 20 slot)) (limited_in slot)
+    row_of (is_marked slot) (stamp_in_slot slot) (is_period (interval_in slot)) (interval_in slot) (values_in slot)
+    (limited_in slot)

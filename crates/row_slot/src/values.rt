@@ -1,8 +1,8 @@
 ghost use Rattle.std.specs.Prelude.{◌≡◌, ◌+◌, ◌*◌, ◌<◌, drop, length};
 ghost use Rattle.std.specs.Bool.{then_some};
 ghost use Rattle.station_base.specs.FieldSet.{are_missing};
-ghost use Rattle.row_slot.specs.Slot.{number_at};
-ghost use Rattle.row_slot.specs.Values.{is_allowed, signed_number_in, numbers_of, presence_of, spelled_numbers, slot_values_in};
+ghost use Rattle.row_slot.specs.Slot.{limited_in, presence_in, values_in};
+ghost use Rattle.row_slot.specs.Values.{is_allowed, signed_number_in, numbers_of, presence_of, spelled_numbers};
 
 use crate::layout::{LIMITED, PRESENCE, ROW_SIZE, VALUES};
 use byteorder::{ByteOrder, LittleEndian};
@@ -42,7 +42,7 @@ pub fn spelled(values: &[Option<i32>; FIELD_COUNT]) -> [u8; LIMITED - VALUES]
 // was read means nothing.
 #[tactic(auto, unfolding(crate::specs::Values::slot_values_in))]
 pub fn read_values(slot: &[u8; ROW_SIZE], values: &mut [Option<i32>; FIELD_COUNT]) -> bool
-    ensures { slot_values_in 37 (number_at 8 12 slot.now) (drop 20 slot.now) ≡ then_some result values.new }
+    ensures { values_in slot.now ≡ then_some result values.new }
 {
     let presence = presence_in(slot);
     for field in 0..FIELD_COUNT {
@@ -61,7 +61,7 @@ pub fn read_values(slot: &[u8; ROW_SIZE], values: &mut [Option<i32>; FIELD_COUNT
 
 /// The bits of a slot for the fields that limits made missing, whether the slot is well-formed or not.
 pub fn limited_in(slot: &[u8; ROW_SIZE]) -> u64
-    ensures { result ≡ number_at 8 168 slot.now }
+    ensures { result ≡ limited_in slot.now }
 {
     LittleEndian::read_u64(&slot[LIMITED..])
 }
@@ -78,7 +78,7 @@ pub fn are_missing(limited: u64, values: &[Option<i32>; FIELD_COUNT]) -> bool
 
 // The presence bits.
 fn presence_in(slot: &[u8; ROW_SIZE]) -> u64
-    ensures { result ≡ number_at 8 12 slot.now }
+    ensures { result ≡ presence_in slot.now }
 {
     LittleEndian::read_u64(&slot[PRESENCE..])
 }
