@@ -67,23 +67,22 @@ copied head numbers first second first_is second_is head_long numbers_long =
     ap (λ (xs : List ℕ). put_mid 20 148 (xs ++ zeros) second) first_is ∙ ap (put_mid 20 148 (head ++ zeros)) second_is
     ∙ ap (λ (xs : List ℕ). xs ++ (numbers ++ drop 148 (drop 20 (head ++ zeros)))) front ∙ ap (λ (xs : List ℕ). head ++ (numbers ++ drop 148 xs)) behind
 
--- and a number in the place of the zeros behind them
-pub ended : (head numbers last : List ℕ) → length head ≡ 20 → length numbers ≡ 148 → take 168 (head ++ (numbers ++ little_bytes 8 0)) ++ last ≡ head ++ (numbers ++ last)
-ended head numbers last head_long numbers_long =
+-- and a number in the place of what stands behind them
+pub ended : (head numbers rest last : List ℕ) → length head ≡ 20 → length numbers ≡ 148 → take 168 (head ++ (numbers ++ rest)) ++ last ≡ head ++ (numbers ++ last)
+ended head numbers rest last head_long numbers_long =
     let front : List ℕ = head ++ numbers in
     let long : length front ≡ 168 = omega (arith, length-append head numbers) in
-    let whole : head ++ (numbers ++ little_bytes 8 0) ≡ front ++ little_bytes 8 0 = sym (append_assoc head numbers (little_bytes 8 0)) in
-    let taken : take 168 (front ++ little_bytes 8 0) ≡ front = ap (λ (n : ℕ). take n (front ++ little_bytes 8 0)) (sym long) ∙ take-append_seam front (little_bytes 8 0) in
-    ap (λ (xs : List ℕ). take 168 xs ++ last) whole ∙ ap (λ (xs : List ℕ). xs ++ last) taken ∙ append_assoc head numbers last
+    let taken : take 168 (front ++ rest) ≡ front = ap (λ (n : ℕ). take n (front ++ rest)) (sym long) ∙ take-append_seam front rest in
+    ap (λ (xs : List ℕ). take 168 xs ++ last) (sym (append_assoc head numbers rest)) ∙ ap (λ (xs : List ℕ). xs ++ last) taken ∙ append_assoc head numbers last
 
-pub put_last : (slot last new : List ℕ) → length slot ≡ row_size → new ≡ last ++ drop 8 (take 8 (drop 168 slot)) → put_mid 168 8 slot new ≡ take 168 slot ++ last
-put_last slot last new long is =
+pub put_last : (n : ℕ) (slot last new : List ℕ) → length slot ≡ 168 + n → new ≡ last ++ drop n (take n (drop 168 slot)) → put_mid 168 n slot new ≡ take 168 slot ++ last
+put_last n slot last new long is =
     let behind : List ℕ = drop 168 slot in
-    let eight : length behind ≡ 8 = omega (arith, length-drop 168 slot) in
-    let short : length (take 8 behind) ≡ 8 = length-take-le 8 behind (omega arith) in
-    let none : drop 8 (take 8 behind) ≡ [] = drop_all 8 (take 8 behind) (omega arith) in
-    let rest : drop 8 behind ≡ [] = drop_all 8 behind (omega arith) in
+    let size : length behind ≡ n = omega (arith, length-drop 168 slot) in
+    let short : length (take n behind) ≡ n = length-take-le n behind (omega arith) in
+    let none : drop n (take n behind) ≡ [] = drop_all n (take n behind) (omega arith) in
+    let rest : drop n behind ≡ [] = drop_all n behind (omega arith) in
     let new_is : new ≡ last = is ∙ ap (λ (xs : List ℕ). last ++ xs) none ∙ append-nil last in
-    ap (λ (xs : List ℕ). take 168 slot ++ (xs ++ drop 8 behind)) new_is
+    ap (λ (xs : List ℕ). take 168 slot ++ (xs ++ drop n behind)) new_is
     ∙ ap (λ (xs : List ℕ). take 168 slot ++ (last ++ xs)) rest
     ∙ ap (λ (xs : List ℕ). take 168 slot ++ xs) (append-nil last)

@@ -15,7 +15,7 @@ returns-clause-bytes c =
     c.set_limited.ensures ∙ ap (λ (slot : List ℕ). take 168 slot ++ last) c.whole_slot-slot.ensures
     ∙ ap (λ (xs : List ℕ). take 168 (xs ++ (c.spelled.result ++ little_bytes 8 0)) ++ last) c.head_of.ensures.bytes
     ∙ ap (λ (xs : List ℕ). take 168 (head_of row ++ (xs ++ little_bytes 8 0)) ++ last) c.spelled.ensures.bytes
-    ∙ ended (head_of row) (spelled_numbers (numbers_of row.values)) last refl long
+    ∙ ended (head_of row) (spelled_numbers (numbers_of row.values)) (little_bytes 8 0) last refl long
 
 pub returns-clause-read_back : goal.returns-clause-read_back
 returns-clause-read_back c =
