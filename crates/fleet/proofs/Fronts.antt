@@ -1,9 +1,20 @@
 -- Fronts of lines with their heads.
-use Rattle.std.proofs.Common.{ℕ, ◌≡◌, ◌<◌, ◌==◌, Bool, true, false, List, [], ◌∷◌, ◌++◌, length, refl, sym, ap, subst, ◌∙◌, arith}
+use Rattle.std.proofs.Common.{ℕ, ◌≡◌, ◌<◌, ◌==◌, Bool, true, false, List, [], ◌∷◌, ◌++◌, length, append-nil, append_assoc, refl, sym, ap, subst, ◌∙◌, arith}
 use Rattle.causes.specs.Lists.{IsFrontOf}
 use Rattle.fleet.specs.declared.pen.Pen.{Pen}
 use Rattle.fleet.specs.declared.pen.Pen.TheVariants.{AtStart, Inside, Stuck}
-use Rattle.fleet.specs.Lines.{PenSpells, Reaches, numbered_lines, pen_after, pen_behind, head, lead, is_stuck}
+use Rattle.fleet.specs.Lines.{PenSpells, numbered_lines, pen_after, pen_behind, head, lead, is_stuck}
+
+-- a prefix of a list, and more behind it
+pub front_before : {A : Type 0} (front whole more : List A) → IsFrontOf front whole → IsFrontOf front (whole ++ more)
+front_before {A} front whole more (rest, is) =
+    (rest ++ more, sym (append_assoc front rest more) ∙ ap (λ (x : List A). x ++ more) is)
+
+-- a prefix of a list, and the same before both
+pub front_behind : {A : Type 0} (before front whole : List A) → IsFrontOf front whole
+    → IsFrontOf (before ++ front) (before ++ whole)
+front_behind {A} before front whole (rest, is) =
+    (rest, append_assoc before front rest ∙ ap (λ (x : List A). before ++ x) is)
 
 -- A front of a text is that of a front of the bytes, with a part of the next head behind it perhaps.
 pub record Cut (digit : ℕ) (pen : Pen) (bytes text : List ℕ) : Type 0 where
@@ -25,26 +36,13 @@ nothing digit pen bytes = record {
 -- a byte more in front
 one_more : (digit : ℕ) (pen : Pen) (b : ℕ) (bytes text : List ℕ) → Cut digit (pen_behind (b == 10)) bytes text
     → Cut digit pen (b ∷ bytes) (lead digit pen ++ b ∷ text)
-one_more digit AtStart b bytes text c = record {
+one_more digit pen b bytes text c = record {
   written = b ∷ c.written;
-  front = (c.front.0, ap (λ (x : List ℕ). b ∷ x) c.front.1);
+  front = front_behind (b ∷ []) c.written bytes c.front;
   part = c.part;
   small = c.small;
-  whole = ap (λ (x : List ℕ). digit ∷ 32 ∷ b ∷ x) c.whole;
-}
-one_more digit Inside b bytes text c = record {
-  written = b ∷ c.written;
-  front = (c.front.0, ap (λ (x : List ℕ). b ∷ x) c.front.1);
-  part = c.part;
-  small = c.small;
-  whole = ap (λ (x : List ℕ). b ∷ x) c.whole;
-}
-one_more digit Stuck b bytes text c = record {
-  written = b ∷ c.written;
-  front = (c.front.0, ap (λ (x : List ℕ). b ∷ x) c.front.1);
-  part = c.part;
-  small = c.small;
-  whole = ap (λ (x : List ℕ). b ∷ x) c.whole;
+  whole = ap (λ (x : List ℕ). lead digit pen ++ b ∷ x) c.whole
+      ∙ sym (append_assoc (lead digit pen) (b ∷ numbered_lines digit (pen_behind (b == 10)) c.written) c.part);
 }
 
 -- a front that ends within a head
@@ -60,7 +58,7 @@ part_of_head digit bytes part rest e = record {
 along : {A : Type 0} (P : A → Type 0) (a b : A) → a ≡ b → P b → P a
 along P a b e p = let back : b ≡ a = sym e in subst P back p
 
-cut : (digit : ℕ) (pen : Pen) (bytes text rest : List ℕ) → text ++ rest ≡ numbered_lines digit pen bytes
+pub cut : (digit : ℕ) (pen : Pen) (bytes text rest : List ℕ) → text ++ rest ≡ numbered_lines digit pen bytes
     → Cut digit pen bytes text
 cut digit pen bytes [] rest e = nothing digit pen bytes
 cut digit pen [] (x ∷ text) rest e = absurd (let bad : x ∷ (text ++ rest) ≡ [] = e in cc)
@@ -92,13 +90,6 @@ cut digit Stuck (b ∷ bytes) (z ∷ text) rest e =
     along (Cut digit Stuck (b ∷ bytes)) (z ∷ text) (b ∷ text) same
     (one_more digit Stuck b bytes text (cut digit (pen_behind (b == 10)) bytes text rest more))
 
--- from a pen that is free, what is reached is spelled
-pub spells_free : (digit : ℕ) (from to : Pen) (bytes text : List ℕ) → is_stuck from ≡ false
-    → Reaches digit from bytes to text → PenSpells digit from bytes to text
-spells_free digit AtStart to bytes text free r = r
-spells_free digit Inside to bytes text free r = r
-spells_free digit Stuck to bytes text free r = absurd (let bad : true ≡ false = free in cc)
-
 -- behind bytes the pen is free
 behind_free : (ends : Bool) → is_stuck (pen_behind ends) ≡ false
 behind_free true = refl
@@ -108,25 +99,29 @@ pub pen_free : (pen : Pen) (bytes : List ℕ) → is_stuck pen ≡ false → is_
 pen_free pen [] free = free
 pen_free pen (b ∷ bytes) free = pen_free (pen_behind (b == 10)) bytes (behind_free (b == 10))
 
-reaches_whole : (digit : ℕ) (from to : Pen) (bytes : List ℕ) → to ≡ pen_after from bytes → is_stuck to ≡ false
-    → Reaches digit from bytes to (numbered_lines digit from bytes)
-reaches_whole digit from AtStart bytes e free = (e, refl)
-reaches_whole digit from Inside bytes e free = (e, refl)
-reaches_whole digit from Stuck bytes e free = absurd (let bad : true ≡ false = free in cc)
-
 -- the whole text
 pub spells_whole : (digit : ℕ) (pen : Pen) (bytes : List ℕ) → is_stuck pen ≡ false
     → PenSpells digit pen bytes (pen_after pen bytes) (numbered_lines digit pen bytes)
-spells_whole digit pen bytes free = spells_free digit pen (pen_after pen bytes) bytes (numbered_lines digit pen bytes) free
-    (reaches_whole digit pen (pen_after pen bytes) bytes refl (pen_free pen bytes free))
+spells_whole digit pen bytes free = record {
+  part = [];
+  small = (head digit, refl);
+  whole = sym (append-nil (numbered_lines digit pen bytes));
+  none = λ _. refl;
+  pen = λ _. refl;
+  stays = λ stuck. absurd (let bad : true ≡ false = sym (ap is_stuck stuck) ∙ free in cc);
+}
 
--- a front of it
-pub spells_front : (digit : ℕ) (pen : Pen) (bytes text rest : List ℕ) → is_stuck pen ≡ false
-    → text ++ rest ≡ numbered_lines digit pen bytes
-    → (written : List ℕ) × IsFrontOf written bytes × PenSpells digit pen written Stuck text
-spells_front digit pen bytes text rest free e =
-    let c = cut digit pen bytes text rest e in
-    (c.written, c.front, spells_free digit pen Stuck c.written text free (c.part, c.small, c.whole))
+-- a front of it, behind which the pen is stuck
+pub spells_cut : (digit : ℕ) (pen : Pen) (bytes text : List ℕ) (c : Cut digit pen bytes text) → is_stuck pen ≡ false
+    → PenSpells digit pen c.written Stuck text
+spells_cut digit pen bytes text c free = record {
+  part = c.part;
+  small = c.small;
+  whole = c.whole;
+  none = λ e. absurd (let bad : true ≡ false = e in cc);
+  pen = λ e. absurd (let bad : true ≡ false = e in cc);
+  stays = λ stuck. absurd (let bad : true ≡ false = sym (ap is_stuck stuck) ∙ free in cc);
+}
 
 -- a text of some bytes is not empty
 pub numbered_some : (digit : ℕ) (pen : Pen) (bytes : List ℕ) → 0 < length bytes → 0 < length (numbered_lines digit pen bytes)

@@ -1,20 +1,19 @@
 -- One turn of one of several stations.
-use Rattle.std.proofs.Common.{ℕ, ◌≡◌, ◌≢◌, ◌<◌, ◌≤◌, ◌+◌, ◌-◌, ◌==◌, Bool, true, false, List, [], ◌∷◌, ◌++◌, length, Some, refl, sym, ap, subst, ◌∙◌, arith, append-nil, set, get_or-set_same, get_or-set_other}
+use Rattle.std.proofs.Common.{ℕ, ◌≡◌, ◌≢◌, ◌<◌, ◌≤◌, ◌+◌, ◌-◌, ◌==◌, Bool, true, false, List, [], ◌∷◌, ◌++◌, length, Some, refl, sym, ap, subst, ◌∙◌, arith, set, get_or-set_same, get_or-set_other}
 use Rattle.std.specs.Prelude.{slice_get, slice_index_or, nat_lt}
 use Rattle.std.proofs.lemmas.Bool.Decides.{nat_tests}
 use Rattle.std.proofs.lemmas.List.{length-set}
 use Rattle.std.proofs.lemmas.Option.{slice_get-get_or, slice_get_past}
 use Rattle.causes.specs.Cause.{Cause, Rose}
-use Rattle.causes.specs.Lists.{IsFrontOf}
 use Rattle.station_io.specs.Sink.{Outlet}
 use Rattle.fleet.specs.declared.member.MemberTurn.{MemberTurn}
 use Rattle.fleet.specs.declared.member.MemberTurn.TheVariants.{More, Ended, WriteFault}
 use Rattle.fleet.specs.declared.pen.Pen.{Pen}
-use Rattle.fleet.specs.declared.pen.Pen.TheVariants.{AtStart, Inside, Stuck}
+use Rattle.fleet.specs.declared.pen.Pen.TheVariants.{AtStart}
 use Rattle.fleet.specs.declared.numbered.Numbered.{Numbered}
 use Rattle.fleet.specs.Crew.{Crew, StationIsOpen, CrewIsReady, OneTurn}
 use Rattle.fleet.specs.NumberedSink.{WritesNumbered, faults_of, numbered_outlet}
-use Rattle.fleet.specs.Lines.{Reaches, PenSpells, head, is_stuck, numbered_lines, with_station_number}
+use Rattle.fleet.specs.Lines.{PenSpells, is_stuck, with_station_number}
 use Rattle.fleet.specs.MemberTurns.{MemberTakesTurn, Turning, WritesLines}
 use Rattle.fleet.specs.TurnText.{TurnEntry, WritesTurn}
 
@@ -119,13 +118,6 @@ ready_of_turn turning outlet members last e place before after here ready goes w
     (one_turn turning outlet members last e place before after here goes ready.size ready.few was took)
     ready (length-set last place e.answer ∙ ready.size) took.goes_on
 
--- the text of a turn, and what stands behind it
-parts : (digit : ℕ) (pen : Pen) (bytes text : List ℕ) → Reaches digit AtStart bytes pen text
-    → (part : List ℕ) × IsFrontOf part (head digit) × (is_stuck pen ≡ false → part ≡ []) × (text ≡ numbered_lines digit AtStart bytes ++ part)
-parts digit AtStart bytes text r = ([], (head digit, refl), λ _. refl, r.1 ∙ sym (append-nil (numbered_lines digit AtStart bytes)))
-parts digit Inside bytes text r = ([], (head digit, refl), λ _. refl, r.1 ∙ sym (append-nil (numbered_lines digit AtStart bytes)))
-parts digit Stuck bytes text r = (r.0, r.1, λ free. absurd (let bad : true ≡ false = free in cc), r.2)
-
 stuck_of : (b : Bool) → Rose 0 (faults_of b) → b ≡ true
 stuck_of true rose = refl
 stuck_of false rose = absurd (omega (arith, rose))
@@ -144,15 +136,14 @@ writes_turn outlet old new e bytes start digit was is still writes =
     let spells : PenSpells (48 + e.station) AtStart bytes new.pen wrote.text =
     subst (λ (d : ℕ). PenSpells d AtStart bytes new.pen wrote.text) digit
     (subst (λ (p : Pen). PenSpells old.digit p bytes new.pen wrote.text) start wrote.spells) in
-    let p = parts (48 + e.station) new.pen bytes wrote.text spells in
     record {
       lines = writes.lines;
-      part = p.0;
-      small = p.1;
-      none = λ no. p.2 (free_by (is_stuck new.pen) (still no));
-      wrote = subst (λ (k : _). outlet.wrote k (with_station_number e.station bytes ++ p.0) e.after) (sym was)
-          (subst (λ (k : _). outlet.wrote old.out.now (with_station_number e.station bytes ++ p.0) k) (sym is)
-          (subst (λ (t : List ℕ). outlet.wrote old.out.now t new.out.now) p.3 wrote.wrote));
+      part = spells.part;
+      small = spells.small;
+      none = λ no. spells.none (free_by (is_stuck new.pen) (still no));
+      wrote = subst (λ (k : _). outlet.wrote k (with_station_number e.station bytes ++ spells.part) e.after) (sym was)
+          (subst (λ (k : _). outlet.wrote old.out.now (with_station_number e.station bytes ++ spells.part) k) (sym is)
+          (subst (λ (t : List ℕ). outlet.wrote old.out.now t new.out.now) spells.whole wrote.wrote));
     }
 
 -- a turn over the sink that numbers lines is a turn over the sink behind it

@@ -11,7 +11,7 @@ use Rattle.fleet.specs.declared.pen.Pen.TheVariants.{AtStart, Inside, Stuck}
 use Rattle.fleet.specs.declared.numbered.Numbered.{Numbered}
 use Rattle.fleet.specs.Lines.{PenSpells, is_stuck, numbered_lines, pen_after}
 use Rattle.fleet.specs.NumberedSink.{PutsPiece, WritesNumbered, writes_none, writes_joins, numbered_outlet, faults_of}
-use Rattle.fleet.proofs.Fronts.{spells_whole, spells_front, pen_free}
+use Rattle.fleet.proofs.Fronts.{cut, front_before, front_behind, pen_free, spells_cut, spells_whole}
 
 -- where the pen is after a write
 abbrev pub pen_by : Put → Pen → Pen
@@ -46,16 +46,17 @@ puts outlet old new piece text Done same digit free is emits pen =
       stuck = goes_free;
     }
 puts outlet old new piece text Failed same digit free is emits pen =
-    let cut = spells_front old.digit old.pen piece emits.call.0 emits.call.1.0 free (emits.call.1.1 ∙ is) in
+    let c = cut old.digit old.pen piece emits.call.0 emits.call.1.0 (emits.call.1.1 ∙ is) in
     record {
-      written = cut.0;
-      writes = cut.1;
+      written = c.written;
+      writes = c.front;
       wrote = record {
         same = same;
         digit = digit;
         text = emits.call.0;
         wrote = emits.call.2;
-        spells = subst (λ (p : Pen). PenSpells old.digit old.pen cut.0 p emits.call.0) (sym pen) cut.2;
+        spells = subst (λ (p : Pen). PenSpells old.digit old.pen c.written p emits.call.0) (sym pen)
+            (spells_cut old.digit old.pen piece emits.call.0 c free);
         counts = record {
           stays = λ yes. absurd (let no : true ≡ false = sym yes ∙ free in cc);
           never_falls = emits.cause.never_falls;
@@ -141,12 +142,9 @@ pub left_cut : {K : Type 0} (outlet : Outlet K) (old mid new : Numbered K) (byte
     → IsLeft outlet old bytes mid (piece ++ more) → PutsPiece outlet mid piece Failed new
     → Emits (numbered_outlet outlet) old bytes Failed new
 left_cut outlet old mid new bytes piece more left puts =
-    emits_front outlet old new bytes (left.written ++ puts.written) (
-      puts.writes.0 ++ more,
-      append_assoc left.written puts.written (puts.writes.0 ++ more)
-          ∙ ap (λ (x : List ℕ). left.written ++ x) (sym (append_assoc puts.written puts.writes.0 more) ∙ ap (λ (x : List ℕ). x ++ more) puts.writes.1)
-          ∙ left.whole,
-    )
+    emits_front outlet old new bytes (left.written ++ puts.written)
+    (subst (λ (x : List ℕ). IsFrontOf (left.written ++ puts.written) x) left.whole
+    (front_behind left.written puts.written (piece ++ more) (front_before puts.written piece more puts.writes)))
     puts.stuck
     (writes_joins outlet old mid new left.written puts.written left.wrote puts.wrote)
 

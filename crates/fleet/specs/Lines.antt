@@ -43,16 +43,18 @@ is_stuck AtStart = false
 is_stuck Inside = false
 is_stuck Stuck = true
 
--- the pen came from here to there as these bytes became that text; behind the text of bytes that were cut off a part of
--- the next head may stand
-abbrev pub Reaches : ℕ → Pen → List ℕ → Pen → List ℕ → Type 0
-Reaches digit from bytes AtStart text = (AtStart ≡ pen_after from bytes) × (text ≡ numbered_lines digit from bytes)
-Reaches digit from bytes Inside text = (Inside ≡ pen_after from bytes) × (text ≡ numbered_lines digit from bytes)
-Reaches digit from bytes Stuck text =
-    (part : List ℕ) × IsFrontOf part (head digit) × (text ≡ numbered_lines digit from bytes ++ part)
+-- A pen that is stuck takes no bytes, writes nothing and stays stuck.
+pub record StaysStuck (bytes : List ℕ) (to : Pen) (text : List ℕ) : Type 0 where
+  pub no_bytes : bytes ≡ []
+  pub stuck : to ≡ Stuck
+  pub no_text : text ≡ []
 
--- the same, where a pen that is stuck stays so
-abbrev pub PenSpells : ℕ → Pen → List ℕ → Pen → List ℕ → Type 0
-PenSpells digit AtStart bytes to text = Reaches digit AtStart bytes to text
-PenSpells digit Inside bytes to text = Reaches digit Inside bytes to text
-PenSpells digit Stuck bytes to text = (to ≡ Stuck) × (bytes ≡ []) × (text ≡ [])
+-- The pen came from here to there as these bytes became that text. Behind the text of bytes that were cut off a part of
+-- the next head may stand.
+pub record PenSpells (digit : ℕ) (from : Pen) (bytes : List ℕ) (to : Pen) (text : List ℕ) : Type 0 where
+  pub part : List ℕ
+  pub small : IsFrontOf part (head digit)
+  pub whole : text ≡ numbered_lines digit from bytes ++ part
+  pub none : is_stuck to ≡ false → part ≡ []
+  pub pen : is_stuck to ≡ false → to ≡ pen_after from bytes
+  pub stays : from ≡ Stuck → StaysStuck bytes to text
