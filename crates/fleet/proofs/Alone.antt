@@ -41,5 +41,5 @@ module _ {M K : Type 0} (turning : Turning M) (outlet : Outlet K) where
       let here : a ≡ b = same_some a b (sym was ∙ (ap (λ (c : Crew M). slice_get c.members (station - 1)) (sym same.0) ∙ is)) in
       subst (λ (m : M). turning.turned a [] (λ text. text ≡ []) m) here (turning.turned_none a)
   alone old new before after (e ∷ log) station from along =
-      alone_more old along.0 new e log station from along.2
-      (alone along.0 new e.after after log station from along.3) _ refl
+      alone_more old along.mid new e log station from along.turn
+      (alone along.mid new e.after after log station from along.later) _ refl

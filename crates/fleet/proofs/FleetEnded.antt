@@ -85,9 +85,15 @@ module _ {M K : Type 0} (turning : Turning M) (outlet : Outlet K) (seed : ℕ) (
         → RunsFleet turning outlet seed old before (fleet.Done turns switches) now out
     all_done none seen = whole (fleet.Done turns switches)
         (λ w. absurd (let bad : fleet.Done turns switches ≡ fleet.WriteFault = w in cc))
-        (so.turns_are, so.switches_are, all_ended now.last none seen so.uncut, so.whole)
+        (record {
+          turns_are = so.turns_are;
+          switches_are = so.switches_are;
+          ended = all_ended now.last none seen so.uncut;
+          uncut = so.whole;
+        })
 
     pub one_unseen : (n : ℕ) → open_from 1 now.last ≡ [] → least_unseen 1 now.last ≡ Some n
         → RunsFleet turning outlet seed old before (fleet.Unseen n) now out
     one_unseen n none seen = whole (fleet.Unseen n)
-        (λ w. absurd (let bad : fleet.Unseen n ≡ fleet.WriteFault = w in cc)) (none, seen, so.uncut, so.whole)
+        (λ w. absurd (let bad : fleet.Unseen n ≡ fleet.WriteFault = w in cc))
+        (record { none_open = none; least = seen; last_uncut = so.uncut; uncut = so.whole })

@@ -18,9 +18,19 @@ pub along_more : {M K : Type 0} (turning : Turning M) (outlet : Outlet K) (old m
     (log : List (TurnEntry K)) (e : TurnEntry K) → Along turning outlet old before log mid out → OneTurn turning outlet mid e new
     → e.before ≡ out → Along turning outlet old before (log ++ e ∷ []) new e.after
 along_more turning outlet old mid new before out [] e same one at =
-    (new, at ∙ same.1, subst (λ (c : Crew _). OneTurn turning outlet c e new) same.0 one, (refl, refl))
+    record {
+      mid = new;
+      begins = at ∙ same.1;
+      turn = subst (λ (c : Crew _). OneTurn turning outlet c e new) same.0 one;
+      later = (refl, refl);
+    }
 along_more turning outlet old mid new before out (f ∷ log) e along one at =
-    (along.0, along.1, along.2, along_more turning outlet along.0 mid new f.after out log e along.3 one at)
+    record {
+      mid = along.mid;
+      begins = along.begins;
+      turn = along.turn;
+      later = along_more turning outlet along.mid mid new f.after out log e along.later one at;
+    }
 
 -- it is drawn behind them
 pub drawn_more : {K : Type 0} (x : ℕ) (last : List MemberTurn) (log : List (TurnEntry K)) (e : TurnEntry K) → AreDrawn x last log

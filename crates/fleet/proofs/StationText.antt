@@ -8,7 +8,7 @@ use Rattle.fleet.specs.declared.pen.Pen.{Pen}
 use Rattle.fleet.specs.declared.pen.Pen.TheVariants.{AtStart, Inside, Stuck}
 use Rattle.fleet.specs.Lines.{AreLines, pen_behind, numbered_lines, pen_after, with_station_number}
 use Rattle.fleet.specs.Log.{BothIf, WrittenBy}
-use Rattle.fleet.specs.MemberTurns.{Both, WritesWhole}
+use Rattle.fleet.specs.MemberTurns.{Both, WritesWhole, texts_join}
 use Rattle.fleet.specs.StationLines.{AreUncut, Place, station_lines_from, station_lines, place_behind}
 use Rattle.fleet.specs.TurnText.{AreTextsOf, TurnEntry, WritesTurn}
 
@@ -78,9 +78,10 @@ abbrev pub rest_of : ℕ → List ℕ → (ℕ → List ℕ) → ℕ → List �
 rest_of of_turn rest texts station = if of_turn == station then rest else texts station
 
 -- One text in which each station has its own lines.
-abbrev pub Together : {K : Type 0} → Outlet K → List (TurnEntry K) → (ℕ → List ℕ) → Type 0
-Together outlet log texts = (text : List ℕ) × AreTextsOf outlet log text
-    × ((station : ℕ) → station_lines station text ≡ texts station)
+pub record Together {K : Type 0} (outlet : Outlet K) (log : List (TurnEntry K)) (texts : ℕ → List ℕ) : Type 0 where
+  pub text : List ℕ
+  pub are_texts : AreTextsOf outlet log text
+  pub each : (station : ℕ) → station_lines station text ≡ texts station
 
 module _ {K : Type 0} (outlet : Outlet K) where
   still_written : (e : TurnEntry K) (log : List (TurnEntry K)) (texts : ℕ → List ℕ) (rest : List ℕ) (station : ℕ)
@@ -118,16 +119,19 @@ module _ {K : Type 0} (outlet : Outlet K) where
   -- what the stations wrote stands together in one text
   pub together : (log : List (TurnEntry K)) (texts : ℕ → List ℕ) → AreUncut log
       → ((station : ℕ) → WrittenBy outlet station log (texts station)) → Together outlet log texts
-  together [] texts uncut written = ([], refl, λ station. sym (written station))
+  together [] texts uncut written = record { text = []; are_texts = refl; each = λ station. sym (written station) }
   together (e ∷ log) texts uncut written =
       let P : Bool → Type 0 = λ (test : Bool). BothIf test (WritesTurn outlet e) (WrittenBy outlet e.station log) (texts e.station) in
       let both : Both (WritesTurn outlet e) (WrittenBy outlet e.station log) (texts e.station) =
       subst P (equal_itself e.station) (written e.station) in
-      let behind = together log (rest_of e.station both.1 texts) uncut.2
-      (λ station. still_written e log texts both.1 station both.4 (written station) _ refl) in
-      let front = with_station_number e.station both.0 ++ both.3.part in (
-        front ++ behind.0,
-        (front, behind.0, refl, (both.0, both.3, refl), behind.1),
-        λ station. lines_more e both.0 both.3.part both.1 behind.0 texts station
-            (whole_of e.answer both.0 uncut.0 uncut.1 both.3.lines) (both.3.none uncut.0) both.2 (behind.2 station) _ refl,
-      )
+      let behind = together log (rest_of e.station both.later texts) uncut.2
+      (λ station. still_written e log texts both.later station both.later_is (written station) _ refl) in
+      let writes : WritesTurn outlet e both.first = both.first_is in
+      let front = with_station_number e.station both.first ++ writes.part in
+      record {
+        text = front ++ behind.text;
+        are_texts = texts_join front behind.text (both.first, writes, refl) behind.are_texts;
+        each = λ station. lines_more e both.first writes.part both.later behind.text texts station
+            (whole_of e.answer both.first uncut.0 uncut.1 writes.lines) (writes.none uncut.0) both.whole (behind.each station)
+            _ refl;
+      }

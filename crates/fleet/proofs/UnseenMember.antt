@@ -50,7 +50,7 @@ module _ {M K : Type 0} (turning : Turning M) (outlet : Outlet K) where
       → AreAbsent old → AreAbsent new
   absent_along old new before after [] along absent = subst (λ (crew : Crew M). AreAbsent crew) (sym along.0) absent
   absent_along old new before after (e ∷ log) along absent =
-      absent_along along.0 new e.after after log along.3 (absent_after old along.0 e along.2 absent)
+      absent_along along.mid new e.after after log along.later (absent_after old along.mid e along.turn absent)
 
   within : (crew : Crew M) (s : ℕ) → AreAbsent crew → Found 1 crew.last s → (test : Bool) → nat_le s (length crew.members) ≡ test
       → s ≤ length crew.members
@@ -66,7 +66,7 @@ module _ {M K : Type 0} (turning : Turning M) (outlet : Outlet K) where
       → RunsFleet turning outlet seed old before (fleet.Unseen station) new after → IsUnseenMember new station
   unseen_member seed old new before after station ready ran =
       let absent = absent_along old new before after ran.log ran.turns (opening_absent old ready) in
-      let found = found_at 1 new.last station ran.ends.1 in
+      let found = found_at 1 new.last station ran.ends.least in
       record {
         from = found.0;
         to = within new station absent found _ refl;

@@ -21,12 +21,25 @@ FleetEndsWith {K} answer log = (front : List (TurnEntry K)) × (e : TurnEntry K)
 abbrev pub AllEnded : List MemberTurn → Type 0
 AllEnded last = (k : ℕ) → slice_index_or last k member.Ended ≡ member.Ended
 
+-- Each station has ended. So many turns were taken, and so many of them not by the station of the turn before.
+pub record AllTurnsDone {K : Type 0} (turns switches : ℕ) (log : List (TurnEntry K)) (last : List MemberTurn)
+    : Type 0 where
+  pub turns_are : turns ≡ length log
+  pub switches_are : switches ≡ switches_in log
+  pub ended : AllEnded last
+  pub uncut : AreUncut log
+
+-- No station goes on, and this is the least that ended by a delivery that was unseen.
+pub record LeastUnseen {K : Type 0} (station : ℕ) (log : List (TurnEntry K)) (last : List MemberTurn) : Type 0 where
+  pub none_open : open_from 1 last ≡ []
+  pub least : least_unseen 1 last ≡ Some station
+  pub last_uncut : IsUncut last
+  pub uncut : AreUncut log
+
 -- what the end says of the turns, and of the last answers
 abbrev pub FleetEndsAs : {K : Type 0} → FleetEnd → List (TurnEntry K) → List MemberTurn → Type 0
-FleetEndsAs (fleet.Done turns switches) log last =
-    (turns ≡ length log) × (switches ≡ switches_in log) × AllEnded last × AreUncut log
-FleetEndsAs (fleet.Unseen station) log last =
-    (open_from 1 last ≡ []) × (least_unseen 1 last ≡ Some station) × IsUncut last × AreUncut log
+FleetEndsAs (fleet.Done turns switches) log last = AllTurnsDone turns switches log last
+FleetEndsAs (fleet.Unseen station) log last = LeastUnseen station log last
 FleetEndsAs fleet.WriteFault log last = FleetEndsWith member.WriteFault log
 FleetEndsAs fleet.OutOfMemory log last = FleetEndsWith member.OutOfMemory log
 

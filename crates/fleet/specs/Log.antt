@@ -10,11 +10,19 @@ use Rattle.fleet.specs.MemberTurns.{Both, Turning}
 use Rattle.fleet.specs.OpenStations.{is_more, open_from, chosen}
 use Rattle.fleet.specs.TurnText.{TurnEntry, WritesTurn}
 
+-- This turn was the first, and behind it come the others.
+pub record FirstTurn {M K : Type 0} (turning : Turning M) (outlet : Outlet K) (old : Crew M) (before : K)
+    (e : TurnEntry K) (Others : Crew M → Type 0) : Type 0 where
+  pub mid : Crew M
+  pub begins : e.before ≡ before
+  pub turn : OneTurn turning outlet old e mid
+  pub later : Others mid
+
 -- turns one after another, of these stations over this sink
 abbrev pub Along : {M K : Type 0} → Turning M → Outlet K → Crew M → K → List (TurnEntry K) → Crew M → K → Type 0
 Along turning outlet old before [] new after = (new ≡ old) × (after ≡ before)
-Along {M} turning outlet old before (e ∷ log) new after = (mid : Crew M) × (e.before ≡ before)
-    × OneTurn turning outlet old e mid × Along turning outlet mid e.after log new after
+Along turning outlet old before (e ∷ log) new after =
+    FirstTurn turning outlet old before e (λ mid. Along turning outlet mid e.after log new after)
 
 -- the answers to the turns of a station, in order
 abbrev pub answers_of : {K : Type 0} → ℕ → List (TurnEntry K) → List MemberTurn

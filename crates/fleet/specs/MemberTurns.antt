@@ -1,14 +1,23 @@
 -- What members that take turns tell, and what one turn does.
 use Rattle.std.specs.Prelude.{ℕ, ◌≡◌, ◌≢◌, ◌<◌, List, [], ◌∷◌, ◌++◌}
+use Rattle.std.proofs.Common.{refl}
 use Rattle.causes.specs.Cause.{Cause}
 use Rattle.station_io.specs.Sink.{Outlet}
 use Rattle.fleet.specs.declared.member.MemberTurn.{MemberTurn}
 use Rattle.fleet.specs.declared.member.MemberTurn.TheVariants.{More, Ended, Unseen, WriteFault, OutOfMemory}
 use Rattle.fleet.specs.Lines.{AreLines}
 
--- a text of the first kind, and one of the second behind it
-abbrev pub Both : (List ℕ → Type 0) → (List ℕ → Type 0) → List ℕ → Type 0
-Both P Q text = (first : List ℕ) × (later : List ℕ) × (text ≡ first ++ later) × P first × Q later
+-- A text of the first kind, and one of the second behind it.
+pub record Both (P Q : List ℕ → Type 0) (text : List ℕ) : Type 0 where
+  pub first : List ℕ
+  pub later : List ℕ
+  pub whole : text ≡ first ++ later
+  pub first_is : P first
+  pub later_is : Q later
+
+-- one text behind another
+pub texts_join : {P Q : List ℕ → Type 0} (first later : List ℕ) → P first → Q later → Both P Q (first ++ later)
+texts_join first later p q = record { first = first; later = later; whole = refl; first_is = p; later_is = q }
 
 -- What members of type M tell: that one may take a turn; how many turns are left at most; that one became another by
 -- turns of its own with these answers, in which it wrote a text of this kind. The kind is whatever is known of the text,

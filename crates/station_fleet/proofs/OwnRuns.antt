@@ -9,6 +9,7 @@ use Rattle.fleet.specs.declared.member.MemberTurn.{MemberTurn}
 use Rattle.fleet.specs.declared.member.MemberTurn.TheVariants.{More, Ended, Unseen, WriteFault, OutOfMemory}
 use Rattle.fleet.specs.Crew.{Crew, OneTurn}
 use Rattle.fleet.specs.Log.{Along, BothIf, WrittenBy, answers_of}
+use Rattle.fleet.specs.MemberTurns.{texts_join}
 use Rattle.fleet.specs.StationLines.{AreUncut, station_lines}
 use Rattle.fleet.specs.TurnText.{TurnEntry, WritesTurn}
 use Rattle.fleet.proofs.Alone.{alone}
@@ -79,8 +80,8 @@ came_of : (answers : List MemberTurn) (settings : StationSettings) (c : Course) 
     → StationTurned s answers P t → StationStands settings c [] s → TurnsComeTo (end_of_turns answers) settings c [] P t
 came_of [] settings c P s t turned stands = record {
   given = [];
-  writes = turned.1;
-  stands = subst (λ (x : Station). StationStands settings c [] x) (sym turned.0) stands;
+  writes = turned.writes;
+  stands = subst (λ (x : Station). StationStands settings c [] x) (sym turned.same) stands;
 }
 came_of (answer ∷ later) settings c P s t turned stands = turned settings c [] stands
 
@@ -93,15 +94,15 @@ module _ {K : Type 0} (outlet : Outlet K) where
       → (rest : List ℕ) × WrittenBy outlet station log rest → (test : Bool)
       → (written : List ℕ) × BothIf test (WritesTurn outlet e) (WrittenBy outlet station log) written
   written_more e log station bytes writes rest true =
-      (bytes ++ rest.0, (bytes, rest.0, refl, writes, rest.1))
+      (bytes ++ rest.0, texts_join bytes rest.0 writes rest.1)
   written_more e log station bytes writes rest false = rest
 
   written_some : (old new : Crew Station) (before after : K) (log : List (TurnEntry K)) (station : ℕ)
       → Along station_turning outlet old before log new after → (bytes : List ℕ) × WrittenBy outlet station log bytes
   written_some old new before after [] station along = ([], refl)
   written_some old new before after (e ∷ log) station along =
-      written_more e log station along.2.written along.2.writes
-      (written_some along.0 new e.after after log station along.3) (e.station == station)
+      written_more e log station along.turn.written along.turn.writes
+      (written_some along.mid new e.after after log station along.later) (e.station == station)
 
   -- a station of a fleet was one before each turn
   was_before : (old mid : Crew Station) (e : TurnEntry K) (k : ℕ) (t : Station) → OneTurn station_turning outlet old e mid
@@ -120,26 +121,32 @@ module _ {K : Type 0} (outlet : Outlet K) where
   was_member old new before after [] k t along is =
       (t, ap (λ (c : Crew Station). slice_get c.members k) (sym along.0) ∙ is)
   was_member old new before after (e ∷ log) k t along is =
-      let behind = was_member along.0 new e.after after log k t along.3 is in
-      was_before old along.0 e k behind.0 along.2 behind.1 _ refl
+      let behind = was_member along.mid new e.after after log k t along.later is in
+      was_before old along.mid e k behind.0 along.turn behind.1 _ refl
 
   module _ (settings : ℕ → StationSettings) (course : ℕ → Course) (old new : Crew Station) (before after : K)
       (log : List (TurnEntry K)) (along : Along station_turning outlet old before log new after)
       (begin : Begin settings course old) where
-    -- what a station wrote, and what it came to with that text
-    abbrev pub Chosen : ℕ → Type 0
-    Chosen station = (bytes : List ℕ) × WrittenBy outlet station log bytes × ((s : Station) → 1 ≤ station
-        → slice_get new.members (station - 1) ≡ Some s
-        → TurnsComeTo (end_of_turns (answers_of station log)) (settings station) (course station) [] (λ written. written ≡ bytes) s)
+    -- What a station wrote, and what it came to with that text.
+    record Chosen (station : ℕ) : Type 0 where
+      bytes : List ℕ
+      wrote : WrittenBy outlet station log bytes
+      came : (s : Station) → 1 ≤ station → slice_get new.members (station - 1) ≡ Some s
+          → TurnsComeTo (end_of_turns (answers_of station log)) (settings station) (course station) []
+          (λ written. written ≡ bytes) s
 
     chosen_by : (station : ℕ) (found : Option Station) → slice_get new.members (station - 1) ≡ found → (test : Bool)
         → nat_le 1 station ≡ test → Chosen station
     chosen_by station None is test at =
         let some = written_some old new before after log station along in
-        (some.0, some.1, λ s from was. absurd (let no : None ≡ Some s = sym is ∙ was in cc))
+        record {
+          bytes = some.0;
+          wrote = some.1;
+          came = λ s from was. absurd (let no : None ≡ Some s = sym is ∙ was in cc);
+        }
     chosen_by station (Some t) is false below =
         let some = written_some old new before after log station along in
-        (some.0, some.1, λ s from was. absurd (grind (arith, nat_tests)))
+        record { bytes = some.0; wrote = some.1; came = λ s from was. absurd (grind (arith, nat_tests)) }
     chosen_by station (Some t) is true at =
         let from : 1 ≤ station = grind (arith, nat_tests) in
         let was = was_member old new before after log (station - 1) t along is in
@@ -148,14 +155,15 @@ module _ {K : Type 0} (outlet : Outlet K) where
         let came = came_of (answers_of station log) (settings station) (course station) (WrittenBy outlet station log)
         was.0 t turned (begin station was.0 from was.1) in
         let one = pick (end_of_turns (answers_of station log)) (settings station) (course station)
-        (WrittenBy outlet station log) t (written_some old new before after log station along) came in (
-          one.0,
-          one.1,
-          λ s from here.
+        (WrittenBy outlet station log) t (written_some old new before after log station along) came in
+        record {
+          bytes = one.0;
+          wrote = one.1;
+          came = λ s from here.
               let same : t ≡ s = same_some t s (sym is ∙ here) in
               subst (λ (x : Station). TurnsComeTo (end_of_turns (answers_of station log)) (settings station) (course station) []
-              (λ written. written ≡ one.0) x) same one.2,
-        )
+              (λ written. written ≡ one.0) x) same one.2;
+        }
 
     chosen : (station : ℕ) → Chosen station
     chosen station = chosen_by station _ refl _ refl
@@ -163,10 +171,10 @@ module _ {K : Type 0} (outlet : Outlet K) where
     pub own_runs : AreUncut log
         → (text : List ℕ) × outlet.wrote before text after × EachRan settings course log new text
     own_runs uncut =
-        let all = together outlet log (λ station. (chosen station).0) uncut (λ station. (chosen station).1) in (
-          all.0,
-          wrote_along station_turning outlet old new before after log all.0 along all.1,
+        let all = together outlet log (λ station. (chosen station).bytes) uncut (λ station. (chosen station).wrote) in (
+          all.text,
+          wrote_along station_turning outlet old new before after log all.text along all.are_texts,
           λ station s from is. comes_wider (end_of_turns (answers_of station log)) (settings station) (course station) []
-              (λ written. written ≡ (chosen station).0) (λ written. written ≡ station_lines station all.0) s
-              (λ written e. e ∙ sym (all.2 station)) ((chosen station).2 s from is),
+              (λ written. written ≡ (chosen station).bytes) (λ written. written ≡ station_lines station all.text) s
+              (λ written e. e ∙ sym (all.each station)) ((chosen station).came s from is),
         )

@@ -66,13 +66,13 @@ module _ {K : Type 0} (outlet : Outlet K) where
       → (answers_of station log ≡ []) × (last_answer_of new station ≡ last_answer_of old station)
   none_more old new before after [] station from along ended = (refl, ap (λ (crew : Crew Station). last_answer_of crew station) along.0)
   none_more old new before after (e ∷ log) station from along ended =
-      go (λ apart. none_more along.0 new e.after after log station from along.3 apart) (e.station == station) refl
+      go (λ apart. none_more along.mid new e.after after log station from along.later apart) (e.station == station) refl
     where
-      go : (last_answer_of along.0 station ≢ More → (answers_of station log ≡ []) × (last_answer_of new station ≡ last_answer_of along.0 station)) → (own : Bool)
+      go : (last_answer_of along.mid station ≢ More → (answers_of station log ≡ []) × (last_answer_of new station ≡ last_answer_of along.mid station)) → (own : Bool)
           → (e.station == station) ≡ own → (answers_of station (e ∷ log) ≡ []) × (last_answer_of new station ≡ last_answer_of old station)
-      go again true own = absurd (ended (was_open old along.0 e station along.2 own))
+      go again true own = absurd (ended (was_open old along.mid e station along.turn own))
       go again false other =
-          let same = last_other old along.0 e station along.2 from other in
+          let same = last_other old along.mid e station along.turn from other in
           let rest = again (λ more. ended (sym same ∙ more)) in
           (rw other rest.0, rest.1 ∙ same)
 
@@ -107,18 +107,18 @@ module _ {K : Type 0} (outlet : Outlet K) where
   end_is old new before after [] station from along more =
       ap (λ (x : MemberTurn). Some x) (sym (ap (λ (crew : Crew Station). last_answer_of crew station) along.0 ∙ more))
   end_is old new before after (e ∷ log) station from along more =
-      go (λ still. end_is along.0 new e.after after log station from along.3 still) (e.station == station) refl
+      go (λ still. end_is along.mid new e.after after log station from along.later still) (e.station == station) refl
     where
-      go : (last_answer_of along.0 station ≡ More → end_of_turns (answers_of station log) ≡ Some (last_answer_of new station)) → (own : Bool)
+      go : (last_answer_of along.mid station ≡ More → end_of_turns (answers_of station log) ≡ Some (last_answer_of new station)) → (own : Bool)
           → (e.station == station) ≡ own → end_of_turns (answers_of station (e ∷ log)) ≡ Some (last_answer_of new station)
       go again true own =
-          let now = last_own old along.0 e station along.2 own in
+          let now = last_own old along.mid e station along.turn own in
           let ends : end_of_turns (e.answer ∷ answers_of station log) ≡ Some (last_answer_of new station) =
           end_by e.answer (last_answer_of new station) (answers_of station log) (λ goes. again (now ∙ goes))
-          (λ apart. let none = none_more along.0 new e.after after log station from along.3 (λ still. apart (sym now ∙ still)) in
+          (λ apart. let none = none_more along.mid new e.after after log station from along.later (λ still. apart (sym now ∙ still)) in
           (none.0, none.1 ∙ now)) in
           rw own ends
-      go again false other = rw other (again (last_other old along.0 e station along.2 from other ∙ more))
+      go again false other = rw other (again (last_other old along.mid e station along.turn from other ∙ more))
 
   module _ (settings : ℕ → StationSettings) (course : ℕ → Course) where
     pub over_replays : (old new : Crew Station) (before after : K) (log : List (TurnEntry K))
@@ -147,10 +147,11 @@ module _ {K : Type 0} (outlet : Outlet K) where
     all_over : (end : FleetEnd) (log : List (TurnEntry K)) (last : List MemberTurn) → AllOver end → FleetEndsAs end log last
         → AreUncut log × ((k : ℕ) → RunIsOver (slice_index_or last k Ended))
     all_over (fleet.Done turns switches) log last over ends =
-        (ends.3, λ k. subst RunIsOver (sym (ends.2 k)) tt)
+        (ends.uncut, λ k. subst RunIsOver (sym (ends.ended k)) tt)
     all_over (fleet.Unseen station) log last over ends = (
-      ends.3,
-      λ k. over_by (slice_index_or last k Ended) (λ more. absurd (no_more 1 last k ends.0 more)) (ends.2 k).0 (ends.2 k).1,
+      ends.uncut,
+      λ k. over_by (slice_index_or last k Ended) (λ more. absurd (no_more 1 last k ends.none_open more))
+          (ends.last_uncut k).0 (ends.last_uncut k).1,
     )
     all_over fleet.WriteFault log last over ends = absurd over
     all_over fleet.OutOfMemory log last over ends = absurd over

@@ -82,9 +82,14 @@ TurnsComeTo (Some Unseen) settings c items P s = Breaks settings c items P
 TurnsComeTo (Some WriteFault) settings c items P s = Cuts settings c items P
 TurnsComeTo (Some OutOfMemory) settings c items P s = Cuts settings c items P
 
+-- By no turns a station stays, and no text at all is of this kind.
+pub record NoTurns (old : Station) (P : List ℕ → Type 0) (new : Station) : Type 0 where
+  pub same : new ≡ old
+  pub writes : P []
+
 -- A station became another by turns with these answers, in which it wrote a text of this kind: by none it stays. By some,
 -- wherever its run stood, it comes to what they end with.
 abbrev pub StationTurned : Station → List MemberTurn → (List ℕ → Type 0) → Station → Type 0
-StationTurned old [] P new = (new ≡ old) × P []
+StationTurned old [] P new = NoTurns old P new
 StationTurned old (answer ∷ later) P new = (settings : StationSettings) (c : Course) (items : List Item)
     → StationStands settings c items old → TurnsComeTo (end_of_turns (answer ∷ later)) settings c items P new

@@ -1,11 +1,13 @@
 -- Laws of what the turns of a station come to.
 use Rattle.std.specs.Prelude.{ℕ, ◌≡◌, ◌≢◌, ◌⊎◌, List, [], ◌∷◌, ◌++◌, Some, None}
-use Rattle.std.proofs.Common.{refl, sym, ap, subst, ◌∙◌, append-nil, append_assoc}
+use Rattle.std.proofs.Common.{refl, sym, subst, ◌∙◌, append-nil, append_assoc}
 use Rattle.std.specs.declared.option.Option.{Option}
+use Rattle.causes.specs.Lists.{IsFrontOf}
 use Rattle.settings_file.specs.StationSettings.{StationSettings}
 use Rattle.fleet.specs.declared.member.MemberTurn.{MemberTurn}
 use Rattle.fleet.specs.declared.member.MemberTurn.TheVariants.{More, Ended, Unseen, WriteFault, OutOfMemory}
-use Rattle.fleet.specs.MemberTurns.{Both}
+use Rattle.fleet.specs.MemberTurns.{Both, texts_join}
+use Rattle.fleet.proofs.Fronts.{front_behind}
 use Rattle.station_replay.specs.Kept.{Kept}
 use Rattle.station_replay.specs.Schedule.{records}
 use Rattle.station_replay.specs.Replay.{RunIsBegun, IsReplay, IsUnseen, Item}
@@ -17,7 +19,7 @@ use Rattle.station_fleet.specs.declared.station.Station.{Station}
 use Rattle.station_fleet.specs.Outcomes.{TurnsComeTo, Cuts, StationStands, StationTurned, end_of_turns, only, course_start, course_steps}
 
 pub turned_none : (s : Station) → StationTurned s [] (λ bytes. bytes ≡ []) s
-turned_none s = (refl, refl)
+turned_none s = record { same = refl; writes = refl }
 
 -- what is known of the text may be said less exactly
 pub comes_wider : (end : Option MemberTurn) (settings : StationSettings) (c : Course) (items : List Item)
@@ -57,26 +59,24 @@ comes_wider (Some OutOfMemory) settings c items P Q s wider came = record {
 
 pub turned_wider : (l m : Station) (answers : List MemberTurn) (P Q : List ℕ → Type 0)
     → ((bytes : List ℕ) → P bytes → Q bytes) → StationTurned l answers P m → StationTurned l answers Q m
-turned_wider l m [] P Q wider turned = (turned.0, wider [] turned.1)
+turned_wider l m [] P Q wider turned = record { same = turned.same; writes = wider [] turned.writes }
 turned_wider l m (answer ∷ later) P Q wider turned = λ settings c items stands.
     comes_wider (end_of_turns (answer ∷ later)) settings c items P Q m wider (turned settings c items stands)
 
 -- a text of items behind others
 both_texts : (P Q : List ℕ → Type 0) (first later : List Item) → P (text first) → Q (text later)
     → Both P Q (text (first ++ later))
-both_texts P Q first later p q = (text first, text later, text_join first later, p, q)
+both_texts P Q first later p q =
+    subst (Both P Q) (sym (text_join first later)) (texts_join (text first) (text later) p q)
 
 cuts_behind : (settings : StationSettings) (c : Course) (items given : List Item) (P Q : List ℕ → Type 0)
     → P (text given) → Cuts settings c (items ++ given) Q → Cuts settings c items (Both P Q)
 cuts_behind settings c items given P Q p cut = record {
   given = given ++ cut.given;
   written = text given ++ cut.written;
-  front = (
-    cut.front.0,
-    append_assoc (text given) cut.written cut.front.0
-        ∙ (ap (λ (bytes : List ℕ). text given ++ bytes) cut.front.1 ∙ sym (text_join given cut.given)),
-  );
-  writes = (text given, cut.written, refl, p, cut.writes);
+  front = subst (λ (bytes : List ℕ). IsFrontOf (text given ++ cut.written) bytes) (sym (text_join given cut.given))
+      (front_behind (text given) cut.written (text cut.given) cut.front);
+  writes = texts_join (text given) cut.written p cut.writes;
   is_begun = subst (λ (xs : List Item). RunIsBegun settings (course_start c) (course_steps settings c) xs
       ⊎ IsReplay settings (course_start c) (course_steps settings c) xs) (append_assoc items given cut.given) cut.is_begun;
   kept = subst (λ (xs : List Item). Kept settings (records (course_steps settings c)) xs) (append_assoc items given cut.given) cut.kept;
@@ -157,17 +157,18 @@ comes_joins None next later settings c items P Q m n came turned = tt
 
 pub turned_joins : (l m n : Station) (first later : List MemberTurn) (P Q : List ℕ → Type 0) → StationTurned l first P m
     → StationTurned m later Q n → StationTurned l (first ++ later) (Both P Q) n
-turned_joins l m n [] [] P Q one two = (two.0 ∙ one.0, ([], [], refl, one.1, two.1))
+turned_joins l m n [] [] P Q one two =
+    record { same = two.same ∙ one.same; writes = texts_join [] [] one.writes two.writes }
 turned_joins l m n [] (next ∷ later) P Q one two =
     let from : StationTurned l (next ∷ later) Q n =
-    subst (λ (s : Station). StationTurned s (next ∷ later) Q n) one.0 two in
-    turned_wider l n (next ∷ later) Q (Both P Q) (λ bytes q. ([], bytes, refl, one.1, q)) from
+    subst (λ (s : Station). StationTurned s (next ∷ later) Q n) one.same two in
+    turned_wider l n (next ∷ later) Q (Both P Q) (λ bytes q. texts_join [] bytes one.writes q) from
 turned_joins l m n (answer ∷ first) [] P Q one two =
     let to : StationTurned l (answer ∷ first) P n =
-    subst (λ (s : Station). StationTurned l (answer ∷ first) P s) (sym two.0) one in
+    subst (λ (s : Station). StationTurned l (answer ∷ first) P s) (sym two.same) one in
     let whole : StationTurned l (answer ∷ first) (Both P Q) n =
     turned_wider l n (answer ∷ first) P (Both P Q)
-    (λ bytes p. (bytes, [], sym (append-nil bytes), p, two.1)) to in
+    (λ bytes p. subst (Both P Q) (append-nil bytes) (texts_join bytes [] p two.writes)) to in
     subst (λ (answers : List MemberTurn). StationTurned l answers (Both P Q) n) (sym (append-nil (answer ∷ first))) whole
 turned_joins l m n (answer ∷ first) (next ∷ later) P Q one two = λ settings c items stands.
     subst (λ (end : Option MemberTurn). TurnsComeTo end settings c items (Both P Q) n)

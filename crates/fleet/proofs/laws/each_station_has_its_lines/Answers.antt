@@ -5,4 +5,5 @@ use Rattle.fleet.proofs.laws.each_station_has_its_lines.Goals as goal
 pub returns : goal.returns
 returns g c old new before after log texts along uncut written =
     let all = together g.K.Sink.outlet log texts uncut written in
-    (all.0, all.1, wrote_along g.M.Member.turning g.K.Sink.outlet old new before after log all.0 along all.1, all.2)
+    let wrote = wrote_along g.M.Member.turning g.K.Sink.outlet old new before after log all.text along all.are_texts in
+    (all.text, all.are_texts, wrote, all.each)
