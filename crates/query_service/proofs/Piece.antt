@@ -8,7 +8,7 @@ use Rattle.station_io.specs.Sink.{Emits}
 use Rattle.serial_link.specs.declared.talk.TalkItem.{TalkItem}
 use Rattle.serial_link.specs.declared.link.Sent.TheVariants as sent
 use Rattle.serial_link.specs.Traffic.{Traffic}
-use Rattle.serial_link.specs.Talk.{count_quiets, message}
+use Rattle.serial_link.specs.Talk.{Adds, count_quiets, message}
 use Rattle.serial_link.specs.Link.{Speaks}
 use Rattle.serial_link.proofs.Growing.{count_quiets-append, message_waits}
 use Rattle.wake_retry.specs.Bounds.{said}
@@ -18,7 +18,7 @@ use Rattle.query_service.specs.declared.link_sink.Refusal.{Refusal}
 use Rattle.query_service.specs.declared.link_sink.Refusal.TheVariants.{LinkFault, OutOfMemory}
 use Rattle.query_service.specs.declared.link_sink.LinkSink.{LinkSink}
 use Rattle.query_service.specs.Refused.{Refuses, refused}
-use Rattle.query_service.specs.SaidOver.{saying_outlet, says_none}
+use Rattle.query_service.specs.SaidOver.{SaysOver, saying_outlet, says_none}
 use Rattle.query_service.specs.Talk.{TalkOnlySays, said_joins}
 
 message_bytes : (bytes : List ℕ) → said (message bytes) ≡ bytes
@@ -68,21 +68,23 @@ module _ {L : Type 0} (traffic : Traffic L) (old new : LinkSink L) (bytes : List
   all_said speaks is = record {
     done = λ _. tt;
     failed = λ e. absurd (let bad : put.Done ≡ put.Failed = e in cc);
-    call = (
-      bytes,
-      refl,
-      record {
-        same = same;
-        talk = speaks.talk.0;
-        said_is = ap said speaks.talk.1 ∙ message_bytes bytes;
-        only = subst TalkOnlySays (sym speaks.talk.1) (message_only bytes);
-        adds = speaks.talk.2;
-        refuses = refuses_by _ _ None _ _ _ _ free (is ∙ free) (
-          speaks.still.faults (λ e. absurd (let bad : sent.Done ≡ sent.Failed = e in cc)),
-          speaks.still.shortages (λ e. absurd (let bad : sent.Done ≡ sent.OutOfMemory = e in cc)),
+    call =
+        let (talk, whole, adds) = speaks.talk in (
+          bytes,
+          refl,
+          record {
+            same = same;
+            talk = talk;
+            said_is = ap said whole ∙ message_bytes bytes;
+            only = subst TalkOnlySays (sym whole) (message_only bytes);
+            adds = adds;
+            refuses = refuses_by _ _ None _ _ _ _ free (is ∙ free) (record {
+              same = refl;
+              faults = speaks.still.faults (λ e. absurd (let bad : sent.Done ≡ sent.Failed = e in cc));
+              shortages = speaks.still.shortages (λ e. absurd (let bad : sent.Done ≡ sent.OutOfMemory = e in cc));
+            });
+          },
         );
-      },
-    );
     cause = record {
       never_falls = let e : refused new.refusal ≡ refused old.refusal = ap refused is in omega (arith, e);
       rose = λ e. absurd (let bad : put.Done ≡ put.Failed = e in cc);
@@ -90,27 +92,37 @@ module _ {L : Type 0} (traffic : Traffic L) (old new : LinkSink L) (bytes : List
     still = λ _. ap refused is;
   }
 
+  -- of a message that broke off a front was said
+  front_said : (t rest : List TalkItem) → t ++ rest ≡ message bytes → Adds traffic old.link.now t new.link.now
+      → Refuses old.refusal new.refusal (traffic.faults old.link.now) (traffic.faults new.link.now)
+      (traffic.shortages old.link.now) (traffic.shortages new.link.now)
+      → (written : List ℕ) × IsFrontOf written bytes × SaysOver traffic old written new
+  front_said t rest whole adds refuses = (
+    said t,
+    front_bytes t rest bytes whole,
+    record {
+      same = same;
+      talk = t;
+      said_is = refl;
+      only = front_only t rest bytes whole;
+      adds = adds;
+      refuses = refuses;
+    },
+  )
+
   pub fails : Speaks traffic old.link.now bytes sent.Failed new.link.now → new.refusal ≡ Some LinkFault
       → Emits (saying_outlet traffic) old bytes put.Failed new
   fails speaks is = record {
     done = λ e. absurd (let bad : put.Failed ≡ put.Done = e in cc);
     failed = λ _. writes_nothing None bytes;
-    call = (
-      said speaks.talk.0,
-      front_bytes speaks.talk.0 speaks.talk.1.0 bytes speaks.talk.1.1,
-      record {
-        same = same;
-        talk = speaks.talk.0;
-        said_is = refl;
-        only = front_only speaks.talk.0 speaks.talk.1.0 bytes speaks.talk.1.1;
-        adds = speaks.talk.2;
-        refuses = refuses_by _ _ (Some LinkFault) _ _ _ _ free is (
-          speaks.fault.never_falls,
-          speaks.fault.rose refl,
-          speaks.still.shortages (λ e. absurd (let bad : sent.Failed ≡ sent.OutOfMemory = e in cc)),
-        );
-      },
-    );
+    call =
+        let (talk, says, adds) = speaks.talk in
+        let (rest, whole) = says in
+        front_said talk rest whole adds (refuses_by _ _ (Some LinkFault) _ _ _ _ free is (record {
+          never_falls = speaks.fault.never_falls;
+          rose = speaks.fault.rose refl;
+          stands = speaks.still.shortages (λ e. absurd (let bad : sent.Failed ≡ sent.OutOfMemory = e in cc));
+        }));
     cause = first_refused old.refusal new.refusal LinkFault free is;
     still = λ apart. absurd (apart refl);
   }
@@ -120,22 +132,14 @@ module _ {L : Type 0} (traffic : Traffic L) (old new : LinkSink L) (bytes : List
   finds_no_memory speaks is = record {
     done = λ e. absurd (let bad : put.Failed ≡ put.Done = e in cc);
     failed = λ _. writes_nothing None bytes;
-    call = (
-      said speaks.talk.0,
-      front_bytes speaks.talk.0 speaks.talk.1.0 bytes speaks.talk.1.1,
-      record {
-        same = same;
-        talk = speaks.talk.0;
-        said_is = refl;
-        only = front_only speaks.talk.0 speaks.talk.1.0 bytes speaks.talk.1.1;
-        adds = speaks.talk.2;
-        refuses = refuses_by _ _ (Some OutOfMemory) _ _ _ _ free is (
-          speaks.still.faults (λ e. absurd (let bad : sent.OutOfMemory ≡ sent.Failed = e in cc)),
-          speaks.shortage.never_falls,
-          speaks.shortage.rose refl,
-        );
-      },
-    );
+    call =
+        let (talk, says, adds) = speaks.talk in
+        let (rest, whole) = says in
+        front_said talk rest whole adds (refuses_by _ _ (Some OutOfMemory) _ _ _ _ free is (record {
+          never_falls = speaks.shortage.never_falls;
+          rose = speaks.shortage.rose refl;
+          stands = speaks.still.faults (λ e. absurd (let bad : sent.OutOfMemory ≡ sent.Failed = e in cc));
+        }));
     cause = first_refused old.refusal new.refusal OutOfMemory free is;
     still = λ apart. absurd (apart refl);
   }

@@ -50,10 +50,10 @@ module _ {L D : Type 0} (traffic : Traffic L) (medium : Medium D) (book : Book) 
             },
             over.adds,
           );
-          fault = record { never_falls = omega (arith, r.0); rose = λ e. absurd (let bad : Done ≡ LinkFault = e in cc) };
-          shortage = record { never_falls = omega (arith, r.1); rose = λ e. absurd (let bad : Done ≡ OutOfMemory = e in cc) };
+          fault = record { never_falls = omega (arith, r.faults); rose = λ e. absurd (let bad : Done ≡ LinkFault = e in cc) };
+          shortage = record { never_falls = omega (arith, r.shortages); rose = λ e. absurd (let bad : Done ≡ OutOfMemory = e in cc) };
         };
-        still = record { faults = λ _. r.0; quiets = λ no. absurd (no tt); shortages = λ _. r.1 };
+        still = record { faults = λ _. r.faults; quiets = λ no. absurd (no tt); shortages = λ _. r.shortages };
         stays = by.stays;
         went = λ rows stands. let reads = by.went rows stands in record { failed = reads.failed; by_end = reads.by_end; looked = reads.looked };
         disk_fault = record { never_falls = by.disk_fault.never_falls; rose = λ e. absurd (let bad : Done ≡ DiskFault = e in cc) };
@@ -72,10 +72,10 @@ module _ {L D : Type 0} (traffic : Traffic L) (medium : Medium D) (book : Book) 
             },
             over.adds,
           );
-          fault = record { never_falls = omega (arith, r.0); rose = λ e. absurd (let bad : DiskFault ≡ LinkFault = e in cc) };
-          shortage = record { never_falls = omega (arith, r.1); rose = λ e. absurd (let bad : DiskFault ≡ OutOfMemory = e in cc) };
+          fault = record { never_falls = omega (arith, r.faults); rose = λ e. absurd (let bad : DiskFault ≡ LinkFault = e in cc) };
+          shortage = record { never_falls = omega (arith, r.shortages); rose = λ e. absurd (let bad : DiskFault ≡ OutOfMemory = e in cc) };
         };
-        still = record { faults = λ _. r.0; quiets = λ no. absurd (no tt); shortages = λ _. r.1 };
+        still = record { faults = λ _. r.faults; quiets = λ no. absurd (no tt); shortages = λ _. r.shortages };
         stays = by.stays;
         went = λ rows stands. let reads = by.went rows stands in record { failed = reads.failed; by_end = reads.by_end; looked = reads.looked };
         disk_fault = record { never_falls = by.disk_fault.never_falls; rose = λ e. by.disk_fault.rose refl };
@@ -97,10 +97,10 @@ module _ {L D : Type 0} (traffic : Traffic L) (medium : Medium D) (book : Book) 
             },
             over.adds,
           );
-          fault = record { never_falls = r.0; rose = λ e. r.1 };
-          shortage = record { never_falls = omega (arith, r.2); rose = λ e. absurd (let bad : LinkFault ≡ OutOfMemory = e in cc) };
+          fault = record { never_falls = r.never_falls; rose = λ e. r.rose };
+          shortage = record { never_falls = omega (arith, r.stands); rose = λ e. absurd (let bad : LinkFault ≡ OutOfMemory = e in cc) };
         };
-        still = record { faults = λ no. absurd (no refl); quiets = λ no. absurd (no tt); shortages = λ _. r.2 };
+        still = record { faults = λ no. absurd (no refl); quiets = λ no. absurd (no tt); shortages = λ _. r.stands };
         stays = by.stays;
         went = λ rows stands. let reads = by.went rows stands in record { failed = reads.failed; by_end = tt; looked = reads.looked };
         disk_fault = record { never_falls = by.disk_fault.never_falls; rose = λ e. absurd (let bad : LinkFault ≡ DiskFault = e in cc) };
@@ -117,10 +117,10 @@ module _ {L D : Type 0} (traffic : Traffic L) (medium : Medium D) (book : Book) 
             },
             over.adds,
           );
-          fault = record { never_falls = omega (arith, r.0); rose = λ e. absurd (let bad : OutOfMemory ≡ LinkFault = e in cc) };
-          shortage = record { never_falls = r.1; rose = λ e. r.2 };
+          fault = record { never_falls = omega (arith, r.stands); rose = λ e. absurd (let bad : OutOfMemory ≡ LinkFault = e in cc) };
+          shortage = record { never_falls = r.never_falls; rose = λ e. r.rose };
         };
-        still = record { faults = λ _. r.0; quiets = λ no. absurd (no tt); shortages = λ no. absurd (no refl) };
+        still = record { faults = λ _. r.stands; quiets = λ no. absurd (no tt); shortages = λ no. absurd (no refl) };
         stays = by.stays;
         went = λ rows stands. let reads = by.went rows stands in record { failed = reads.failed; by_end = tt; looked = reads.looked };
         disk_fault = record { never_falls = by.disk_fault.never_falls; rose = λ e. absurd (let bad : OutOfMemory ≡ DiskFault = e in cc) };
