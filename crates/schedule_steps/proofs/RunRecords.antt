@@ -1,10 +1,10 @@
 -- The records of a run, one after another.
 use Rattle.std.proofs.Common.{◌≡◌, ℕ, zero, suc, ◌+◌, ◌-◌, ◌*◌, ◌≤◌, List, [], Option, Some, None, refl, sym, ap, ◌∙◌, subst, arith}
-use Rattle.std.specs.Option.{IsSomeAnd}
+use Rattle.std.specs.Option.{IsSomeAnd, unwrap_or}
 use Rattle.station_base.specs.CivilMinute.{CivilMinute, minute_of, last_minute}
 use Rattle.archive_record.specs.Reading.{stamp_in}
 use Rattle.archive_record.specs.MovedOn.{moved_on}
-use Rattle.schedule_steps.specs.Runs.{next_or, next_record, run_records, IsRun}
+use Rattle.schedule_steps.specs.Runs.{next_record, run_records, IsRun}
 use Rattle.schedule_steps.proofs.Stamping.{moved_to}
 
 -- a stamp behind which so many records of the period have stamps
@@ -76,5 +76,5 @@ pub next_left : (period count : ℕ) (rec : List ℕ) (next : Option (List ℕ))
 next_left period zero rec next is run = (tt, none_left period next)
 next_left period (suc count) rec None is run = (let some = is ∙ run_next period rec (run_of_two period count rec run) in cc)
 next_left period (suc count) rec (Some later) is run =
-    let same : later ≡ next_record period rec = ap (λ (o : Option (List ℕ)). next_or o rec) is in
+    let same : later ≡ next_record period rec = ap (λ (o : Option (List ℕ)). unwrap_or o rec) is in
     (subst (λ (r : List ℕ). IsRun period r (suc count)) (sym same) (run_on period count rec run), ap (λ (r : List ℕ). run_records period r (suc count)) same)

@@ -1,21 +1,15 @@
 -- The records of a run.
-use Rattle.std.specs.Prelude.{◌≡◌, ℕ, zero, suc, ◌+◌, ◌-◌, ◌*◌, ◌≤◌, List, [], ◌∷◌, Some, None}
-use Rattle.std.specs.declared.option.Option.{Option}
-use Rattle.std.specs.Option.{IsSomeAnd}
+use Rattle.std.specs.Prelude.{◌≡◌, ℕ, zero, suc, ◌+◌, ◌-◌, ◌*◌, ◌≤◌, List, [], ◌∷◌}
+use Rattle.std.specs.Option.{IsSomeAnd, unwrap_or}
 use Rattle.station_base.specs.CivilMinute.{minute_of, last_minute}
 use Rattle.station_base.specs.declared.row.Row.{Row}
 use Rattle.archive_record.specs.declared.record_read.RecordRead.TheVariants.{Row as ReadRow}
 use Rattle.archive_record.specs.MovedOn.{moved_on}
 use Rattle.archive_record.specs.Reading.{reading, stamp_in}
 
--- the record that comes next, or where there is none the same
-abbrev pub next_or : Option (List ℕ) → List ℕ → List ℕ
-next_or None rec = rec
-next_or (Some later) rec = later
-
--- the next record of a run: this one with its stamp moved on by a period
+-- the next record of a run: this one with its stamp moved on by a period, or where it cannot be, as it is
 abbrev pub next_record : ℕ → List ℕ → List ℕ
-next_record period rec = next_or (moved_on period rec) rec
+next_record period rec = unwrap_or (moved_on period rec) rec
 
 -- so many records, each a period after the one before, with the values of the first
 abbrev pub run_records : ℕ → List ℕ → ℕ → List (List ℕ)
