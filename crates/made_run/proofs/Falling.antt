@@ -13,7 +13,6 @@ use Rattle.station_replay.specs.Schedule.{records}
 use Rattle.station_replay.specs.Stopped.{IsStop}
 use Rattle.schedule_steps.specs.Accepted.{AreAccepted, HasRecord}
 use Rattle.schedule_steps.specs.Steps.{steps_for}
-use Rattle.schedule_steps.specs.Stops.{stop_set}
 use Rattle.schedule_steps.proofs.Accepting.{falling_accepted}
 use Rattle.schedule_steps.proofs.Falling.{AllFall, MidsFall, lines_in}
 use Rattle.archive_record.proofs.Stamping.{IsNumbered, numbered_after}
@@ -53,11 +52,11 @@ no_mids false false false = refl
 pub mids_none : (kind : ℕ) → (details_of kind).mids ≡ []
 mids_none kind = no_mids (kind == 4) (kind == 5) (kind == 6)
 
-stop_by : (t : Bool) (x : ℕ) → IsStop (stop_set (if t then Some (stop_drawn x) else None))
+stop_by : (t : Bool) (x : ℕ) → IsStop (if t then Some (stop_drawn x) else None)
 stop_by true x = omega arith
 stop_by false x = tt
 
-is_stop : (kind x : ℕ) → IsStop (stop_set (stop_of_kind kind x))
+is_stop : (kind x : ℕ) → IsStop (stop_of_kind kind x)
 is_stop kind x = stop_by (kind == 7) x
 
 -- the records fall due one after another

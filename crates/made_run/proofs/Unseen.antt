@@ -11,7 +11,8 @@ use Rattle.schedule_file.specs.Fates.{Fates}
 use Rattle.schedule_file.specs.Lists.{entry_of}
 use Rattle.schedule_file.specs.Steps.{Details, ScheduleStep, DueStep, RunStep, IdleStep, OpenStep, RoundStep, no_details, steps_seen}
 use Rattle.station_replay.specs.Replay.{IsUnseen, Item, Stage}
-use Rattle.station_replay.specs.Schedule.{ReplayStep, Stop}
+use Rattle.schedule_file.specs.declared.schedule.step.Stop.{Stop}
+use Rattle.station_replay.specs.Schedule.{ReplayStep}
 use Rattle.schedule_steps.specs.Steps.{steps_for}
 use Rattle.draws.specs.Draws.{next_draw}
 use Rattle.made_run.specs.Made.{after_rounds, host_lost, is_round, kind_drawn, made_steps, reply_cut, reply_late, rounds_behind, steps_from}

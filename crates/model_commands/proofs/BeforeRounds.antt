@@ -9,7 +9,8 @@ use Rattle.station_sim.specs.Line.{Line, due_all, happens}
 use Rattle.station_sim.specs.Talk.{idles}
 use Rattle.station_sim.proofs.Sounding.{console_joins}
 use Rattle.station_replay.specs.Replay.{Item, Opens, Runs, Stage, stops_opening}
-use Rattle.station_replay.specs.Schedule.{ReplayStep, Stop}
+use Rattle.schedule_file.specs.declared.schedule.step.Stop.{Stop}
+use Rattle.station_replay.specs.Schedule.{ReplayStep}
 use Rattle.schedule_file.specs.Lists.{no_fates}
 use Rattle.model_commands.specs.ConsoleRun.{HaveNoRound, before_rounds}
 

@@ -4,7 +4,8 @@ ghost use Rattle.loop_packet.specs.declared.packet.LoopPacket.{LoopPacket};
 ghost use Rattle.settings_file.specs.StationSettings.{StationSettings};
 ghost use Rattle.schedule_file.specs.Fates.{Fates};
 ghost use Rattle.station_replay.specs.Replay.{Item, Runs, Stage, start};
-ghost use Rattle.station_replay.specs.Schedule.{ReplayStep, Stop};
+ghost use Rattle.schedule_file.specs.declared.schedule.step.Stop.{Stop};
+ghost use Rattle.station_replay.specs.Schedule.{ReplayStep};
 ghost use Rattle.model_commands.specs.ConsoleRun.{HaveNoRound, console_served};
 
 /// The console that is served is the one that a run of the same steps, from a new console of the same period and packet, has as its

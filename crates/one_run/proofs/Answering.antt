@@ -5,7 +5,7 @@ use Rattle.causes.specs.declared.stored.Stored.TheVariants as reply
 use Rattle.dmpaft_pump.specs.Keeper.{Handed, Refusal, answer_for, join, one_batch}
 use Rattle.dmpaft_pump.proofs.Keeping.{join_none}
 use Rattle.station_session.specs.Batches.{Fit, kept_count, last_answer}
-use Rattle.station_replay.specs.Schedule.{Stop}
+use Rattle.schedule_file.specs.declared.schedule.step.Stop.{Stop}
 use Rattle.station_replay.specs.Session.{ComesAt, NotPast}
 
 -- a stop that comes later does not come here

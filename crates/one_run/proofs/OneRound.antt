@@ -20,7 +20,7 @@ use Rattle.schedule_file.specs.Fates.{Fates}
 use Rattle.station_sim.specs.Joining.{talks_part}
 use Rattle.station_sim.specs.Line.{Line}
 use Rattle.station_sim.specs.Talk.{ConsoleTalk}
-use Rattle.station_replay.specs.Schedule.{Stop}
+use Rattle.schedule_file.specs.declared.schedule.step.Stop.{Stop}
 use Rattle.station_replay.specs.Session.{IsKnown, NotPast}
 use Rattle.station_replay.proofs.Bridge.{not_past_less}
 use Rattle.station_replay.proofs.Rounds.{IsPlain}

@@ -20,7 +20,8 @@ use Rattle.station_session.specs.Records.{stored_rows}
 use Rattle.station_replay.specs.Keeping.{Archive}
 use Rattle.station_replay.specs.Replay.{Does, IsBroken, IsReplay, IsRound, Item, Opens, Rounded, Runs, Stage, after_round, closing_items, opening_if_closed, is_stop, left_by_round, opened}
 use Rattle.station_replay.specs.Round.{Attempted, Ending, finished, tried_of}
-use Rattle.station_replay.specs.Schedule.{ReplayStep, Stop}
+use Rattle.schedule_file.specs.declared.schedule.step.Stop.{Stop}
+use Rattle.station_replay.specs.Schedule.{ReplayStep}
 use Rattle.station_replay.specs.Session.{ComesAt, RoundEndsAs, NotPast, given_in, archive_left_after}
 use Rattle.station_replay.specs.Texts.{text, item_text, rows_text, round_line, rows_text_behind}
 use Rattle.station_replay.proofs.Bridge.{ends_same, known_end, round_talk}

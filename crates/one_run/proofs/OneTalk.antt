@@ -17,7 +17,7 @@ use Rattle.dmpaft_pump.specs.Pump.{AttemptState, Saying, Hearing, Keeping, Over,
 use Rattle.dmpaft_pump.specs.declared.pump_end.PumpEnd.{PumpEnd}
 use Rattle.dmpaft_driver.proofs.Cutting.{begun_not_over}
 use Rattle.dmpaft_pump.proofs.Walking.{no_astray, said_is}
-use Rattle.station_replay.specs.Schedule.{Stop}
+use Rattle.schedule_file.specs.declared.schedule.step.Stop.{Stop}
 use Rattle.one_run.proofs.Answering.{AreAnswered, answers_meet, done_too, one_answer}
 use Rattle.one_run.proofs.Handing.{gives_all, over_by}
 

@@ -26,7 +26,7 @@ use Rattle.station_session.specs.Attempts.{IsTried, Tried, batches_in}
 use Rattle.station_session.proofs.Ends.{last_in}
 use Rattle.station_replay.specs.Keeping.{Archive}
 use Rattle.one_run.specs.SameTried.{SameTried, TriesOver}
-use Rattle.station_replay.specs.Schedule.{Stop}
+use Rattle.schedule_file.specs.declared.schedule.step.Stop.{Stop}
 use Rattle.one_run.proofs.Answering.{AreAnswered, are_answered}
 use Rattle.one_run.proofs.Handing.{gives_all, handed_all}
 use Rattle.one_run.proofs.OneTalk.{Alike, CutShort, Leads, alike_from, same_line}

@@ -9,7 +9,7 @@ use Rattle.station_session.specs.Batches.{Fit, kept_count}
 use Rattle.schedule_file.specs.Fates.{Fates}
 use Rattle.station_sim.specs.Line.{Line}
 use Rattle.station_sim.specs.Talk.{ConsoleTalk}
-use Rattle.station_replay.specs.Schedule.{Stop}
+use Rattle.schedule_file.specs.declared.schedule.step.Stop.{Stop}
 use Rattle.station_replay.specs.Keeping.{Archive}
 use Rattle.station_replay.specs.Session.{ComesAt, NotPast}
 

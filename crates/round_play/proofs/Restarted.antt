@@ -20,7 +20,7 @@ use Rattle.gated_log.specs.declared.version.Version.TheVariants.{Second}
 use Rattle.station_base.specs.declared.row.Row.{Row}
 use Rattle.gated_log.specs.Layout.{empty_size}
 use Rattle.weather_book.specs.Stands.{HasRows, NowHasRows}
-use Rattle.station_replay.specs.Schedule.{Stop}
+use Rattle.schedule_file.specs.declared.schedule.step.Stop.{Stop}
 use Rattle.station_replay.specs.Keeping.{Archive}
 use Rattle.station_replay.specs.Replay.{cut_archive, stops_opening}
 use Rattle.station_replay.specs.Stopped.{DiskRests}

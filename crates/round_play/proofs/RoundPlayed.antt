@@ -42,7 +42,7 @@ use Rattle.station_replay.specs.Keeping.{Archive}
 use Rattle.station_replay.specs.Round.{Attempted, Ending, finished, tried_of}
 use Rattle.station_replay.specs.Replay.{Item, Rounded, Stage, IsBroken, after_round, is_stop, left_by_round}
 use Rattle.station_replay.specs.Room.{AreFew}
-use Rattle.station_replay.specs.Schedule.{Stop}
+use Rattle.schedule_file.specs.declared.schedule.step.Stop.{Stop}
 use Rattle.station_replay.specs.Session.{AreRound, RoundEndsAs, IsKnown, NotPast, RoundStopsAt, archive_left_after}
 use Rattle.station_replay.specs.Stopped.{DiskHasRoom, IsStop, armed_by}
 use Rattle.station_replay.proofs.Bridge.{session_law}

@@ -19,7 +19,7 @@ use Rattle.station_session.proofs.LastTurn.{makes_round}
 use Rattle.schedule_file.specs.declared.fates.Fates as code_fates
 use Rattle.station_sim.specs.declared.sim.Sim.{Sim}
 use Rattle.station_sim.specs.Telling.{sim_traffic}
-use Rattle.station_replay.specs.Schedule.{Stop}
+use Rattle.schedule_file.specs.declared.schedule.step.Stop.{Stop}
 use Rattle.round_play.specs.declared.playing.Playing.{Playing}
 use Rattle.round_play.specs.Played.{PlayedHost}
 use Rattle.round_play.specs.Restarting.{IsBegunAgain, IsDisarmed}

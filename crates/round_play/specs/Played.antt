@@ -19,7 +19,7 @@ use Rattle.station_sim.specs.Line.{Line}
 use Rattle.station_sim.specs.Standing.{SimStandsFor}
 use Rattle.station_sim.specs.Talk.{ConsoleTalk, started}
 use Rattle.station_replay.specs.Keeping.{Archive}
-use Rattle.station_replay.specs.Schedule.{Stop}
+use Rattle.schedule_file.specs.declared.schedule.step.Stop.{Stop}
 use Rattle.station_replay.specs.Replay.{Item, Rounded, Stage, IsRound, IsBroken, is_stop}
 use Rattle.station_replay.specs.Room.{AreFew}
 use Rattle.station_replay.specs.Session.{RoundEndsAs, given_in}

@@ -23,7 +23,7 @@ use Rattle.schedule_file.specs.Lists.{fates_of}
 use Rattle.station_sim.specs.Standing.{SimStandsFor}
 use Rattle.station_sim.specs.Talk.{started}
 use Rattle.station_sim.specs.Telling.{sim_traffic}
-use Rattle.station_replay.specs.Schedule.{Stop}
+use Rattle.schedule_file.specs.declared.schedule.step.Stop.{Stop}
 use Rattle.station_replay.specs.Stopped.{IsStop}
 use Rattle.round_play.specs.declared.playing.Playing.{Playing}
 use Rattle.round_play.specs.Played.{PlayedHost}

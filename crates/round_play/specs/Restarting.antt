@@ -6,7 +6,7 @@ use Rattle.disk_model.specs.StoppingState.{StoppingState, begun_again}
 use Rattle.disk_model.specs.Stopping.{stopping_medium, stopping_state_of}
 use Rattle.disk_model.specs.declared.mem_disk.MemDisk.{MemDisk}
 use Rattle.disk_model.specs.declared.stopping.Stopping.{Stopping}
-use Rattle.station_replay.specs.Schedule.{Stop}
+use Rattle.schedule_file.specs.declared.schedule.step.Stop.{Stop}
 use Rattle.station_replay.specs.Stopped.{IsRestart}
 
 -- the state with the stop armed, if one is set

@@ -3,7 +3,6 @@ ghost use Rattle.station_replay.specs.Keeping.{Archive};
 ghost use Rattle.station_replay.specs.Replay.{stops_opening};
 ghost use Rattle.round_play.specs.Opening.{DiskIsReady, IsOpened, OpensBy, stopping_limits};
 ghost use Rattle.round_play.specs.Resting.{AtRest};
-ghost use Rattle.schedule_steps.specs.Stops.{stop_of};
 
 use causes::OutOfMemory;
 use disk_model::{MemDisk, Stopping};
@@ -47,7 +46,7 @@ pub fn recover_with_stop(
     requires stop { 1 ≤ stop.change }
     requires ready { DiskIsReady disk.old }
     ensures opened { IfOk result (λ session. (openings : ℕ) (a : Archive) → AtRest openings a disk.old
-        → OpensBy (stops_opening stop.change a.size) settings.now (stop_of stop) openings a session disk.new) }
+        → OpensBy (stops_opening stop.change a.size) settings.now stop openings a session disk.new) }
     ensures limits { stopping_limits disk.new ≡ stopping_limits disk.old }
 {
     disk.arm(stop.change, stop.pick);

@@ -11,11 +11,10 @@ ghost use Rattle.station_session.specs.declared.session.Session.{Session};
 ghost use Rattle.schedule_file.specs.declared.fates.Fates as code_fates;
 ghost use Rattle.schedule_file.specs.Lists.{fates_of, records_left_in, no_fates};
 ghost use Rattle.station_replay.specs.Replay.{Stage};
-ghost use Rattle.station_replay.specs.Schedule.{Stop as RunStop};
+ghost use Rattle.schedule_file.specs.declared.schedule.step.Stop.{Stop};
 ghost use Rattle.station_replay.specs.Stopped.{IsStop};
 ghost use Rattle.round_play.specs.Played.{PlayedHost, MayPlay, PlaysBy};
 ghost use Rattle.round_play.specs.Playing.{RoundIsOver, IsStill, RoundIsUnderWay, MayGoOn};
-ghost use Rattle.schedule_steps.specs.Stops.{stop_set};
 
 use crate::resting::{arm, rest};
 use causes::OutOfMemory;
@@ -55,11 +54,11 @@ pub fn begin_play(
     disk: &mut Stopping<MemDisk>,
 ) -> Result<Playing, OutOfMemory>
     requires goes { (stopping_state_of disk.old).stopped ≡ false }
-    requires stop { IsStop (stop_set stop) }
+    requires stop { IsStop stop }
     requires fresh { session_is_stale session ≡ false }
     requires room { MayBegin stopping_medium MOST_CHANGES disk.old }
     ensures begins { IfOk result
-        (λ playing. RoundIsUnderWay fates.now (stop_set stop) (round_host session line.old disk.old)
+        (λ playing. RoundIsUnderWay fates.now stop (round_host session line.old disk.old)
         playing line.new disk.new) }
     ensures may { IfOk result (λ playing. MayGoOn playing disk.new) }
     ensures left { IfOk result (λ playing. round_turns_left playing.round < 2 ^ 32) }
@@ -88,11 +87,11 @@ impl Playing {
     pub fn turn(&mut self, line: &mut Sim, disk: &mut Stopping<MemDisk>) -> Turn
         requires may { MayGoOn self.old disk.old }
         ensures may { result ≡ Turn.More → MayGoOn self.new disk.new }
-        ensures more { result ≡ Turn.More → (fates : code_fates.Fates) (stop : Option RunStop) (old : PlayedHost)
+        ensures more { result ≡ Turn.More → (fates : code_fates.Fates) (stop : Option Stop) (old : PlayedHost)
             → RoundIsUnderWay fates stop old self.old line.old disk.old
             → RoundIsUnderWay fates stop old self.new line.new disk.new }
         ensures ended { (end : RoundEnd) → result ≡ Turn.Ended end
-            → (fates : code_fates.Fates) (stop : Option RunStop) (old : PlayedHost)
+            → (fates : code_fates.Fates) (stop : Option Stop) (old : PlayedHost)
             → RoundIsUnderWay fates stop old self.old line.old disk.old
             → RoundIsOver fates stop old end self.new.session self.new.report line.new disk.new }
         ensures left { result ≡ Turn.More → round_turns_left self.new.round < round_turns_left self.old.round }
@@ -114,7 +113,7 @@ pub fn end_play(
     disk: &mut Stopping<MemDisk>,
 ) -> Result<Played, OutOfMemory>
     ensures played { IfOk result (λ played. (records openings : ℕ) (settings : StationSettings) (s : Stage)
-        (fates : code_fates.Fates) (stop : Option RunStop) (old : PlayedHost) (session : Session)
+        (fates : code_fates.Fates) (stop : Option Stop) (old : PlayedHost) (session : Session)
         → RoundIsOver fates stop old end session report line.old disk.old
         → MayPlay records settings (fates_of fates) openings s old
         → PlaysBy played.unseen settings (fates_of fates) (records_left_in fates.mids.items) stop openings s

@@ -3,7 +3,6 @@ ghost use Rattle.disk_model.specs.Disk.{Stays};
 ghost use Rattle.disk_model.specs.Stopping.{stopping_medium, stopping_state_of};
 ghost use Rattle.station_replay.specs.Stopped.{IsStop};
 ghost use Rattle.round_play.specs.Restarting.{IsBegunAgain, IsDisarmed, armed_with};
-ghost use Rattle.schedule_steps.specs.Stops.{stop_set};
 
 use disk_model::{MemDisk, Stopping};
 use schedule_file::Stop;
@@ -11,8 +10,8 @@ use schedule_file::Stop;
 /// Arms the stop, if one is set.
 pub fn arm(stop: Option<Stop>, disk: &mut Stopping<MemDisk>)
     requires goes { (stopping_state_of disk.old).stopped ≡ false }
-    requires stop { IsStop (stop_set stop) }
-    ensures state { stopping_state_of disk.new ≡ armed_with (stop_set stop) (stopping_state_of disk.old) }
+    requires stop { IsStop stop }
+    ensures state { stopping_state_of disk.new ≡ armed_with stop (stopping_state_of disk.old) }
     ensures stays { Stays stopping_medium disk.old disk.new }
 {
     if let Some(stop) = stop {

@@ -6,12 +6,11 @@ use Rattle.disk_model.specs.declared.mem_disk.MemDisk.{MemDisk}
 use Rattle.disk_model.specs.declared.stopping.Stopping.{Stopping}
 use Rattle.station_session.specs.declared.session.Session.{Session}
 use Rattle.schedule_file.specs.declared.fates.Fates as code_fates
-use Rattle.schedule_file.specs.declared.schedule.step.Stop as code_stop
+use Rattle.schedule_file.specs.declared.schedule.step.Stop.{Stop}
 use Rattle.station_sim.specs.declared.sim.Sim.{Sim}
 use Rattle.station_sim.specs.declared.unseen.Unseen.{Unseen}
 use Rattle.schedule_file.specs.Fates.{Fates}
 use Rattle.station_replay.specs.Replay.{IsBroken, Item, Stage, opening_if_closed, opened}
-use Rattle.station_replay.specs.Schedule.{Stop}
 use Rattle.schedule_replay.specs.declared.cut.Cut.{Cut}
 use Rattle.round_play.specs.declared.playing.Played.{Played}
 use Rattle.schedule_replay.specs.declared.run.Run.{Run}
@@ -66,7 +65,7 @@ pub broken_opened : (settings : StationSettings) (f : Fates) (stop : Option Stop
     → IsBroken settings f stop s (Item.Unsaid (s.rounds + 1) which) → IsBroken settings f stop (opened s.is_open s) (Item.Unsaid ((opened s.is_open s).rounds + 1) which)
 broken_opened settings f stop s which is b = subst (λ (u : Stage). IsBroken settings f stop u (Item.Unsaid (u.rounds + 1) which)) (ap (λ (t : Bool). opened t s) (sym is)) b
 
-pub with_limits : {T : Type 0} (telling : Telling T) (openings : ℕ) (settings : StationSettings) (fates : code_fates.Fates) (stop : Option code_stop.Stop) (s : Stage) (before line : Sim) (made disk : Stopping MemDisk) (run : Run) (a b : T) → stopping_limits disk ≡ stopping_limits made
+pub with_limits : {T : Type 0} (telling : Telling T) (openings : ℕ) (settings : StationSettings) (fates : code_fates.Fates) (stop : Option Stop) (s : Stage) (before line : Sim) (made disk : Stopping MemDisk) (run : Run) (a b : T) → stopping_limits disk ≡ stopping_limits made
     → After telling false settings (round_step fates stop) s (λ is u. HoldsAt openings settings u run disk × LineAt u line × HasSaid is before line) a b
     → After telling false settings (round_step fates stop) s (λ is u. (HoldsAt openings settings u run disk × LineAt u line × HasSaid is before line) × (stopping_limits disk ≡ stopping_limits made)) a b
 with_limits telling openings settings fates stop s before line made disk run a b limits (is, u, does, holds, told) = (is, u, does, (holds, limits), told)

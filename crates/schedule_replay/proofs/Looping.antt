@@ -17,7 +17,8 @@ use Rattle.station_session.specs.Attempts.{all_said}
 use Rattle.station_session.specs.declared.session.Session.{Session}
 use Rattle.station_replay.specs.Replay.{Does, RunIsBegun, IsBroken, IsReplay, IsRound, IsUnseen, IsWhole, Item, Opens, OpensNext, Runs, Stage, closing_items, opening_if_closed, is_stop, left_by_round, opened, start, stops_opening}
 use Rattle.station_replay.specs.Room.{step_lines, lines}
-use Rattle.station_replay.specs.Schedule.{IsSchedule, ReplayStep, Stop, records}
+use Rattle.schedule_file.specs.declared.schedule.step.Stop.{Stop}
+use Rattle.station_replay.specs.Schedule.{IsSchedule, ReplayStep, records}
 use Rattle.station_replay.specs.Stopped.{IsStop}
 use Rattle.station_replay.specs.Round.{tried_of}
 use Rattle.station_replay.proofs.Leaving.{total_few}

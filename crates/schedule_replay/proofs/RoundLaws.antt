@@ -9,7 +9,7 @@ use Rattle.station_session.specs.declared.limits.TheConstants.{MOST_CHANGES}
 use Rattle.station_session.specs.declared.session.Session.{Session}
 use Rattle.station_session.specs.Round.{round_host}
 use Rattle.schedule_file.specs.declared.fates.Fates as code
-use Rattle.schedule_file.specs.declared.schedule.step.Stop as code_stop
+use Rattle.schedule_file.specs.declared.schedule.step.Stop.{Stop}
 use Rattle.station_sim.specs.declared.sim.Sim.{Sim}
 use Rattle.station_sim.specs.declared.unseen.Unseen.{Unseen}
 use Rattle.schedule_file.specs.Fates.{Fates}
@@ -18,7 +18,7 @@ use Rattle.station_sim.specs.Standing.{SimStandsFor}
 use Rattle.gated_log.specs.Layout.{empty_size}
 use Rattle.station_replay.specs.Keeping.{Archive}
 use Rattle.station_replay.specs.Replay.{IsBroken, Item, Stage, after_round, opening_if_closed, is_stop, left_by_round, opened}
-use Rattle.station_replay.specs.Schedule.{ReplayStep, Stop}
+use Rattle.station_replay.specs.Schedule.{ReplayStep}
 use Rattle.schedule_file.specs.Lists.{no_fates}
 use Rattle.station_replay.specs.Round.{tried_of}
 use Rattle.station_session.specs.Attempts.{all_said}
@@ -31,7 +31,6 @@ use Rattle.round_play.specs.Played.{PlayedHost, RoundIsCounted, IsPlayedOut, IsT
 use Rattle.round_play.specs.Resting.{SessionGoesOn, IsRoomFor}
 use Rattle.schedule_replay.specs.Running.{After, StepIsCut}
 use Rattle.schedule_replay.specs.Standing.{HasRunRoom, HasSaid, HasSession, HoldsAt, RoundIsTold, LineAt, MayOpen, MayRun, Readies, StandsThere, round_step, said_in}
-use Rattle.schedule_steps.specs.Stops.{stop_set}
 use Rattle.schedule_replay.specs.Telling.{Telling}
 
 opened_line : (t : Bool) (s : Stage) → (opened t s).line ≡ s.line
@@ -74,7 +73,7 @@ pub may_open : (settings : StationSettings) (x : ReplayStep) (run : Run) (line :
 may_open settings x run line disk (records, openings, s, h, l, (room, may), few) = (openings, s, h, can_open records openings settings s run disk h room)
 
 -- behind its opening it may play the round
-pub may_play : (records openings : ℕ) (settings : StationSettings) (fates : code.Fates) (stop : Option code_stop.Stop) (s : Stage) (run : Run) (session : Session) (line : Sim) (disk now : Stopping MemDisk) → LineAt s line
+pub may_play : (records openings : ℕ) (settings : StationSettings) (fates : code.Fates) (stop : Option Stop) (s : Stage) (run : Run) (session : Session) (line : Sim) (disk now : Stopping MemDisk) → LineAt s line
     → StandsThere records openings settings (round_step fates stop) s disk → Readies openings settings s run session now → stopping_limits now ≡ stopping_limits disk → MayPlay records settings (fates_of fates) (openings + 1) (opened s.is_open s) (round_host session line now)
 may_play records openings settings fates stop s run session line disk now l (room, (is_stop_, counted, few)) r limits =
     let rows = opened_rows s.is_open s in
@@ -126,18 +125,18 @@ said_first true s xs = refl
 said_first false s xs = refl
 
 -- a round that was told leads where it leaves the run
-pub told_after : {T : Type 0} (telling : Telling T) (openings : ℕ) (settings : StationSettings) (fates : code.Fates) (stop : Option code_stop.Stop) (s : Stage) (old : PlayedHost) (played : Played) (session : Session) (line : Sim) (disk now : Stopping MemDisk) (run : Run) (before : ℕ) (a b c : T)
-    → (o : IsPlayedOut settings (fates_of fates) (records_left_in fates.mids.items) (stop_set stop) openings (opened s.is_open s) old played (round_host session line disk)) → fates_of line.fates ≡ no_fates
+pub told_after : {T : Type 0} (telling : Telling T) (openings : ℕ) (settings : StationSettings) (fates : code.Fates) (stop : Option Stop) (s : Stage) (old : PlayedHost) (played : Played) (session : Session) (line : Sim) (disk now : Stopping MemDisk) (run : Run) (before : ℕ) (a b c : T)
+    → (o : IsPlayedOut settings (fates_of fates) (records_left_in fates.mids.items) stop openings (opened s.is_open s) old played (round_host session line disk)) → fates_of line.fates ≡ no_fates
     → RoundIsTold settings openings o.round o.next.archive before run now → run.rounds ≡ s.rounds + 1 → before ≡ (opened s.is_open s).written
     → telling.tells a (opening_if_closed s.is_open s) b → telling.tells b (Item.Ran o.round ∷ []) c
     → After telling false settings (round_step fates stop) s (λ is u. HoldsAt openings settings u run now × LineAt u line × HasSaid is old.link line) a c
 told_after telling openings settings fates stop s old played session line disk now run before a b c o none told rounds written one two =
     let t = is_stop o.round.end in
     let n = o.is_round.next in
-    let arc : o.next.archive ≡ left_by_round settings (stop_set stop) (opened s.is_open s) o.is_round.made = ap (λ u. u.archive) n ∙ archive_of t (opened s.is_open s) (left_by_round settings (stop_set stop) (opened s.is_open s) o.is_round.made) _ in
-    let open_is : o.next.is_open ≡ not t = ap (λ u. u.is_open) n ∙ after_open t (opened s.is_open s) (left_by_round settings (stop_set stop) (opened s.is_open s) o.is_round.made) _ in
-    let rounds_are : o.next.rounds ≡ (opened s.is_open s).rounds + 1 = ap (λ u. u.rounds) n ∙ after_rounds t (opened s.is_open s) (left_by_round settings (stop_set stop) (opened s.is_open s) o.is_round.made) _ in
-    let written_is : o.next.written ≡ (if t then (opened s.is_open s).written else length (left_by_round settings (stop_set stop) (opened s.is_open s) o.is_round.made).rows) = ap (λ u. u.written) n ∙ after_written t (opened s.is_open s) (left_by_round settings (stop_set stop) (opened s.is_open s) o.is_round.made) _ in (
+    let arc : o.next.archive ≡ left_by_round settings stop (opened s.is_open s) o.is_round.made = ap (λ u. u.archive) n ∙ archive_of t (opened s.is_open s) (left_by_round settings stop (opened s.is_open s) o.is_round.made) _ in
+    let open_is : o.next.is_open ≡ not t = ap (λ u. u.is_open) n ∙ after_open t (opened s.is_open s) (left_by_round settings stop (opened s.is_open s) o.is_round.made) _ in
+    let rounds_are : o.next.rounds ≡ (opened s.is_open s).rounds + 1 = ap (λ u. u.rounds) n ∙ after_rounds t (opened s.is_open s) (left_by_round settings stop (opened s.is_open s) o.is_round.made) _ in
+    let written_is : o.next.written ≡ (if t then (opened s.is_open s).written else length (left_by_round settings stop (opened s.is_open s) o.is_round.made).rows) = ap (λ u. u.written) n ∙ after_written t (opened s.is_open s) (left_by_round settings stop (opened s.is_open s) o.is_round.made) _ in (
       opening_if_closed s.is_open s ++ Item.Ran o.round ∷ [],
       o.next,
       (o.round, o.is_round, refl),
@@ -154,32 +153,32 @@ told_after telling openings settings fates stop s old played session line disk n
       telling.tells_joins a b c (opening_if_closed s.is_open s) (Item.Ran o.round ∷ []) one two,
     )
 
-pub told_cut : {T : Type 0} (telling : Telling T) (settings : StationSettings) (openings : ℕ) (fates : code.Fates) (stop : Option code_stop.Stop) (s : Stage) (old : PlayedHost) (played : Played) (new : PlayedHost) (a b c : T)
-    → (o : IsPlayedOut settings (fates_of fates) (records_left_in fates.mids.items) (stop_set stop) openings (opened s.is_open s) old played new)
+pub told_cut : {T : Type 0} (telling : Telling T) (settings : StationSettings) (openings : ℕ) (fates : code.Fates) (stop : Option Stop) (s : Stage) (old : PlayedHost) (played : Played) (new : PlayedHost) (a b c : T)
+    → (o : IsPlayedOut settings (fates_of fates) (records_left_in fates.mids.items) stop openings (opened s.is_open s) old played new)
     → telling.tells a (opening_if_closed s.is_open s) b → telling.breaks_off b (Item.Ran o.round ∷ []) c → StepIsCut telling settings (round_step fates stop) s a c
 told_cut telling settings openings fates stop s old played new a b c o one two =
     inl (opening_if_closed s.is_open s ++ Item.Ran o.round ∷ [], o.next, (o.round, o.is_round, refl), telling.breaks_later a b c (opening_if_closed s.is_open s) (Item.Ran o.round ∷ []) one two)
 
-pub unseen_after : {T : Type 0} (telling : Telling T) (settings : StationSettings) (fates : code.Fates) (stop : Option code_stop.Stop) (s : Stage) (P : List Item → Stage → Type 0) (number : ℕ) (which : Unseen) (a b c : T)
-    → IsBroken settings (fates_of fates) (stop_set stop) (opened s.is_open s) (Item.Unsaid ((opened s.is_open s).rounds + 1) which) → number ≡ s.rounds + 1
+pub unseen_after : {T : Type 0} (telling : Telling T) (settings : StationSettings) (fates : code.Fates) (stop : Option Stop) (s : Stage) (P : List Item → Stage → Type 0) (number : ℕ) (which : Unseen) (a b c : T)
+    → IsBroken settings (fates_of fates) stop (opened s.is_open s) (Item.Unsaid ((opened s.is_open s).rounds + 1) which) → number ≡ s.rounds + 1
     → telling.tells a (opening_if_closed s.is_open s) b → telling.tells b (Item.Unsaid number which ∷ []) c → After telling true settings (round_step fates stop) s P a c
 unseen_after telling settings fates stop s P number which a b c broken is one two =
     let same : number ≡ (opened s.is_open s).rounds + 1 = is ∙ ap (λ (k : ℕ). k + 1) (sym (opened_rounds s.is_open s)) in
     let i = Item.Unsaid ((opened s.is_open s).rounds + 1) which in (
       opening_if_closed s.is_open s ++ i ∷ [],
-      (fates_of fates, records_left_in fates.mids.items, stop_set stop, i, refl, broken, refl),
+      (fates_of fates, records_left_in fates.mids.items, stop, i, refl, broken, refl),
       telling.tells_joins a b c (opening_if_closed s.is_open s) (i ∷ []) one (subst (λ (k : ℕ). telling.tells b (Item.Unsaid k which ∷ []) c) same two),
     )
 
-pub unseen_cut : {T : Type 0} (telling : Telling T) (settings : StationSettings) (fates : code.Fates) (stop : Option code_stop.Stop) (s : Stage) (number : ℕ) (which : Unseen) (a b c : T)
-    → IsBroken settings (fates_of fates) (stop_set stop) (opened s.is_open s) (Item.Unsaid ((opened s.is_open s).rounds + 1) which) → number ≡ s.rounds + 1
+pub unseen_cut : {T : Type 0} (telling : Telling T) (settings : StationSettings) (fates : code.Fates) (stop : Option Stop) (s : Stage) (number : ℕ) (which : Unseen) (a b c : T)
+    → IsBroken settings (fates_of fates) stop (opened s.is_open s) (Item.Unsaid ((opened s.is_open s).rounds + 1) which) → number ≡ s.rounds + 1
     → telling.tells a (opening_if_closed s.is_open s) b → telling.breaks_off b (Item.Unsaid number which ∷ []) c → StepIsCut telling settings (round_step fates stop) s a c
 unseen_cut telling settings fates stop s number which a b c broken is one two =
     let same : number ≡ (opened s.is_open s).rounds + 1 = is ∙ ap (λ (k : ℕ). k + 1) (sym (opened_rounds s.is_open s)) in
     let i = Item.Unsaid ((opened s.is_open s).rounds + 1) which in
     inr (inl (
       opening_if_closed s.is_open s ++ i ∷ [],
-      (fates_of fates, records_left_in fates.mids.items, stop_set stop, i, refl, broken, refl),
+      (fates_of fates, records_left_in fates.mids.items, stop, i, refl, broken, refl),
       telling.breaks_later a b c (opening_if_closed s.is_open s) (i ∷ []) one (subst (λ (k : ℕ). telling.breaks_off b (Item.Unsaid k which ∷ []) c) same two),
     ))
 

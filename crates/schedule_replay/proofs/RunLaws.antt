@@ -8,8 +8,7 @@ use Rattle.station_session.specs.declared.session.Session.{Session}
 use Rattle.station_session.specs.Report.{acked}
 use Rattle.station_replay.specs.Keeping.{Archive}
 use Rattle.station_replay.specs.Round.{Ending}
-use Rattle.schedule_file.specs.declared.schedule.step.Stop as code_stop
-use Rattle.station_replay.specs.Schedule.{Stop}
+use Rattle.schedule_file.specs.declared.schedule.step.Stop.{Stop}
 use Rattle.station_replay.specs.Replay.{Does, Item, Opens, Stage, cut_archive, cut_short, opening_if_closed, archive_made_ready, opened, opening, recovered, stops_opening, is_stop, Rounded}
 use Rattle.schedule_replay.specs.declared.cut.Cut.{Cut}
 use Rattle.schedule_replay.specs.declared.cut.Cut.TheVariants.{WriteFault, OutOfMemory}
@@ -20,7 +19,6 @@ use Rattle.round_play.specs.Played.{IsToldOf, PlayedTells}
 use Rattle.schedule_replay.specs.RoundLine.{ending_of, RoundLineTells}
 use Rattle.round_play.specs.Opening.{IsOpened, OpensBy}
 use Rattle.schedule_replay.specs.Running.{StepIsCut}
-use Rattle.schedule_steps.specs.Stops.{stop_of}
 use Rattle.round_play.specs.Resting.{AtRest, SessionGoesOn}
 use Rattle.schedule_replay.specs.Standing.{HasSession, HoldsAt, RoundIsTold, MayOpen, Readies, open_step}
 use Rattle.schedule_replay.specs.Telling.{Telling, TellsAll}
@@ -140,25 +138,25 @@ opens_none true settings stop n a o disk h is = (refl, h.1)
 opens_none false settings stop n a None disk h is = absurd h
 opens_none false settings stop n a (Some x) disk h is = absurd cc
 
-pub does_plainly : (settings : StationSettings) (s : Stage) (stop : Option code_stop.Stop) → stop ≡ None → Does settings (open_step stop) s (opening s ∷ []) (recovered s)
+pub does_plainly : (settings : StationSettings) (s : Stage) (stop : Option Stop) → stop ≡ None → Does settings (open_step stop) s (opening s ∷ []) (recovered s)
 does_plainly settings s None is = (refl, refl)
 does_plainly settings s (Some k) is = absurd cc
 
-pub does_open : (settings : StationSettings) (s : Stage) (stop : Option code_stop.Stop) (k : code_stop.Stop) → stop ≡ Some k → stops_opening k.change s.archive.size ≡ false → Does settings (open_step stop) s (opening s ∷ []) (recovered s)
+pub does_open : (settings : StationSettings) (s : Stage) (stop : Option Stop) (k : Stop) → stop ≡ Some k → stops_opening k.change s.archive.size ≡ false → Does settings (open_step stop) s (opening s ∷ []) (recovered s)
 does_open settings s None k is t = absurd cc
 does_open settings s (Some x) k is t =
     let e : x ≡ k = cc in
-    subst (λ (z : Bool). Opens z (stop_of x) s (opening s ∷ []) (recovered s)) (sym (ap (λ (y : code_stop.Stop). stops_opening y.change s.archive.size) e ∙ t)) (refl, refl)
+    subst (λ (z : Bool). Opens z x s (opening s ∷ []) (recovered s)) (sym (ap (λ (y : Stop). stops_opening y.change s.archive.size) e ∙ t)) (refl, refl)
 
-pub does_stop : (settings : StationSettings) (s : Stage) (stop : Option code_stop.Stop) (k : code_stop.Stop) → stop ≡ Some k → stops_opening k.change s.archive.size ≡ true → Does settings (open_step stop) s (Item.OpenStopped k.change s.archive.rows ∷ []) (cut_short (stop_of k) s)
+pub does_stop : (settings : StationSettings) (s : Stage) (stop : Option Stop) (k : Stop) → stop ≡ Some k → stops_opening k.change s.archive.size ≡ true → Does settings (open_step stop) s (Item.OpenStopped k.change s.archive.rows ∷ []) (cut_short k s)
 does_stop settings s None k is t = absurd cc
 does_stop settings s (Some x) k is t =
     let e : x ≡ k = cc in
-    subst (λ (y : code_stop.Stop). Opens (stops_opening y.change s.archive.size) (stop_of y) s (Item.OpenStopped k.change s.archive.rows ∷ []) (cut_short (stop_of k) s)) (sym e)
-    (subst (λ (z : Bool). Opens z (stop_of k) s (Item.OpenStopped k.change s.archive.rows ∷ []) (cut_short (stop_of k) s)) (sym t) (refl, refl))
+    subst (λ (y : Stop). Opens (stops_opening y.change s.archive.size) y s (Item.OpenStopped k.change s.archive.rows ∷ []) (cut_short k s)) (sym e)
+    (subst (λ (z : Bool). Opens z k s (Item.OpenStopped k.change s.archive.rows ∷ []) (cut_short k s)) (sym t) (refl, refl))
 
 -- an opening whose telling failed
-pub open_cut : {T : Type 0} (telling : Telling T) (settings : StationSettings) (s u : Stage) (stop : Option code_stop.Stop) (i : Item) (old new : T) → Does settings (open_step stop) s (i ∷ []) u → telling.breaks_off old (i ∷ []) new → StepIsCut telling settings (open_step stop) s old new
+pub open_cut : {T : Type 0} (telling : Telling T) (settings : StationSettings) (s u : Stage) (stop : Option Stop) (i : Item) (old new : T) → Does settings (open_step stop) s (i ∷ []) u → telling.breaks_off old (i ∷ []) new → StepIsCut telling settings (open_step stop) s old new
 open_cut telling settings s u stop i old new does told = inl (i ∷ [], u, does, told)
 
 -- what is told of a round in its line

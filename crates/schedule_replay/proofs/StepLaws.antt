@@ -6,17 +6,16 @@ use Rattle.disk_model.specs.declared.mem_disk.MemDisk.{MemDisk}
 use Rattle.disk_model.specs.declared.stopping.Stopping.{Stopping}
 use Rattle.schedule_file.specs.declared.schedule.step.Step as code_step
 use Rattle.schedule_file.specs.declared.schedule.step.Step.TheVariants as code
-use Rattle.schedule_file.specs.declared.schedule.step.Stop as code_stop
+use Rattle.schedule_file.specs.declared.schedule.step.Stop.{Stop}
 use Rattle.station_sim.specs.declared.sim.Sim.{Sim}
 use Rattle.schedule_file.specs.Lists.{fates_of}
 use Rattle.station_sim.specs.Standing.{SimStandsFor}
 use Rattle.station_replay.specs.Replay.{Does, Item, Opens, Stage, on_line, stops_opening}
-use Rattle.station_replay.specs.Schedule.{ReplayStep, Stop}
+use Rattle.station_replay.specs.Schedule.{ReplayStep}
 use Rattle.schedule_replay.specs.declared.run.Run.{Run}
 use Rattle.schedule_replay.specs.Running.{After, StepIsCut}
 use Rattle.schedule_replay.specs.Standing.{HasSaid, HoldsAt, LeadsTo, LineAt, open_step, said_in}
 use Rattle.schedule_steps.specs.Steps.{passed, step_of}
-use Rattle.schedule_steps.specs.Stops.{stop_of}
 use Rattle.schedule_replay.specs.Telling.{Telling}
 use Rattle.schedule_replay.proofs.RunLaws.{rest_on}
 
@@ -25,14 +24,14 @@ opens_still : (t : Bool) (k : Stop) (s : Stage) (is : List Item) (u : Stage) →
 opens_still true k s is u (i, e) = (ap (λ (v : Stage). v.line) e, ap said_in i)
 opens_still false k s is u (i, e) = (ap (λ (v : Stage). v.line) e, ap said_in i)
 
-open_still : (settings : StationSettings) (stop : Option code_stop.Stop) (s : Stage) (is : List Item) (u : Stage) → Does settings (open_step stop) s is u → (u.line ≡ s.line) × (said_in is ≡ [])
+open_still : (settings : StationSettings) (stop : Option Stop) (s : Stage) (is : List Item) (u : Stage) → Does settings (open_step stop) s is u → (u.line ≡ s.line) × (said_in is ≡ [])
 open_still settings None s is u (i, e) = (ap (λ (v : Stage). v.line) e, ap said_in i)
-open_still settings (Some k) s is u h = opens_still (stops_opening k.change s.archive.size) (stop_of k) s is u h
+open_still settings (Some k) s is u h = opens_still (stops_opening k.change s.archive.size) k s is u h
 
 said_none : (line now : Sim) (is : List Item) → now.talk.items ≡ line.talk.items → said_in is ≡ [] → HasSaid is line now
 said_none line now is talk e = talk ∙ sym (append-nil line.talk.items) ∙ ap (λ z. line.talk.items ++ z) (sym e)
 
-pub open_after : {T : Type 0} (telling : Telling T) (openings : ℕ) (settings : StationSettings) (stop : Option code_stop.Stop) (s : Stage) (run : Run) (line : Sim) (disk : Stopping MemDisk) (old new : T) → LineAt s line → LeadsTo telling openings settings (open_step stop) s run disk old new
+pub open_after : {T : Type 0} (telling : Telling T) (openings : ℕ) (settings : StationSettings) (stop : Option Stop) (s : Stage) (run : Run) (line : Sim) (disk : Stopping MemDisk) (old new : T) → LineAt s line → LeadsTo telling openings settings (open_step stop) s run disk old new
     → After telling false settings (open_step stop) s (λ is u. HoldsAt openings settings u run disk × LineAt u line × HasSaid is line line) old new
 open_after telling openings settings stop s run line disk old new l (is, u, does, holds, w) =
     let e = open_still settings stop s is u does in

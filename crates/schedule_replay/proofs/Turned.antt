@@ -13,7 +13,7 @@ use Rattle.station_session.specs.declared.round_end.RoundEnd.{RoundEnd}
 use Rattle.schedule_file.specs.declared.fates.Fates as code_fates
 use Rattle.schedule_file.specs.declared.schedule.step.Step as code_step
 use Rattle.schedule_file.specs.declared.schedule.step.Step.TheVariants as code
-use Rattle.schedule_file.specs.declared.schedule.step.Stop as code_stop
+use Rattle.schedule_file.specs.declared.schedule.step.Stop.{Stop}
 use Rattle.station_sim.specs.declared.sim.Sim.{Sim}
 use Rattle.station_replay.specs.Replay.{Item, OpensNext, Runs, Stage, opening_if_closed, opened, start}
 use Rattle.station_replay.specs.Room.{step_lines, lines}
@@ -36,7 +36,6 @@ use Rattle.schedule_replay.specs.Standing.{HasSaid, HoldsAt, IsNextRound, IsNoRo
 use Rattle.schedule_steps.specs.Steps.{step_of, steps_for}
 use Rattle.schedule_replay.specs.Telling.{Telling}
 use Rattle.schedule_replay.specs.Told.{TellsFront, TellsRun}
-use Rattle.schedule_steps.specs.Stops.{stop_set}
 use Rattle.schedule_replay.specs.Turns.{BreaksRun, CutsRun, EndsRun, IsOneTurn, RunMoves, RunTurnsTo}
 use Rattle.schedule_replay.proofs.Ahead.{is_opened}
 use Rattle.schedule_replay.proofs.Looping.{IsReady, begun_too, few_rounds, has_run_room, may_take_next, ready, round_broken, round_cut, round_more, so_far_more, step_cut, steps_more, steps_parts, steps_split}
@@ -51,14 +50,14 @@ left_behind p xs i x n =
     let all : turns_left_in p (drop i xs) ≡ turns_left_in p (x ∷ drop (i + 1) xs) = ap (turns_left_in p) (e ∙ f) in
     omega (arith, all)
 
-pub next_round : (xs : List code_step.Step) (i : ℕ) (fates : code_fates.Fates) (stop : Option code_stop.Stop) → IsNextRound xs i fates stop → IsNext xs i (code.Round fates stop)
+pub next_round : (xs : List code_step.Step) (i : ℕ) (fates : code_fates.Fates) (stop : Option Stop) → IsNextRound xs i fates stop → IsNext xs i (code.Round fates stop)
 next_round xs i fates stop n = record { within = n.within; is = n.is }
 
 -- the step that comes next is the first of those to come
 pub comes_next : (p : ℕ) (xs : List code_step.Step) (i : ℕ) (x : code_step.Step) → IsNext xs i x → steps_for p (drop i xs) ≡ step_of p x ∷ steps_for p (drop (suc i) xs)
 comes_next p xs i x n = ap (steps_for p) (drop-cons xs i x n.within) ∙ ap (λ (y : code_step.Step). step_of p y ∷ steps_for p (drop (suc i) xs)) (sym n.is)
 
-pub opens_next : (p : ℕ) (xs : List code_step.Step) (i : ℕ) (fates : code_fates.Fates) (stop : Option code_stop.Stop) → IsNextRound xs i fates stop → OpensNext (steps_for p (drop i xs))
+pub opens_next : (p : ℕ) (xs : List code_step.Step) (i : ℕ) (fates : code_fates.Fates) (stop : Option Stop) → IsNextRound xs i fates stop → OpensNext (steps_for p (drop i xs))
 opens_next p xs i fates stop n = subst OpensNext (sym (comes_next p xs i (code.Round fates stop) (next_round xs i fates stop n))) tt
 
 opens_not : (p : ℕ) (x : code_step.Step) (ys : List ReplayStep) → IsNoRound x → OpensNext (step_of p x ∷ ys) → ⊥
@@ -167,7 +166,7 @@ module _ (settings : StationSettings) (eeprom : List ℕ) (packet : LoopPacket) 
       (steps_for settings.period (take i xs), steps_for settings.period (drop i xs), given, s, sym (steps_parts settings.period xs i), runs, inr (next, refl)) told
 
   -- a round was ended behind its opening
-  pub round_taken : {T : Type 0} (telling : Telling T) (x : code_step.Step) (fates : code_fates.Fates) (stop : Option code_stop.Stop) (before line now : Sim) (old next : Stopping MemDisk) (after : Run) (b c : T) → IsNext xs i x → step_of settings.period x ≡ round_step fates stop → HasSaid given before line
+  pub round_taken : {T : Type 0} (telling : Telling T) (x : code_step.Step) (fates : code_fates.Fates) (stop : Option Stop) (before line now : Sim) (old next : Stopping MemDisk) (after : Run) (b c : T) → IsNext xs i x → step_of settings.period x ≡ round_step fates stop → HasSaid given before line
       → After telling false settings (round_step fates stop) (opened s.is_open s) (λ is u. (HoldsAt (openings + 1) settings u after next × LineAt u now × HasSaid is line now) × (stopping_limits next ≡ stopping_limits old)) b c → stopping_limits old ≡ stopping_limits made
       → (more : List Item) × telling.tells b more c × SoFar settings (start eeprom packet) (steps_for settings.period (take (i + 1) xs)) ((given ++ opening_if_closed s.is_open s) ++ more) before now made next after
   round_taken telling x fates stop before line now old next after b c n round said (more, u, does, ((holds, at, later), same), told) was =
@@ -179,7 +178,7 @@ module _ (settings : StationSettings) (eeprom : List ℕ) (packet : LoopPacket) 
       )
 
   -- a delivery was unseen in it
-  pub turn_broken : {T : Type 0} (telling : Telling T) (x : code_step.Step) (fates : code_fates.Fates) (stop : Option code_stop.Stop) (P : List Item → Stage → Type 0) (b c : T) → IsNext xs i x → step_of settings.period x ≡ round_step fates stop
+  pub turn_broken : {T : Type 0} (telling : Telling T) (x : code_step.Step) (fates : code_fates.Fates) (stop : Option Stop) (P : List Item → Stage → Type 0) (b c : T) → IsNext xs i x → step_of settings.period x ≡ round_step fates stop
       → After telling true settings (round_step fates stop) (opened s.is_open s) P b c → BreaksRun telling settings (start eeprom packet) (steps_for settings.period xs) (given ++ opening_if_closed s.is_open s) b c
   turn_broken telling x fates stop P b c n round broken =
       let e = ap (λ (y : ReplayStep). steps_for settings.period (take i xs) ++ y ∷ steps_for settings.period (drop (suc i) xs)) (sym round) ∙ split x n in
@@ -187,7 +186,7 @@ module _ (settings : StationSettings) (eeprom : List ℕ) (packet : LoopPacket) 
       (round_broken telling settings eeprom packet (steps_for settings.period (take i xs)) (steps_for settings.period (drop (suc i) xs)) (round_step fates stop) b c given broken.0 s (subst IsSchedule (sym e) r.ok) runs broken.1 broken.2)
 
   -- it was cut off
-  pub round_cut_off : {T : Type 0} (telling : Telling T) (x : code_step.Step) (fates : code_fates.Fates) (stop : Option code_stop.Stop) (b c : T) → IsNext xs i x → step_of settings.period x ≡ round_step fates stop
+  pub round_cut_off : {T : Type 0} (telling : Telling T) (x : code_step.Step) (fates : code_fates.Fates) (stop : Option Stop) (b c : T) → IsNext xs i x → step_of settings.period x ≡ round_step fates stop
       → StepIsCut telling settings (round_step fates stop) (opened s.is_open s) b c → CutsRun telling settings (start eeprom packet) (steps_for settings.period xs) (given ++ opening_if_closed s.is_open s) b c
   round_cut_off telling x fates stop b c n round h =
       let e = ap (λ (y : ReplayStep). steps_for settings.period (take i xs) ++ y ∷ steps_for settings.period (drop (suc i) xs)) (sym round) ∙ split x n in
@@ -245,10 +244,10 @@ begun_moves o (Some later) playing was_open then_open is_open taken taken' none 
 
 -- a round that is over, taken out of its run
 pub taken_out : (fates : code_fates.Fates) (old : PlayedHost) (end : RoundEnd) (before after out : Playing) (line : Sim) (disk : Stopping MemDisk) → after.stop ≡ before.stop → after ≡ out
-    → RoundIsOver fates (stop_set before.stop) old end after.session after.report line disk → RoundIsOver fates (stop_set out.stop) old end out.session out.report line disk
+    → RoundIsOver fates before.stop old end after.session after.report line disk → RoundIsOver fates out.stop old end out.session out.report line disk
 taken_out fates old end before after out line disk stop same over =
-    subst (λ (z : Playing). RoundIsOver fates (stop_set z.stop) old end z.session z.report line disk) same
-    (subst (λ (z : Option code_stop.Stop). RoundIsOver fates (stop_set z) old end after.session after.report line disk) (sym stop) over)
+    subst (λ (z : Playing). RoundIsOver fates z.stop old end z.session z.report line disk) same
+    (subst (λ (z : Option Stop). RoundIsOver fates z old end after.session after.report line disk) (sym stop) over)
 
 -- a round goes on, or it ends
 pub goes_on_moves : (o : Option Playing) (playing later : Playing) (was_open is_open : Bool) (taken : ℕ) → o ≡ Some playing → RunMoves o (Some later) was_open is_open taken taken
@@ -289,9 +288,9 @@ pub opens_at_end : (p : ℕ) (xs : List code_step.Step) (i : ℕ) → length xs 
 opens_at_end p xs i none = subst (λ (z : List code_step.Step). OpensNext (steps_for p z)) (sym (drop_all i xs none)) tt
 
 -- a round was begun
-pub stands_begun : (c : Course) (settings : StationSettings) (taken turns : ℕ) (items : List Item) (run : Run) (session : Session) (o : Option Session) (line line' : Sim) (disk disk' : Stopping MemDisk) (fates : code_fates.Fates) (stop : Option code_stop.Stop) (playing : Playing)
+pub stands_begun : (c : Course) (settings : StationSettings) (taken turns : ℕ) (items : List Item) (run : Run) (session : Session) (o : Option Session) (line line' : Sim) (disk disk' : Stopping MemDisk) (fates : code_fates.Fates) (stop : Option Stop) (playing : Playing)
     → run.session ≡ Some session → IsNextRound c.steps taken fates stop → StandsAt None c settings taken turns items run line disk
-    → RoundIsUnderWay fates (stop_set stop) (round_host session line disk) playing line' disk' → MayGoOn playing disk' → round_turns_left playing.round < 2 ^ 32 → playing.stop ≡ stop
+    → RoundIsUnderWay fates stop (round_host session line disk) playing line' disk' → MayGoOn playing disk' → round_turns_left playing.round < 2 ^ 32 → playing.stop ≡ stop
     → StandsAt (Some playing) c settings taken turns items (record { session = o; rounds = run.rounds; written = run.written }) line' disk'
 stands_begun c settings taken turns items run session o line line' disk disk' fates stop playing some n p way may few same =
     let x = next_round c.steps taken fates stop n in
@@ -324,7 +323,7 @@ stands_begun c settings taken turns items run session o line line' disk disk' fa
             rounds = ahead.holds.rounds;
             written = ahead.holds.written;
           };
-          way = subst (λ (k : Option code_stop.Stop). RoundIsUnderWay fates (stop_set k) (round_host session line disk) playing line' disk') (sym same) way;
+          way = subst (λ (k : Option Stop). RoundIsUnderWay fates k (round_host session line disk) playing line' disk') (sym same) way;
           may = may;
           said = ahead.said;
           limits = ahead.limits;

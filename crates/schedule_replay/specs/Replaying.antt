@@ -23,7 +23,6 @@ use Rattle.round_play.specs.Resting.{IsRoomFor}
 use Rattle.schedule_replay.specs.SoFar.{SoFar}
 use Rattle.schedule_replay.specs.Standing.{HasSaid, HoldsAt, LineAt, WasBegun, round_step}
 use Rattle.schedule_steps.specs.Steps.{step_of, steps_for}
-use Rattle.schedule_steps.specs.Stops.{stop_set}
 use Rattle.schedule_replay.specs.Telling.{Telling}
 
 -- What a run is made of: what its console holds and sends, the steps, and its line and its disk as they were made.
@@ -63,7 +62,7 @@ pub record WithinRound (records : ℕ) (settings : StationSettings) (from : Stag
   pub is_round : step ≡ round_step fates playing.stop
   pub old : PlayedHost
   pub begun : WasBegun records (openings + 1) settings (opened stage.is_open stage) fates old run
-  pub way : RoundIsUnderWay fates (stop_set playing.stop) old playing line disk
+  pub way : RoundIsUnderWay fates playing.stop old playing line disk
   pub may : MayGoOn playing disk
   pub said : HasSaid given before old.link
   pub limits : stopping_limits old.disk ≡ stopping_limits first_disk

@@ -3,7 +3,8 @@ use Rattle.std.specs.Prelude.{◌≡◌, ℕ, ◌⊎◌, Bool, true, false, List
 use Rattle.std.specs.declared.option.Option.{Option}
 use Rattle.settings_file.specs.StationSettings.{StationSettings}
 use Rattle.schedule_file.specs.Fates.{Fates}
-use Rattle.station_replay.specs.Schedule.{ReplayStep, Stop}
+use Rattle.schedule_file.specs.declared.schedule.step.Stop.{Stop}
+use Rattle.station_replay.specs.Schedule.{ReplayStep}
 use Rattle.station_replay.specs.Replay.{Does, IsBroken, Item, Stage, opening_if_closed, opened}
 use Rattle.schedule_replay.specs.Telling.{Telling}
 

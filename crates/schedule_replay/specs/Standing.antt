@@ -14,7 +14,7 @@ use Rattle.schedule_file.specs.Lists.{fates_of, records_left_in}
 use Rattle.schedule_file.specs.declared.fates.Fates as code_fates
 use Rattle.schedule_file.specs.declared.schedule.step.Step as code_step
 use Rattle.schedule_file.specs.declared.schedule.step.Step.TheVariants as code
-use Rattle.schedule_file.specs.declared.schedule.step.Stop as code_stop
+use Rattle.schedule_file.specs.declared.schedule.step.Stop.{Stop}
 use Rattle.station_sim.specs.Standing.{SimStandsFor}
 use Rattle.station_replay.specs.Schedule.{ReplayStep}
 use Rattle.schedule_file.specs.Lists.{no_fates}
@@ -26,7 +26,6 @@ use Rattle.schedule_replay.specs.declared.run.Run.{Run}
 use Rattle.round_play.specs.Opening.{CanOpen, stopping_limits}
 use Rattle.round_play.specs.Played.{PlayedHost, RoundIsCounted, MayPlay}
 use Rattle.round_play.specs.Resting.{AtRest, SessionGoesOn, IsRoomFor}
-use Rattle.schedule_steps.specs.Stops.{stop_set}
 use Rattle.schedule_replay.specs.Telling.{Telling}
 
 -- by whether the run is open: its session goes on, or it has none
@@ -79,11 +78,11 @@ MayTake records settings (ReplayStep.Round f left stop) s =
     IsStop stop × RoundIsCounted records settings f s × (s.archive.changes ≤ 4 * length s.archive.rows + 1393)
 
 -- a step opens the archive, or makes a round
-abbrev pub open_step : Option code_stop.Stop → ReplayStep
-open_step stop = ReplayStep.Open (stop_set stop)
+abbrev pub open_step : Option Stop → ReplayStep
+open_step stop = ReplayStep.Open stop
 
-abbrev pub round_step : code_fates.Fates → Option code_stop.Stop → ReplayStep
-round_step fates stop = ReplayStep.Round (fates_of fates) (records_left_in fates.mids.items) (stop_set stop)
+abbrev pub round_step : code_fates.Fates → Option Stop → ReplayStep
+round_step fates stop = ReplayStep.Round (fates_of fates) (records_left_in fates.mids.items) stop
 
 -- the step makes no round
 abbrev pub IsNoRound : code_step.Step → Type 0
@@ -95,7 +94,7 @@ IsNoRound (code.Round fates stop) = ⊥
 
 -- The next step of a run that took so many makes a round, under these fates and with this stop.
 pub record IsNextRound (steps : List code_step.Step) (taken : ℕ) (fates : code_fates.Fates)
-    (stop : Option code_stop.Stop) : Type 0 where
+    (stop : Option Stop) : Type 0 where
   pub within : taken < length steps
   pub is : code.Round fates stop ≡ get_or steps taken (code.Round fates stop)
 

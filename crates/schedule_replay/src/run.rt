@@ -24,7 +24,6 @@ ghost use Rattle.schedule_replay.specs.Standing.{MayRun, Readies, StandsThere, W
 ghost use Rattle.schedule_file.specs.declared.fates.Fates as code_fates;
 ghost use Rattle.schedule_steps.specs.Accepted.{IsInRange};
 ghost use Rattle.schedule_steps.specs.Steps.{step_of};
-ghost use Rattle.schedule_steps.specs.Stops.{stop_set};
 ghost use Rattle.schedule_replay.specs.Telling.{TellsAll};
 ghost use Rattle.schedule_replay.specs.Writing.{IsOnlyRead, IsReadable};
 
@@ -75,7 +74,7 @@ impl Run {
         teller: &mut T,
     ) -> Result<(), Cut>
         requires may { MayOpen settings.now self.old disk.old }
-        requires stop { IsStop (stop_set stop) }
+        requires stop { IsStop stop }
         ensures ok { OnOk result ((openings : ℕ) (s : Stage) → HoldsAt openings settings.now s self.old disk.old
             → LeadsTo T.telling (openings + 1) settings.now (open_step stop) s self.new disk.new
             teller.old teller.new) }
@@ -195,19 +194,19 @@ impl Run {
         requires may { (settings : StationSettings) × (records : ℕ) × (openings : ℕ) × (s : Stage)
             × (fates : code_fates.Fates) × (old : PlayedHost)
             × WasBegun records openings settings s fates old self.old
-            × RoundIsOver fates (stop_set playing.stop) old end playing.session playing.report line.old disk.old
+            × RoundIsOver fates playing.stop old end playing.session playing.report line.old disk.old
             × (self.old.rounds < 1000) }
         ensures ok { IfOk result (λ unseen. (records openings : ℕ) (settings : StationSettings) (s : Stage)
             (fates : code_fates.Fates) (old : PlayedHost)
             → WasBegun records openings settings s fates old self.old
-            → RoundIsOver fates (stop_set playing.stop) old end playing.session playing.report line.old disk.old
+            → RoundIsOver fates playing.stop old end playing.session playing.report line.old disk.old
             → After T.telling unseen settings (round_step fates playing.stop) s
             (λ is u. (HoldsAt openings settings u self.new disk.new × LineAt u line.new × HasSaid is old.link line.new)
             × (stopping_limits disk.new ≡ stopping_limits old.disk)) teller.old teller.new) }
         ensures err { OnErr result ((records openings : ℕ) (settings : StationSettings) (s : Stage)
             (fates : code_fates.Fates) (old : PlayedHost)
             → WasBegun records openings settings s fates old self.old
-            → RoundIsOver fates (stop_set playing.stop) old end playing.session playing.report line.old disk.old
+            → RoundIsOver fates playing.stop old end playing.session playing.report line.old disk.old
             → StepIsCut T.telling settings (round_step fates playing.stop) s teller.old teller.new) }
         ensures is_still { OnOk result (IsStill line.old disk.old line.new disk.new) }
         ensures cause { Cause (T.telling.faults teller.old) (T.telling.faults teller.new)
@@ -281,14 +280,14 @@ impl Run {
         disk: &mut Stopping<MemDisk>,
         teller: &mut T,
     ) -> Result<(), Cut>
-        requires { IsTellable (stop_set stop) session played.now disk.old }
+        requires { IsTellable stop session played.now disk.old }
         ensures ok { OnOk result ((settings : StationSettings) (openings : ℕ) (r : Rounded) (a : Archive)
-            → IsToldOf settings openings (stop_set stop) session played.now disk.old r a → r.number ≡ self.old.rounds
+            → IsToldOf settings openings stop session played.now disk.old r a → r.number ≡ self.old.rounds
             → r.written ≡ self.old.written
             → RoundIsTold settings openings r a self.old.written self.new disk.new
             × T.telling.tells teller.old (Item.Ran r ∷ []) teller.new) }
         ensures err { OnErr result ((settings : StationSettings) (openings : ℕ) (r : Rounded) (a : Archive)
-            → IsToldOf settings openings (stop_set stop) session played.now disk.old r a → r.number ≡ self.old.rounds
+            → IsToldOf settings openings stop session played.now disk.old r a → r.number ≡ self.old.rounds
             → r.written ≡ self.old.written
             → T.telling.breaks_off teller.old (Item.Ran r ∷ []) teller.new) }
         ensures limits { stopping_limits disk.new ≡ stopping_limits disk.old }
@@ -321,8 +320,8 @@ impl Run {
 
 // How a round of a run ended, by how the session's round did.
 fn ending(end: RoundEnd, stop: Option<Stop>) -> RoundEnding
-    requires { (known : Ending) × RoundEndsAs (stop_set stop) end known }
-    ensures { (known : Ending) → RoundEndsAs (stop_set stop) end known → ending_of result ≡ known }
+    requires { (known : Ending) × RoundEndsAs stop end known }
+    ensures { (known : Ending) → RoundEndsAs stop end known → ending_of result ≡ known }
 {
     match (end, stop) {
         (RoundEnd::Done, _) => RoundEnding::Done,

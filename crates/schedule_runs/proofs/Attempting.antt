@@ -29,7 +29,7 @@ use Rattle.schedule_file.specs.Fates.{Fates}
 use Rattle.station_sim.specs.Joining.{talks_join}
 use Rattle.station_sim.specs.Line.{Line, says_byte}
 use Rattle.station_sim.specs.Talk.{ConsoleTalk}
-use Rattle.station_replay.specs.Schedule.{Stop}
+use Rattle.schedule_file.specs.declared.schedule.step.Stop.{Stop}
 use Rattle.station_replay.specs.Session.{NotPast}
 use Rattle.schedule_runs.proofs.Hearing.{says_all, hears_part}
 use Rattle.schedule_runs.proofs.Keeping.{Kept, none_kept, same_kept, more_kept}

@@ -14,7 +14,7 @@ use Rattle.dmpaft_pump.proofs.Steps.{one_more}
 use Rattle.dmpaft_pump.proofs.LastBatch.{gives_so}
 use Rattle.station_session.specs.Batches.{kept_records, kept_count, Fit}
 use Rattle.station_session.proofs.Parts.{count_parts}
-use Rattle.station_replay.specs.Schedule.{Stop}
+use Rattle.schedule_file.specs.declared.schedule.step.Stop.{Stop}
 use Rattle.station_replay.specs.Session.{NotPast, ComesAt}
 
 -- where both parts fit, the second behind what was kept of the first, both do

@@ -25,7 +25,7 @@ use Rattle.schedule_file.specs.Fates.{Fates}
 use Rattle.station_sim.specs.Joining.{talks_join}
 use Rattle.station_sim.specs.Line.{Line}
 use Rattle.station_sim.specs.Talk.{console_talk, ConsoleTalk}
-use Rattle.station_replay.specs.Schedule.{Stop}
+use Rattle.schedule_file.specs.declared.schedule.step.Stop.{Stop}
 use Rattle.station_replay.specs.Session.{NotPast, ComesAt, IsKnown}
 use Rattle.schedule_runs.proofs.Keeping.{fit_joins}
 use Rattle.schedule_runs.proofs.Attempting.{attempt_ends}

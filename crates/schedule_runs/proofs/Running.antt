@@ -13,7 +13,8 @@ use Rattle.station_sim.specs.declared.unseen.Unseen.{Unseen}
 use Rattle.schedule_file.specs.Fates.{Fates}
 use Rattle.station_sim.specs.Line.{waited}
 use Rattle.station_sim.specs.Talk.{idles, started}
-use Rattle.station_replay.specs.Schedule.{Stop, ReplayStep, IsSchedule}
+use Rattle.schedule_file.specs.declared.schedule.step.Stop.{Stop}
+use Rattle.station_replay.specs.Schedule.{ReplayStep, IsSchedule}
 use Rattle.schedule_file.specs.Lists.{no_fates}
 use Rattle.station_replay.specs.Round.{finished}
 use Rattle.station_replay.specs.Replay.{Rounded, Item, Stage, on_line, opening, opened, recovered, opening_if_closed}

@@ -20,7 +20,6 @@ use Rattle.schedule_file.specs.Steps.{MidRecord, Details, ScheduleStep, Said, no
 use Rattle.schedule_file.specs.Steps.ScheduleStep.{DueStep, RunStep, IdleStep, OpenStep, RoundStep}
 use Rattle.schedule_file.proofs.Limits.{first_fails, rest_fails}
 use Rattle.station_replay.specs.Stopped.{IsStop}
-use Rattle.schedule_steps.specs.Stops.{stop_set}
 use Rattle.schedule_steps.proofs.ReadForms.{CountsFromOne}
 
 -- a record that is read so falls due after minute a, and at minute b
@@ -38,8 +37,8 @@ Falls period a (DueStep read) b = FallsAt a read b
 Falls period a (RunStep read count) b =
     (m : ℕ) × FallsAt a read m × (m + (count - 1) * period ≤ minute_of last_minute) × (m + (count - 1) * period ≡ b)
 Falls period a (IdleStep ticks) b = a ≡ b
-Falls period a (OpenStep stop) b = IsStop (stop_set stop) × (a ≡ b)
-Falls period a (RoundStep details stop) b = IsStop (stop_set stop) × MidsFall a details.mids b
+Falls period a (OpenStep stop) b = IsStop stop × (a ≡ b)
+Falls period a (RoundStep details stop) b = IsStop stop × MidsFall a details.mids b
 
 -- the records of all steps
 abbrev pub AllFall : ℕ → ℕ → List ScheduleStep → ℕ → Type 0

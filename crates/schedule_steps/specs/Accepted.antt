@@ -10,7 +10,6 @@ use Rattle.station_replay.specs.Room.{lines}
 use Rattle.station_replay.specs.Stopped.{IsStop}
 use Rattle.schedule_steps.specs.Runs.{IsRun}
 use Rattle.schedule_steps.specs.Steps.{steps_for}
-use Rattle.schedule_steps.specs.Stops.{stop_set}
 
 -- a record of the step has its fifty-two bytes
 abbrev pub HasRecord : code_step.Step → Type 0
@@ -25,8 +24,8 @@ abbrev pub IsInRange : ℕ → code_step.Step → Type 0
 IsInRange period (code.Due rec) = Unit {0}
 IsInRange period (code.Run first count) = IsRun period first count
 IsInRange period (code.Idle ticks) = Unit {0}
-IsInRange period (code.Open stop) = IsStop (stop_set stop)
-IsInRange period (code.Round fates stop) = IsStop (stop_set stop)
+IsInRange period (code.Open stop) = IsStop stop
+IsInRange period (code.Round fates stop) = IsStop stop
 
 -- Steps of this period keep the rules of a schedule and are in their ranges, at most 200 of them open a session or
 -- make a round, and at most 20,000 records fall due in them.

@@ -8,15 +8,14 @@ use Rattle.station_sim.specs.Talk.{idles}
 use Rattle.station_replay.specs.Schedule.{ReplayStep}
 use Rattle.schedule_file.specs.Lists.{no_fates}
 use Rattle.schedule_steps.specs.Runs.{run_records}
-use Rattle.schedule_steps.specs.Stops.{stop_set}
 
 -- a step of a schedule of this period
 abbrev pub step_of : ℕ → code_step.Step → ReplayStep
 step_of period (code.Due rec) = ReplayStep.Due (rec ∷ [])
 step_of period (code.Run first count) = ReplayStep.Due (run_records period first count)
 step_of period (code.Idle ticks) = ReplayStep.Idle ticks
-step_of period (code.Open stop) = ReplayStep.Open (stop_set stop)
-step_of period (code.Round fates stop) = ReplayStep.Round (fates_of fates) (records_left_in fates.mids.items) (stop_set stop)
+step_of period (code.Open stop) = ReplayStep.Open stop
+step_of period (code.Round fates stop) = ReplayStep.Round (fates_of fates) (records_left_in fates.mids.items) stop
 
 -- the steps of a schedule of this period
 abbrev pub steps_for : ℕ → List code_step.Step → List ReplayStep

@@ -27,7 +27,7 @@ use Rattle.schedule_file.specs.Fates.{Fates}
 use Rattle.station_sim.specs.Line.{Line}
 use Rattle.station_sim.specs.Talk.{started}
 use Rattle.station_replay.specs.Acknowledged.{rows_after_attempts, rows_with_pages, KeepsAcknowledged, AreAcknowledged, AreJustAcknowledged, KeepsJustAcknowledged, TakesOneMore}
-use Rattle.station_replay.specs.Schedule.{Stop}
+use Rattle.schedule_file.specs.declared.schedule.step.Stop.{Stop}
 use Rattle.station_replay.specs.Keeping.{Archive}
 use Rattle.station_replay.proofs.Trying.{Keeping, Tries}
 use Rattle.station_replay.proofs.Bridge.{followed}

@@ -2,7 +2,8 @@
 use Rattle.std.proofs.Common.{ℕ, Bool, true, false, inl, inr, List, [], ◌∷◌, ◌++◌, Option, Some, None, sym, subst}
 use Rattle.settings_file.specs.StationSettings.{StationSettings}
 use Rattle.schedule_file.specs.Fates.{Fates}
-use Rattle.station_replay.specs.Schedule.{Stop, ReplayStep}
+use Rattle.schedule_file.specs.declared.schedule.step.Stop.{Stop}
+use Rattle.station_replay.specs.Schedule.{ReplayStep}
 use Rattle.station_replay.specs.Replay.{Rounded, Item, Stage, IsRound, Does, Runs, Opens, IsReplay, RunIsBegun, opening_if_closed, opened, stops_opening, closing_items}
 use Rattle.station_replay.specs.Acknowledged.{AllRounds}
 

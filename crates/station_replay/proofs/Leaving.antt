@@ -16,7 +16,7 @@ use Rattle.station_session.specs.Batches.{all_records, kept_records, last_answer
 use Rattle.station_session.specs.Holding.{rows_after_batches}
 use Rattle.station_session.specs.Records.{AllRead}
 use Rattle.station_replay.specs.Keeping.{Archive}
-use Rattle.station_replay.specs.Schedule.{Stop}
+use Rattle.schedule_file.specs.declared.schedule.step.Stop.{Stop}
 use Rattle.station_replay.specs.Session.{archive_left_after}
 use Rattle.station_replay.proofs.Stamped.{read_front, read_back, batches_read}
 use Rattle.station_replay.proofs.Stops.{rows_kept, left_kept}

@@ -17,7 +17,7 @@ use Rattle.station_session.specs.Batches.{kept_count, kept_records, last_answer,
 use Rattle.station_session.specs.Records.{stored_rows}
 use Rattle.station_session.specs.Attempts.{Tried, all_batches}
 use Rattle.station_replay.specs.Session.{NotPast}
-use Rattle.station_replay.specs.Schedule.{Stop}
+use Rattle.schedule_file.specs.declared.schedule.step.Stop.{Stop}
 use Rattle.station_replay.specs.Stopped.{armed_by, IsStop}
 use Rattle.gated_log.proofs.StoppedCalls.{not_one, one_of, wrote_done, synced_done, written, after_sync}
 use Rattle.gated_log.specs.Layout.{slot_size}

@@ -6,7 +6,7 @@ use Rattle.dmpaft_pump.specs.declared.outcome.DumpEnd.TheVariants as dump_end
 use Rattle.dmpaft_pump.specs.declared.outcome.Trouble.{Trouble}
 use Rattle.schedule_file.specs.Fates.{Fates}
 use Rattle.station_sim.specs.Line.{Line}
-use Rattle.station_replay.specs.Schedule.{Stop}
+use Rattle.schedule_file.specs.declared.schedule.step.Stop.{Stop}
 use Rattle.station_replay.specs.Keeping.{Archive, appended, stopped, with_batch}
 use Rattle.station_replay.specs.Round.{Ending, Attempted, IsAttempted, EndsStopped}
 use Rattle.station_session.specs.Attempts.{most_attempts}

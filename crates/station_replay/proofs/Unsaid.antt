@@ -13,7 +13,7 @@ use Rattle.station_replay.specs.Keeping.{Archive}
 use Rattle.station_replay.specs.Replay.{IsBroken, IsRound, Item, Rounded, Stage}
 use Rattle.station_replay.specs.Round.{tried_of}
 use Rattle.station_replay.proofs.Bridge.{round_talk}
-use Rattle.station_replay.specs.Schedule.{Stop}
+use Rattle.schedule_file.specs.declared.schedule.step.Stop.{Stop}
 
 module _ (settings : StationSettings) (f : Fates) (stop : Option Stop) where
   -- a round that an unseen delivery broke names one of its own

@@ -5,7 +5,7 @@ ghost use Rattle.station_sim.specs.declared.unseen.Unseen.{Unseen};
 ghost use Rattle.schedule_file.specs.Fates.{Fates};
 ghost use Rattle.station_sim.specs.Talk.{started};
 ghost use Rattle.station_sim.specs.UnseenTalk.{HasUnseen};
-ghost use Rattle.station_replay.specs.Schedule.{Stop};
+ghost use Rattle.schedule_file.specs.declared.schedule.step.Stop.{Stop};
 ghost use Rattle.station_replay.specs.Replay.{IsBroken, IsRound, Item, Rounded, Stage};
 ghost use Rattle.station_replay.specs.Round.{tried_of};
 

@@ -3,7 +3,6 @@ use Rattle.disk_model.specs.Stopping.{stopping_state_of}
 use Rattle.disk_model.specs.StoppingState.{StoppingState}
 use Rattle.weather_book.specs.Book.{slots_of_book}
 use Rattle.round_play.specs.Opening.{OpensBy}
-use Rattle.schedule_steps.specs.Stops.{stop_of}
 use Rattle.round_play.proofs.Beginning.{went_wrong, IsKnown, starts_armed, is_known}
 use Rattle.round_play.proofs.Changing.{limits_stay}
 use Rattle.round_play.proofs.Opened.{is_opened, opens}
@@ -42,7 +41,7 @@ returns-in-Book-clause-opened c openings a r =
     let start = starts_armed k pick openings a c.args.disk.now armed c.arm.ensures.state c.arm.ensures.stays r c.requires.ready.3 in
     let found = c.in-Book.ensures in let count = slots_of_book c.in-Book.book in
     let unreached = (opens k pick openings a armed e start count found.begun found.went found.moved).unreached in
-    subst (λ (b : Bool). OpensBy b c.args.settings.now (stop_of c.args.stop) openings a (Some c.new.result) f) (sym unreached)
+    subst (λ (b : Bool). OpensBy b c.args.settings.now c.args.stop openings a (Some c.new.result) f) (sym unreached)
     (is_opened k pick openings a armed e start count found.begun found.went found.moved c.in-Book.book found.reads found.stands found.since_sync
     f c.disarm.ensures.state c.disarm.ensures.stays
     c.args.settings.now c.new.result c.new.ensures.book c.new.ensures.settings (found.fresh.0, found.fresh.1 ∙ c.most.ensures.value))
@@ -57,10 +56,10 @@ returns-in-Book-clause-limits c =
 pub returns-in-DiskFault-clause-opened : goal.returns-in-DiskFault-clause-opened
 returns-in-DiskFault-clause-opened c openings a r =
     let armed = c.arm.new.self in let e = c.recover.new.disk in let f = c.restart.new.self in
-    let stop = stop_of c.args.stop in
+    let stop = c.args.stop in
     let start = starts_armed stop.change stop.pick openings a c.args.disk.now armed c.arm.ensures.state c.arm.ensures.stays r c.requires.ready.3 in
     let found = c.in-DiskFault.ensures in let again = c.restart.ensures in
-    subst (λ (b : Bool). OpensBy b c.args.settings.now (stop_of c.args.stop) openings a None f)
+    subst (λ (b : Bool). OpensBy b c.args.settings.now c.args.stop openings a None f)
     (sym (reached stop openings a armed e f start 0 true found.begun found.went refl found.one_change)) (
       refl,
       at_rest_again stop openings a armed e f start 0 true found.begun found.went refl found.one_change found.images

@@ -1,6 +1,5 @@
 use Rattle.std.proofs.Common.{◌≡◌, ◌+◌, ℕ, None, Err, [], ◌∷◌, ap, subst, ◌∙◌, rules}
 use Rattle.station_replay.specs.Replay.{Item, cut_short, opening, recovered}
-use Rattle.schedule_steps.specs.Stops.{stop_of}
 use Rattle.schedule_replay.specs.declared.run.Run.{Run}
 use Rattle.schedule_replay.specs.Telling.{TellsAll}
 use Rattle.schedule_replay.proofs.RunLaws.{closed_stage, does_open, does_plainly, does_stop, holds_closed, on_err, on_ok, open_cut, opens_none, opens_some, told_all, told_front, told_less}
@@ -33,7 +32,7 @@ returns-in_default-clause-ok g c openings s h =
 pub tell_opening-requires : goal.tell_opening-requires
 tell_opening-requires g c =
     let m = c.requires.may in
-    let x = opens_some _ c.args.settings.now (stop_of c.in-Some.stop) m.0 m.1.archive _ c.in-Ok-Some.session c.recover_with_stop.new.disk (c.in-Ok-Some.ensures.opened m.0 m.1.archive m.2.rests) c.in-Ok-Some.field-0-is in
+    let x = opens_some _ c.args.settings.now c.in-Some.stop m.0 m.1.archive _ c.in-Ok-Some.session c.recover_with_stop.new.disk (c.in-Ok-Some.ensures.opened m.0 m.1.archive m.2.rests) c.in-Ok-Some.field-0-is in
     record { openings = m.0 + 1; archive = _; settings = c.args.settings.now; rows = m.1.archive.rows; rests = x.1.0; goes_on = x.1.1 }
 
 pub returns-in_err-tell_opening-in-Ok-Some-clause-err : goal.returns-in_err-tell_opening-in-Ok-Some-clause-err
@@ -41,14 +40,14 @@ returns-in_err-tell_opening-in-Ok-Some-clause-err g c =
     let given : c.from_residual-in_err-tell_opening-in-Ok-Some.result ≡ Err c.in_err-tell_opening-in-Ok-Some.field-0.0 = search rules in
     rw given (λ openings s h.
     let old = c.args.teller.now in let new = c.tell_opening.new.teller in
-    let x = opens_some _ c.args.settings.now (stop_of c.in-Some.stop) openings s.archive _ c.in-Ok-Some.session c.recover_with_stop.new.disk (c.in-Ok-Some.ensures.opened openings s.archive h.rests) c.in-Ok-Some.field-0-is in
+    let x = opens_some _ c.args.settings.now c.in-Some.stop openings s.archive _ c.in-Ok-Some.session c.recover_with_stop.new.disk (c.in-Ok-Some.ensures.opened openings s.archive h.rests) c.in-Ok-Some.field-0-is in
     open_cut g.T.Teller.telling c.args.settings.now s (recovered s) c.args.stop (opening s) old new (does_open c.args.settings.now s c.args.stop c.in-Some.stop c.in-Some.is x.0)
     (told_front g.T.Teller.telling old new _ c.in_err-tell_opening-in-Ok-Some.field-0.0 (subst (λ (n : ℕ). TellsAll g.T.Teller.telling old (Item.Opened s.archive.rows n ∷ []) (Err c.in_err-tell_opening-in-Ok-Some.field-0.0) new) h.written (c.in_err-tell_opening-in-Ok-Some.ensures.tells c.args.settings.now s.archive.rows x.1.1))))
 
 pub returns-in_ok-tell_opening-in-Ok-Some-clause-ok : goal.returns-in_ok-tell_opening-in-Ok-Some-clause-ok
 returns-in_ok-tell_opening-in-Ok-Some-clause-ok g c openings s h =
     let old = c.args.teller.now in let new = c.tell_opening.new.teller in
-    let x = opens_some _ c.args.settings.now (stop_of c.in-Some.stop) openings s.archive _ c.in-Ok-Some.session c.recover_with_stop.new.disk (c.in-Ok-Some.ensures.opened openings s.archive h.rests) c.in-Ok-Some.field-0-is in
+    let x = opens_some _ c.args.settings.now c.in-Some.stop openings s.archive _ c.in-Ok-Some.session c.recover_with_stop.new.disk (c.in-Ok-Some.ensures.opened openings s.archive h.rests) c.in-Ok-Some.field-0-is in
     let read = c.tell_opening.ensures.disk in (
       opening s ∷ [],
       recovered s,
@@ -65,9 +64,9 @@ returns-in_ok-tell_opening-in-Ok-Some-clause-ok g c openings s h =
 pub returns-in-Ok-None-clause-ok : goal.returns-in-Ok-None-clause-ok
 returns-in-Ok-None-clause-ok g c = on_ok c.open_stopped.result (λ is openings s h.
     let old = c.args.teller.now in let new = c.open_stopped.new.self in
-    let x = opens_none _ c.args.settings.now (stop_of c.in-Some.stop) openings s.archive _ c.recover_with_stop.new.disk (c.in-Ok-None.ensures.opened openings s.archive h.rests) c.in-Ok-None.field-0-is in (
+    let x = opens_none _ c.args.settings.now c.in-Some.stop openings s.archive _ c.recover_with_stop.new.disk (c.in-Ok-None.ensures.opened openings s.archive h.rests) c.in-Ok-None.field-0-is in (
       Item.OpenStopped c.in-Some.stop.change s.archive.rows ∷ [],
-      cut_short (stop_of c.in-Some.stop) s,
+      cut_short c.in-Some.stop s,
       does_stop c.args.settings.now s c.args.stop c.in-Some.stop c.in-Some.is x.0,
       record { rests = x.1; session = tt; rounds = h.rounds; written = h.written },
       told_all g.T.Teller.telling old new _ c.open_stopped.result is (c.open_stopped.ensures.tells s.archive.rows),
@@ -76,6 +75,6 @@ returns-in-Ok-None-clause-ok g c = on_ok c.open_stopped.result (λ is openings s
 pub returns-in-Ok-None-clause-err : goal.returns-in-Ok-None-clause-err
 returns-in-Ok-None-clause-err g c = on_err c.open_stopped.result (λ cut is openings s h.
     let old = c.args.teller.now in let new = c.open_stopped.new.self in
-    let x = opens_none _ c.args.settings.now (stop_of c.in-Some.stop) openings s.archive _ c.recover_with_stop.new.disk (c.in-Ok-None.ensures.opened openings s.archive h.rests) c.in-Ok-None.field-0-is in
-    open_cut g.T.Teller.telling c.args.settings.now s (cut_short (stop_of c.in-Some.stop) s) c.args.stop (Item.OpenStopped c.in-Some.stop.change s.archive.rows) old new (does_stop c.args.settings.now s c.args.stop c.in-Some.stop c.in-Some.is x.0)
+    let x = opens_none _ c.args.settings.now c.in-Some.stop openings s.archive _ c.recover_with_stop.new.disk (c.in-Ok-None.ensures.opened openings s.archive h.rests) c.in-Ok-None.field-0-is in
+    open_cut g.T.Teller.telling c.args.settings.now s (cut_short c.in-Some.stop s) c.args.stop (Item.OpenStopped c.in-Some.stop.change s.archive.rows) old new (does_stop c.args.settings.now s c.args.stop c.in-Some.stop c.in-Some.is x.0)
     (told_less g.T.Teller.telling old new _ c.open_stopped.result cut is (c.open_stopped.ensures.tells s.archive.rows)))

@@ -3,7 +3,7 @@ use Rattle.std.specs.Prelude.{is_some}
 use Rattle.std.proofs.lemmas.Option.{same_Some}
 use Rattle.station_replay.specs.Replay.{Item, Stage, opening_if_closed, opened, start}
 use Rattle.station_replay.specs.Schedule.{records}
-use Rattle.schedule_file.specs.declared.schedule.step.Stop as code_stop
+use Rattle.schedule_file.specs.declared.schedule.step.Stop.{Stop}
 use Rattle.round_play.specs.declared.playing.Playing.{Playing}
 use Rattle.round_play.specs.Opening.{stopping_limits}
 use Rattle.round_play.specs.Playing.{RoundIsUnderWay}
@@ -11,7 +11,6 @@ use Rattle.schedule_replay.specs.Replaying.{StandsAt}
 use Rattle.schedule_replay.specs.Running.{After}
 use Rattle.schedule_replay.specs.Standing.{HasSaid, HoldsAt, LineAt, round_step}
 use Rattle.schedule_steps.specs.Steps.{steps_for}
-use Rattle.schedule_steps.specs.Stops.{stop_set}
 use Rattle.schedule_replay.specs.Turns.{BreaksRun, CutsRun}
 use Rattle.schedule_replay.proofs.Ahead.{few_to_open}
 use Rattle.schedule_replay.proofs.Looping.{few_rounds, ready}
@@ -48,10 +47,10 @@ returns-in-More-clause-turns_to g c k items stands =
           openings = w.openings;
           few = w.few;
           fates = w.fates;
-          is_round = w.is_round ∙ ap (λ (z : Option code_stop.Stop). round_step w.fates z) (sym stop);
+          is_round = w.is_round ∙ ap (λ (z : Option Stop). round_step w.fates z) (sym stop);
           old = w.old;
           begun = w.begun;
-          way = subst (λ (z : Option code_stop.Stop). RoundIsUnderWay w.fates (stop_set z) w.old c.turn.new.self c.turn.new.line c.turn.new.disk) (sym stop) (e.more c.in-More.is w.fates (stop_set c.in-Some.playing.stop) w.old w.way);
+          way = subst (λ (z : Option Stop). RoundIsUnderWay w.fates z w.old c.turn.new.self c.turn.new.line c.turn.new.disk) (sym stop) (e.more c.in-More.is w.fates c.in-Some.playing.stop w.old w.way);
           may = e.may c.in-More.is;
           said = w.said;
           limits = w.limits;
@@ -77,7 +76,7 @@ end_round-requires g c =
     let p = stands_some c.args.self.now.playing c.in-Some.playing k s i c.args.self.now.turns m.1 c.args.self.now.run c.args.line.now c.args.disk.now c.in-Some.is m.2 in
     let w = p.stands.2 in let e = c.turn.ensures in let now = c.unwrap-playing.result in
     let same : c.turn.new.self ≡ now = same_Some _ _ (sym c.take.ensures.value ∙ c.unwrap-playing.ensures) in
-    let over = taken_out w.fates w.old c.in-Ended.end c.in-Some.playing c.turn.new.self now c.turn.new.line c.turn.new.disk e.stop same (e.ended c.in-Ended.end c.in-Ended.is w.fates (stop_set c.in-Some.playing.stop) w.old w.way) in
+    let over = taken_out w.fates w.old c.in-Ended.end c.in-Some.playing c.turn.new.self now c.turn.new.line c.turn.new.disk e.stop same (e.ended c.in-Ended.end c.in-Ended.is w.fates c.in-Some.playing.stop w.old w.way) in
     let rounds = few_rounds s k.eeprom k.packet k.steps i k.made w.old.disk w.given w.stage w.openings (ready s k.steps k.made p.accepted p.room) w.runs w.few w.limits in
     let same = opened_rounds w.stage.is_open w.stage in
     record { may = (s, length (records (steps_for s.period k.steps)), w.openings + 1, opened w.stage.is_open w.stage, w.fates, w.old, w.begun, over, omega (arith, rounds, same, w.begun.rounds)) }
@@ -89,14 +88,14 @@ returns-in-Ok-false-clause-turns_to g c k items stands =
     let w = p.stands.2 in let e = c.turn.ensures in let now = c.unwrap-playing.result in
     let same : c.turn.new.self ≡ now = same_Some _ _ (sym c.take.ensures.value ∙ c.unwrap-playing.ensures) in
     let stop : now.stop ≡ c.in-Some.playing.stop = ap (λ (z : Playing). z.stop) (sym same) ∙ e.stop in
-    let over = taken_out w.fates w.old c.in-Ended.end c.in-Some.playing c.turn.new.self now c.turn.new.line c.turn.new.disk e.stop same (e.ended c.in-Ended.end c.in-Ended.is w.fates (stop_set c.in-Some.playing.stop) w.old w.way) in
+    let over = taken_out w.fates w.old c.in-Ended.end c.in-Some.playing c.turn.new.self now c.turn.new.line c.turn.new.disk e.stop same (e.ended c.in-Ended.end c.in-Ended.is w.fates c.in-Some.playing.stop w.old w.way) in
     let u = opened w.stage.is_open w.stage in
     let seen : c.in-Ok-false.field-0 ≡ false = search rules in
     let after = subst (λ (t : Bool). After g.T.Teller.telling t s (round_step w.fates now.stop) u (λ is v. (HoldsAt (w.openings + 1) s v c.end_round.new.self c.end_round.new.disk × LineAt v c.end_round.new.line × HasSaid is w.old.link c.end_round.new.line) × (stopping_limits c.end_round.new.disk ≡ stopping_limits w.old.disk)) c.args.teller.now c.end_round.new.teller) seen
     (c.in-Ok-false.ensures.ok (length (records (steps_for s.period k.steps))) (w.openings + 1) s u w.fates w.old w.begun over) in
     let t = round_taken s k.eeprom k.packet k.steps i k.made w.old.disk w.given w.stage w.openings (ready s k.steps k.made p.accepted p.room) w.runs w.few w.limits
     g.T.Teller.telling p.stands.0 w.fates now.stop k.before w.old.link c.end_round.new.line w.old.disk c.end_round.new.disk c.end_round.new.self c.args.teller.now c.end_round.new.teller p.stands.1
-    (w.is_round ∙ ap (λ (z : Option code_stop.Stop). round_step w.fates z) (sym stop)) w.said after w.limits in
+    (w.is_round ∙ ap (λ (z : Option Stop). round_step w.fates z) (sym stop)) w.said after w.limits in
     let opens = few_to_open c.end_round.new.self.session in
     let whole : StandsAt None k s (i + 1) (c.args.self.now.turns + 1) (items ++ t.0) c.end_round.new.self c.end_round.new.line c.end_round.new.disk = record {
       accepted = p.accepted;
@@ -125,7 +124,7 @@ returns-in-Ok-true-clause-turns_to g c k items stands =
     let w = p.stands.2 in let e = c.turn.ensures in let now = c.unwrap-playing.result in
     let same : c.turn.new.self ≡ now = same_Some _ _ (sym c.take.ensures.value ∙ c.unwrap-playing.ensures) in
     let stop : now.stop ≡ c.in-Some.playing.stop = ap (λ (z : Playing). z.stop) (sym same) ∙ e.stop in
-    let over = taken_out w.fates w.old c.in-Ended.end c.in-Some.playing c.turn.new.self now c.turn.new.line c.turn.new.disk e.stop same (e.ended c.in-Ended.end c.in-Ended.is w.fates (stop_set c.in-Some.playing.stop) w.old w.way) in
+    let over = taken_out w.fates w.old c.in-Ended.end c.in-Some.playing c.turn.new.self now c.turn.new.line c.turn.new.disk e.stop same (e.ended c.in-Ended.end c.in-Ended.is w.fates c.in-Some.playing.stop w.old w.way) in
     let u = opened w.stage.is_open w.stage in
     let unseen : c.in-Ok-true.field-0 ≡ true = search rules in
     let P : List Item → Stage → Type 0 = λ is v. (HoldsAt (w.openings + 1) s v c.end_round.new.self c.end_round.new.disk × LineAt v c.end_round.new.line × HasSaid is w.old.link c.end_round.new.line) × (stopping_limits c.end_round.new.disk ≡ stopping_limits w.old.disk) in
@@ -133,7 +132,7 @@ returns-in-Ok-true-clause-turns_to g c k items stands =
     (c.in-Ok-true.ensures.ok (length (records (steps_for s.period k.steps))) (w.openings + 1) s u w.fates w.old w.begun over) in
     subst (λ (z : List Item). BreaksRun g.T.Teller.telling s (start k.eeprom k.packet) (steps_for s.period k.steps) z c.args.teller.now c.end_round.new.teller) (sym w.items_are)
     (turn_broken s k.eeprom k.packet k.steps i k.made w.old.disk w.given w.stage w.openings (ready s k.steps k.made p.accepted p.room) w.runs w.few w.limits
-    g.T.Teller.telling p.stands.0 w.fates now.stop P c.args.teller.now c.end_round.new.teller p.stands.1 (w.is_round ∙ ap (λ (z : Option code_stop.Stop). round_step w.fates z) (sym stop)) after)
+    g.T.Teller.telling p.stands.0 w.fates now.stop P c.args.teller.now c.end_round.new.teller p.stands.1 (w.is_round ∙ ap (λ (z : Option Stop). round_step w.fates z) (sym stop)) after)
 
 pub returns-in-Err-clause-turns_to : goal.returns-in-Err-clause-turns_to
 returns-in-Err-clause-turns_to g c k items stands =
@@ -142,12 +141,12 @@ returns-in-Err-clause-turns_to g c k items stands =
     let w = p.stands.2 in let e = c.turn.ensures in let now = c.unwrap-playing.result in
     let same : c.turn.new.self ≡ now = same_Some _ _ (sym c.take.ensures.value ∙ c.unwrap-playing.ensures) in
     let stop : now.stop ≡ c.in-Some.playing.stop = ap (λ (z : Playing). z.stop) (sym same) ∙ e.stop in
-    let over = taken_out w.fates w.old c.in-Ended.end c.in-Some.playing c.turn.new.self now c.turn.new.line c.turn.new.disk e.stop same (e.ended c.in-Ended.end c.in-Ended.is w.fates (stop_set c.in-Some.playing.stop) w.old w.way) in
+    let over = taken_out w.fates w.old c.in-Ended.end c.in-Some.playing c.turn.new.self now c.turn.new.line c.turn.new.disk e.stop same (e.ended c.in-Ended.end c.in-Ended.is w.fates c.in-Some.playing.stop w.old w.way) in
     let u = opened w.stage.is_open w.stage in
     cut_to g.T.Teller.telling c.cut_off.result k s items _ _ _ c.args.teller.now c.end_round.new.teller c.cut_off.ensures.answer
     (subst (λ (z : List Item). CutsRun g.T.Teller.telling s (start k.eeprom k.packet) (steps_for s.period k.steps) z c.args.teller.now c.end_round.new.teller) (sym w.items_are)
     (round_cut_off s k.eeprom k.packet k.steps i k.made w.old.disk w.given w.stage w.openings (ready s k.steps k.made p.accepted p.room) w.runs w.few w.limits
-    g.T.Teller.telling p.stands.0 w.fates now.stop c.args.teller.now c.end_round.new.teller p.stands.1 (w.is_round ∙ ap (λ (z : Option code_stop.Stop). round_step w.fates z) (sym stop))
+    g.T.Teller.telling p.stands.0 w.fates now.stop c.args.teller.now c.end_round.new.teller p.stands.1 (w.is_round ∙ ap (λ (z : Option Stop). round_step w.fates z) (sym stop))
     (c.in-Err.ensures.err (length (records (steps_for s.period k.steps))) (w.openings + 1) s u w.fates w.old w.begun over)))
 
 pub returns-in-More-clause-says_or_stores : goal.returns-in-More-clause-says_or_stores
