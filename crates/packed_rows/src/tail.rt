@@ -62,9 +62,10 @@ impl Tail {
         ensures range { IsDayNumber (pos (archive_day_of stamp)) }
         ensures some { 1 ≤ minutes_into (Some stamp) }
     {
-        let day = stamp.archive_day();
+        let date = stamp.date_word();
         match self.last {
-            Some(last) => last.archive_day() != day,
+            Some(last) if last.date_word() == date => !last.shares_day(stamp),
+            Some(last) => last.archive_day() != stamp.archive_day(),
             None => false,
         }
     }

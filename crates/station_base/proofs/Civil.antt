@@ -1,29 +1,37 @@
 -- What words name is a civil minute, and no minute comes after the last.
-use Rattle.std.proofs.Common.{◌≡◌, ℕ, ◌≤◌, inl, Bool, true, false, ℤ, pos, negsuc, cond, refl, subst, arith, unsigned_abs, Some, None}
-use Rattle.std.specs.Prelude.{nat_le, nat_lt, ◌≤ℤ◌, ◌<ℤ◌}
+use Rattle.std.proofs.Common.{◌≡◌, ℕ, ◌≤◌, ◌<◌, Bool, true, false, pos, cond, refl, subst, arith, Some, None}
+use Rattle.std.specs.Prelude.{nat_le, nat_lt}
 use Rattle.std.proofs.lemmas.Bool.{and_parts, leb-true, ltb-true}
 use Rattle.jiff_core.specs.Calendar.{days_in_month, days_from_civil}
-use Rattle.jiff_core.proofs.DateLemmas.{epoch_day-lt}
 use Rattle.jiff_core.proofs.SignedLemmas.{signed_arith}
-use Rattle.jiff_core.proofs.StandardFacts.{known_days}
-use Rattle.station_base.specs.CivilMinute.{CivilMinute, IsCivilMinute, is_civil_minute, day_of, minute_of}
-use Rattle.station_base.specs.Stamp.{stamp_of_words, spelled_stamp}
-use Rattle.station_base.proofs.Days.{epoch_day_to}
-use Rattle.station_base.proofs.Order.{date_of, epoch}
+use Rattle.station_base.specs.CivilMinute.{CivilMinute, IsCivilMinute, is_civil_minute, archive_day_of, day_of, minute_of}
+use Rattle.station_base.specs.DayText.{IsDayNumber}
+use Rattle.station_base.specs.Stamp.{stamp_of_words, spelled_stamp, time_word_of}
+use Rattle.station_base.proofs.Days.{epoch_day_from, epoch_day_to, unsigned_between}
+use Rattle.station_base.proofs.Order.{date_of}
 
-abs_within : (z : ℤ) (n : ℕ) → pos 0 ≤ℤ z → z ≤ℤ pos n → unsigned_abs z ≤ n
-abs_within (pos m) n from to = omega (arith, signed_arith)
-abs_within (negsuc m) n from to = absurd (omega (arith, signed_arith))
-
-day_within : (c : CivilMinute) → IsCivilMinute c → day_of c ≤ 57707
-unfolding epoch date_of
+-- the day of a civil minute is one of the years that two words can name
+day_within : (c : CivilMinute) → IsCivilMinute c → (10957 ≤ day_of c) × (day_of c ≤ 57707)
+unfolding date_of
 day_within c civil =
-    let later : pos 1970 <ℤ pos c.year = omega (arith, signed_arith) in
-    let from : pos 0 ≤ℤ days_from_civil (pos c.year) c.month c.day = omega (arith, signed_arith, known_days.0, epoch_day-lt epoch (date_of c civil) (inl later)) in
-    abs_within (days_from_civil (pos c.year) c.month c.day) 57707 from (epoch_day_to (date_of c civil) (omega (arith, signed_arith)))
+    unsigned_between 10957 57707 (days_from_civil (pos c.year) c.month c.day)
+    (epoch_day_from (date_of c civil) (omega (arith, signed_arith))) (epoch_day_to (date_of c civil) (omega (arith, signed_arith)))
 
 pub minute_within : (c : CivilMinute) → IsCivilMinute c → minute_of c ≤ 83099519
-minute_within c civil = omega (arith, day_within c civil, civil.hour_to, civil.minute_to)
+minute_within c civil = omega (arith, (day_within c civil).1, civil.hour_to, civil.minute_to)
+
+-- its archive day lies in 1999-12-31 to 2127-12-31
+pub archive_day_within : (c : CivilMinute) → IsCivilMinute c → IsDayNumber (pos (archive_day_of c))
+archive_day_within c civil =
+    let day = day_within c civil in
+    (omega (arith, signed_arith, day.0), omega (arith, signed_arith, minute_within c civil))
+
+-- two minutes of one date, of which none is its first, have one archive day
+pub archive_day_of_date : (a b : CivilMinute) → IsCivilMinute a → IsCivilMinute b → a.year ≡ b.year → a.month ≡ b.month → a.day ≡ b.day
+    → 0 < time_word_of a → 0 < time_word_of b → archive_day_of a ≡ archive_day_of b
+archive_day_of_date a b a_civil b_civil year month day a_later b_later =
+    let same : day_of a ≡ day_of b = rw (year, month, day) refl in
+    omega (arith, a_civil.hour_to, a_civil.minute_to, b_civil.hour_to, b_civil.minute_to)
 
 pub test_tells : (c : CivilMinute) → is_civil_minute c ≡ true → IsCivilMinute c
 test_tells c e =

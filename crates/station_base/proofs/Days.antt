@@ -201,7 +201,7 @@ pub record IsDayOf (date : CivilDate) (number : ℕ) : Type 0 where
   pub to : number ≤ 57707
 
 -- a day that is not negative keeps its number without a sign
-unsigned_between : (low high : ℕ) (day : ℤ) → pos low ≤ℤ day → day ≤ℤ pos high → (low ≤ unsigned_abs day) × (unsigned_abs day ≤ high)
+pub unsigned_between : (low high : ℕ) (day : ℤ) → pos low ≤ℤ day → day ≤ℤ pos high → (low ≤ unsigned_abs day) × (unsigned_abs day ≤ high)
 unsigned_between low high (pos n) from to = (omega (arith, signed_arith), omega (arith, signed_arith))
 unsigned_between low high (negsuc n) from to = absurd (omega (arith, signed_arith))
 
