@@ -68,7 +68,7 @@ fn push_row(text: &mut Text, settings: &Settings, row: &Row)
     requires readings { HasReadings row.now }
     ensures { text.new.items ≡ text.old.items ++ corrected_row_line settings.now row.now }
 {
-    push_bytes(text, &corrected(settings, row).line());
+    corrected(settings, row).push_line(text);
 }
 
 // Appends the line that names a bad entry.

@@ -38,7 +38,7 @@ impl<'a> Style<'a> {
             Style::Short => push_short(text, stamp, outside_temperature(bytes)),
             Style::Corrected(settings) => {
                 let row = row_in(bytes, settings.period(), stamp);
-                push_bytes(text, &corrected(settings, &row).line());
+                corrected(settings, &row).push_line(text);
             }
         }
     }

@@ -10,7 +10,7 @@ use crate::stamp::Stamp;
 use crate::text::{push_bytes, push_number, push_signed};
 use arrayvec::ArrayVec;
 
-/// The most bytes that the line of a row is given room for.
+/// The room that a text needs for the line of a row.
 pub const LINE_ROOM: usize = 1024;
 
 /// What a station measured in the interval that ends with the stamp.
@@ -30,24 +30,24 @@ pub struct Row {
 impl Row {
     ghost use Rattle.station_base.specs.RowLine.{row_line};
 
-    /// The line `row YYYY-MM-DD HH:MM I`, where I is the interval in minutes, and then by their numbers ` NAME=VALUE` for
-    /// each field that has a value and ` NAME=limit` for each that limits made missing. It ends with a line feed, and has
-    /// at most 876 bytes. Values are to lie within 2,000,000 either way, and a field of `limited` is to have none.
-    pub fn line(&self) -> ArrayVec<u8, LINE_ROOM>
+    /// Appends the line `row YYYY-MM-DD HH:MM I` to a text that has room for it, where I is the interval in minutes. By
+    /// their numbers follow ` NAME=VALUE` for each field that has a value and ` NAME=limit` for each that limits made
+    /// missing. The line ends with a line feed, and has at most 876 bytes. Values are to lie within 2,000,000 either way,
+    /// and a field of `limited` is to have none.
+    pub fn push_line<const ROOM: usize>(&self, text: &mut ArrayVec<u8, ROOM>)
+        requires room { array_vec_len text.old + LINE_ROOM ≤ ROOM }
         requires values { All IsPrintable self.now.values }
         requires limited { AreMissing self.now.limited self.now.values }
-        ensures text { result.items ≡ row_line self.now }
-        ensures size { array_vec_len result ≤ 876 }
+        ensures text { text.new.items ≡ text.old.items ++ row_line self.now }
+        ensures length { array_vec_len text.new ≤ array_vec_len text.old + 876 }
     {
         let limited = FieldSet::from_bits(self.limited).unwrap();
-        let mut line = ArrayVec::new();
-        push_bytes(&mut line, b"row ");
-        push_bytes(&mut line, &self.stamp.text());
-        push_bytes(&mut line, b" ");
-        push_number(&mut line, u32::from(self.interval.minutes()));
-        push_values(&mut line, &self.values, limited);
-        push_bytes(&mut line, b"\n");
-        line
+        push_bytes(text, b"row ");
+        push_bytes(text, &self.stamp.text());
+        text.push(b' ');
+        push_number(text, u32::from(self.interval.minutes()));
+        push_values(text, &self.values, limited);
+        text.push(b'\n');
     }
 }
 
@@ -68,12 +68,12 @@ impl Default for Row {
 }
 
 // Appends each value with the name of its field, and the names of those that limits made missing.
-fn push_values(
-    line: &mut ArrayVec<u8, LINE_ROOM>,
+fn push_values<const ROOM: usize>(
+    line: &mut ArrayVec<u8, ROOM>,
     values: &[Option<i32>; FIELD_COUNT],
     limited: FieldSet,
 )
-    requires room { array_vec_len line.old ≤ 24 }
+    requires room { array_vec_len line.old + 23 * FIELD_COUNT ≤ ROOM }
     requires printable { All IsPrintable values.now }
     ensures text { line.new.items ≡ line.old.items ++ values_text limited 0 values.now }
     ensures length { array_vec_len line.new ≤ array_vec_len line.old + 23 * FIELD_COUNT }
@@ -85,13 +85,13 @@ fn push_values(
 }
 
 // Appends a value with the name of its field, or the name alone where limits made it missing.
-fn push_value(
-    line: &mut ArrayVec<u8, LINE_ROOM>,
+fn push_value<const ROOM: usize>(
+    line: &mut ArrayVec<u8, ROOM>,
     field: FieldId,
     value: Option<i32>,
     is_limited: bool,
 )
-    requires room { array_vec_len line.old + 23 ≤ LINE_ROOM }
+    requires room { array_vec_len line.old + 23 ≤ ROOM }
     requires field { field < 37 }
     requires printable { IsPrintable value }
     ensures text { line.new.items ≡ line.old.items ++ value_text is_limited field value }
@@ -99,13 +99,13 @@ fn push_value(
 {
     match value {
         Some(value) => {
-            push_bytes(line, b" ");
+            line.push(b' ');
             push_bytes(line, field.name().as_bytes());
-            push_bytes(line, b"=");
+            line.push(b'=');
             push_signed(line, value);
         }
         None if is_limited => {
-            push_bytes(line, b" ");
+            line.push(b' ');
             push_bytes(line, field.name().as_bytes());
             push_bytes(line, b"=limit");
         }

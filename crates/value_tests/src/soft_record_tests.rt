@@ -2,9 +2,10 @@ ghost use Rattle.std.specs.Prelude.{IfSome};
 ghost use Rattle.soft_record.specs.Readings.{HasReadings};
 ghost use Rattle.soft_record.specs.Standing.{OnClosed};
 
+use arrayvec::ArrayVec;
 use loop_packet::{LoopPacket, write};
 use soft_record::{ENTRY_SIZE, SoftRecord, Took};
-use station_base::{Period, Row};
+use station_base::{LINE_ROOM, Period, Row};
 use std::process::Abort;
 
 // The date words of 2024-07-01, of the day after, and of 2127-12-31.
@@ -72,7 +73,9 @@ fn ends(row: Option<Row>, wanted: &str) -> bool
 fn has_line(row: &Row, wanted: &str) -> bool
     requires { HasReadings row.now }
 {
-    row.line().as_slice() == wanted.as_bytes()
+    let mut line = ArrayVec::<u8, LINE_ROOM>::new();
+    row.push_line(&mut line);
+    line.as_slice() == wanted.as_bytes()
 }
 
 // Takes entries of one day.

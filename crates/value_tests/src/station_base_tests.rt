@@ -1,4 +1,5 @@
-use station_base::{ClockTime, DayNumber, FieldId, Period, Row, Stamp};
+use arrayvec::ArrayVec;
+use station_base::{ClockTime, DayNumber, FieldId, LINE_ROOM, Period, Row, Stamp};
 
 #[test]
 fn the_last_minute_has_no_stamp_after_it(rt: HostRuntime) {
@@ -83,7 +84,8 @@ fn a_row_is_printed_with_its_values(rt: HostRuntime) {
     row.values[7] = Some(0);
     row.values[12] = Some(0);
     row.values[16] = Some(-4);
-    let line = row.line();
+    let mut line = ArrayVec::<u8, LINE_ROOM>::new();
+    row.push_line(&mut line);
     let wanted =
         b"row 2024-07-01 00:05 5 outTemp=650 rain=0 highRainRate=0 windSamples=0 windGust=0 ET=-4\n";
     assert!(rt; line.as_slice() == wanted.as_slice());
@@ -100,7 +102,8 @@ fn a_row_names_what_limits_made_missing(rt: HostRuntime) {
     row.values[7] = Some(0);
     row.values[12] = Some(0);
     row.values[16] = Some(0);
-    let line = row.line();
+    let mut line = ArrayVec::<u8, LINE_ROOM>::new();
+    row.push_line(&mut line);
     let wanted =
         b"row 2024-07-01 00:05 5 outTemp=limit rain=0 highRainRate=0 windSamples=0 windGust=0 ET=0\n";
     assert!(rt; line.as_slice() == wanted.as_slice());

@@ -45,7 +45,26 @@ pub fn finish<K: Sink>(pending: &[u8], end: ReportEnd, out: &mut K) -> ReportEnd
     }
 }
 
-/// Appends a line to those that wait, and writes them where they are enough.
+/// Writes the lines that wait, if they are enough, so that there is room for one more.
+pub fn make_room<K: Sink>(pending: &mut Pending, out: &mut K) -> Put
+    ensures room { array_vec_len pending.new < PIECE }
+    ensures done { result ≡ Put.Done
+        → Leaves (K.outlet.taken out.old) (K.outlet.taken out.new) pending.old.items pending.new.items }
+    ensures failed { result ≡ Put.Failed
+        → WritesPart (K.outlet.taken out.old) (K.outlet.taken out.new) pending.old.items }
+    ensures wrote { Prints K.outlet result pending.old.items pending.new.items out.old out.new }
+    ensures cause { Cause (K.outlet.faults out.old) (K.outlet.faults out.new) (result ≡ Put.Failed) }
+    ensures still { result ≢ Put.Failed → K.outlet.faults out.new ≡ K.outlet.faults out.old }
+{
+    if pending.len() < PIECE {
+        return Put::Done;
+    }
+    let answer = out.put(pending.as_slice());
+    pending.clear();
+    answer
+}
+
+/// Appends a line to those that wait, and writes them if they are enough.
 pub fn print_line<K: Sink>(pending: &mut Pending, line: &[u8], out: &mut K) -> Put
     requires room { array_vec_len pending.old < PIECE }
     requires short { length line.now ≤ LINE_ROOM }
@@ -59,12 +78,7 @@ pub fn print_line<K: Sink>(pending: &mut Pending, line: &[u8], out: &mut K) -> P
     ensures still { result ≢ Put.Failed → K.outlet.faults out.new ≡ K.outlet.faults out.old }
 {
     push_bytes(pending, line);
-    if pending.len() < PIECE {
-        return Put::Done;
-    }
-    let answer = out.put(pending.as_slice());
-    pending.clear();
-    answer
+    make_room(pending, out)
 }
 
 // Prints the line of each row.
@@ -83,8 +97,8 @@ pub fn print_rows<K: Sink>(pending: &mut Pending, rows: &[Row], out: &mut K) -> 
     ensures still { result ≢ Put.Failed → K.outlet.faults out.new ≡ K.outlet.faults out.old }
 {
     for row in rows {
-        let line = row.line();
-        if let Put::Failed = print_line(pending, &line, out) {
+        row.push_line(pending);
+        if let Put::Failed = make_room(pending, out) {
             return Put::Failed;
         }
     }
