@@ -12,11 +12,11 @@ ghost use Rattle.climate_table.specs.Degrees.{day_summary};
 ghost use Rattle.climate_table.specs.Spans.{SpanGrows, SpanIsInOrder, IsSpan, span_lines};
 
 use crate::climate_summary::ClimateSummary;
-use crate::line::climate_line;
+use crate::line::push_climate_line;
 use daily_summary::DaySummary;
 use station_base::DayNumber;
 use station_io::{Put, Sink};
-use weather_reports::{PIECE, Pending, print_line};
+use weather_reports::{PIECE, Pending, make_room};
 
 // How many bytes of a day's text name its year, and its month.
 pub const YEAR: usize = 4;
@@ -83,8 +83,8 @@ pub fn print_span<K: Sink>(
 {
     match span {
         Some(span) => {
-            let line = climate_line(&span.first.text()[..size], &span.summary);
-            print_line(pending, &line, out)
+            push_climate_line(pending, &span.first.text()[..size], &span.summary);
+            make_room(pending, out)
         }
         None => Put::Done,
     }

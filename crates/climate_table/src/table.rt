@@ -12,12 +12,12 @@ ghost use Rattle.climate_table.specs.Spans.{SpanGrows, SpanIsInOrder, IsSpan, en
 ghost use Rattle.climate_table.specs.Table.{degree_lines};
 
 use crate::degree_days::degrees_in;
-use crate::line::degree_line;
+use crate::line::push_degree_line;
 use crate::span::{MONTH, Span, YEAR, print_span, with_day};
 use daily_summary::DaySummary;
 use station_base::DayNumber;
 use station_io::{Put, Sink};
-use weather_reports::{PIECE, Pending, print_line};
+use weather_reports::{PIECE, Pending, make_room};
 
 // A table of which some days were read: those of the month that has begun, and those of the year.
 #[derive(Clone, Copy)]
@@ -161,8 +161,8 @@ fn print_degrees<K: Sink>(
 {
     match degrees_in(summary) {
         Some(degrees) => {
-            let line = degree_line(day, &degrees);
-            print_line(pending, &line, out)
+            push_degree_line(pending, day, &degrees);
+            make_room(pending, out)
         }
         None => Put::Done,
     }

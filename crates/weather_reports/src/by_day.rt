@@ -11,7 +11,8 @@ ghost use Rattle.weather_reports.specs.Wrote.{Wrote};
 
 use crate::ReportEnd;
 use crate::days::{day_head, is_among, summary_of};
-use crate::printing::{Pending, finish, print_sums};
+use crate::line::Pending;
+use crate::printing::{finish, print_sums};
 use disk_model::Disk;
 use station_base::DayNumber;
 use station_io::{Put, Sink};

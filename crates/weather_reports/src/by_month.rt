@@ -11,8 +11,9 @@ ghost use Rattle.weather_reports.specs.Wrote.{Wrote};
 
 use crate::ReportEnd;
 use crate::days::{is_among, summary_of};
+use crate::line::Pending;
 use crate::month::{Month, join, print_month};
-use crate::printing::{Pending, finish};
+use crate::printing::finish;
 use disk_model::Disk;
 use station_base::DayNumber;
 use station_io::{Put, Sink};

@@ -11,7 +11,8 @@ ghost use Rattle.weather_reports.specs.Reported.{IsReport, ReadsOver, Reports};
 ghost use Rattle.weather_reports.specs.Wrote.{Wrote};
 
 use crate::ReportEnd;
-use crate::printing::{Pending, finish, print_rows};
+use crate::line::Pending;
+use crate::printing::{finish, print_rows};
 use arrayvec::ArrayVec;
 use disk_model::Disk;
 use station_base::DayNumber;

@@ -11,7 +11,8 @@ ghost use Rattle.weather_reports.specs.Months.{is_of_month, month_text};
 ghost use Rattle.weather_reports.specs.Reported.{text_of_lines};
 ghost use Rattle.weather_reports.specs.Wrote.{Prints};
 
-use crate::printing::{PIECE, Pending, print_sums};
+use crate::line::{PIECE, Pending};
+use crate::printing::print_sums;
 use daily_summary::DaySummary;
 use station_base::DayNumber;
 use station_io::{Put, Sink};

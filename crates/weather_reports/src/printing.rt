@@ -10,20 +10,10 @@ ghost use Rattle.weather_reports.specs.Reported.{text_of_lines};
 ghost use Rattle.weather_reports.specs.Wrote.{Flushes, Prints};
 
 use crate::ReportEnd;
-use crate::line::sum_line;
-use arrayvec::ArrayVec;
+use crate::line::{PIECE, Pending, push_sum_line};
 use daily_summary::FieldSum;
-use station_base::{FIELD_COUNT, FieldId, LINE_ROOM, Row, push_bytes};
+use station_base::{FIELD_COUNT, FieldId, Row};
 use station_io::{Put, Sink};
-
-/// From how many bytes on what is held back is written.
-pub const PIECE: usize = 8192;
-
-// Room for that, and for one more line.
-const ROOM: usize = PIECE + LINE_ROOM;
-
-/// Lines that wait to be written.
-pub type Pending = ArrayVec<u8, ROOM>;
 
 /// Writes what waits at the end, where there is any. The report ended so, unless this write fails.
 pub fn finish<K: Sink>(pending: &[u8], end: ReportEnd, out: &mut K) -> ReportEnd
@@ -62,23 +52,6 @@ pub fn make_room<K: Sink>(pending: &mut Pending, out: &mut K) -> Put
     let answer = out.put(pending.as_slice());
     pending.clear();
     answer
-}
-
-/// Appends a line to those that wait, and writes them if they are enough.
-pub fn print_line<K: Sink>(pending: &mut Pending, line: &[u8], out: &mut K) -> Put
-    requires room { array_vec_len pending.old < PIECE }
-    requires short { length line.now ≤ LINE_ROOM }
-    ensures room { array_vec_len pending.new < PIECE }
-    ensures done { result ≡ Put.Done
-        → Leaves (K.outlet.taken out.old) (K.outlet.taken out.new) (pending.old.items ++ line.now) pending.new.items }
-    ensures failed { result ≡ Put.Failed
-        → WritesPart (K.outlet.taken out.old) (K.outlet.taken out.new) (pending.old.items ++ line.now) }
-    ensures wrote { Prints K.outlet result (pending.old.items ++ line.now) pending.new.items out.old out.new }
-    ensures cause { Cause (K.outlet.faults out.old) (K.outlet.faults out.new) (result ≡ Put.Failed) }
-    ensures still { result ≢ Put.Failed → K.outlet.faults out.new ≡ K.outlet.faults out.old }
-{
-    push_bytes(pending, line);
-    make_room(pending, out)
 }
 
 // Prints the line of each row.
@@ -129,8 +102,8 @@ pub fn print_sums<K: Sink>(
             continue;
         };
         let field = FieldId::from_index(index).unwrap();
-        let line = sum_line(head, field, sum);
-        if let Put::Failed = print_line(pending, &line, out) {
+        push_sum_line(pending, head, field, sum);
+        if let Put::Failed = make_room(pending, out) {
             return Put::Failed;
         }
     }

@@ -10,7 +10,7 @@ use Rattle.gated_log.specs.Calls.{Looked}
 use Rattle.gated_log.specs.Layout.{slot_size}
 use Rattle.packed_rows.specs.Rows.{slot_total}
 use Rattle.weather_book.specs.Stands.{StandsToReadOn}
-use Rattle.weather_reports.specs.declared.printing.TheConstants.{PIECE}
+use Rattle.weather_reports.specs.declared.line.TheConstants.{PIECE}
 use Rattle.weather_reports.proofs.Progress.{Comes}
 use Rattle.climate_table.specs.Spans.{HasDaysAhead, IsSpan}
 use Rattle.climate_table.specs.Table.{climate_lines, days_of_year, is_of_year, table_lines}

@@ -10,7 +10,7 @@ use Rattle.gated_log.specs.Calls.{Looked}
 use Rattle.gated_log.specs.Layout.{slot_size}
 use Rattle.packed_rows.specs.Rows.{slot_total}
 use Rattle.weather_book.specs.Stands.{StandsToReadOn}
-use Rattle.weather_reports.specs.declared.printing.TheConstants.{PIECE}
+use Rattle.weather_reports.specs.declared.line.TheConstants.{PIECE}
 use Rattle.weather_reports.specs.Begun.{MonthIsBegun, MonthIsInOrder, HasFewRows, months_after}
 use Rattle.weather_reports.specs.Report.{is_among, month_lines, month_table_lines}
 use Rattle.weather_reports.specs.Wrote.{Wrote}

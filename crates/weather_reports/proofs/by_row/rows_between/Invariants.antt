@@ -9,7 +9,7 @@ use Rattle.gated_log.specs.Calls.{Looked}
 use Rattle.gated_log.specs.Layout.{slot_size}
 use Rattle.packed_rows.specs.Rows.{slot_total}
 use Rattle.weather_book.specs.Stands.{StandsToReadOn}
-use Rattle.weather_reports.specs.declared.printing.TheConstants.{PIECE}
+use Rattle.weather_reports.specs.declared.line.TheConstants.{PIECE}
 use Rattle.weather_reports.specs.Wrote.{Wrote}
 use Rattle.weather_reports.proofs.Progress.{Comes}
 use Rattle.weather_reports.proofs.by_row.rows_between.Given as goal

@@ -8,19 +8,19 @@ use Rattle.weather_reports.proofs.Held.{held_grows, held_shrinks, held_fails}
 use Rattle.weather_reports.proofs.Lines.{rows_step}
 use Rattle.weather_reports.proofs.printing.print_rows.Goals as goal
 
-pub push_line-requires-clause-values : goal.push_line-requires-clause-values
-push_line-requires-clause-values g c =
+pub push_line-requires : goal.push_line-requires
+push_line-requires g c =
     let within : c.loop-row.row-index < length c.args.rows.now = omega arith in
-    let is : c.row-item.result ≡ get_or c.args.rows.now c.loop-row.row-index c.row-item.result = search rules in
-    subst (λ (r : Row). All IsPrintable r.values) (sym is)
-    (c.requires.printable c.loop-row.row-index c.row-item.result within)
-
-pub push_line-requires-clause-limited : goal.push_line-requires-clause-limited
-push_line-requires-clause-limited g c =
-    let within : c.loop-row.row-index < length c.args.rows.now = omega arith in
-    let is : c.row-item.result ≡ get_or c.args.rows.now c.loop-row.row-index c.row-item.result = search rules in
-    subst (λ (r : Row). AreMissing r.limited r.values) (sym is)
-    (c.requires.limited c.loop-row.row-index c.row-item.result within)
+    let is : c.row-item.result ≡ get_or c.args.rows.now c.loop-row.row-index c.row-item.result = search rules in (
+      search rules,
+      (
+        omega arith,
+        (
+          subst (λ (r : Row). All IsPrintable r.values) (sym is) (c.requires.printable c.loop-row.row-index c.row-item.result within),
+          subst (λ (r : Row). AreMissing r.limited r.values) (sym is) (c.requires.limited c.loop-row.row-index c.row-item.result within),
+        ),
+      ),
+    )
 
 pub returns-in-Failed-clause-failed : goal.returns-in-Failed-clause-failed
 returns-in-Failed-clause-failed g c e =

@@ -2,7 +2,7 @@ use Rattle.std.proofs.Common.{◌≡◌, ◌<◌, ◌++◌, drop, map}
 use Rattle.arrayvec.specs.ArrayVec.{array_vec_len}
 use Rattle.causes.specs.Written.{Leaves}
 use Rattle.station_base.specs.RowLine.{row_line}
-use Rattle.weather_reports.specs.declared.printing.TheConstants.{PIECE}
+use Rattle.weather_reports.specs.declared.line.TheConstants.{PIECE}
 use Rattle.station_io.specs.declared.sink.Put.TheVariants.{Done}
 use Rattle.weather_reports.specs.Reported.{text_of_lines}
 use Rattle.weather_reports.specs.Wrote.{Prints}

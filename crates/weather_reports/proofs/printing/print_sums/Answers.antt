@@ -11,34 +11,34 @@ pub returns-in-Failed-clause-failed : goal.returns-in-Failed-clause-failed
 returns-in-Failed-clause-failed g c e =
     let head = c.args.head.now in let sums = c.args.sums.now in let k = c.loop-index.index in let s = c.in-Some.sum in
     let left = rw (sums_some head sums k c.index-sums-index.result s (omega arith) c.in-Some.is) at c.loop-index.invariant.left in
-    let line : c.deref.result.now ≡ sum_line head k s = search rules in
+    let text : c.push_sum_line.new.pending.items ≡ c.loop-index.pending.items ++ sum_line head k s = search rules in
     let ahead = text_of_lines (field_lines_from head (k + 1) (drop (k + 1) sums)) in
     held_fails _ _ _ _ (c.loop-index.pending.items ++ sum_line head k s) ahead
-    (held_grows _ _ _ c.loop-index.pending.items (sum_line head k s) ahead left) (rw line at (c.print_line.ensures.failed c.in-Failed.is))
+    (held_grows _ _ _ c.loop-index.pending.items (sum_line head k s) ahead left) (rw text at (c.make_room.ensures.failed c.in-Failed.is))
 
 pub returns-in-Failed-clause-wrote : goal.returns-in-Failed-clause-wrote
 returns-in-Failed-clause-wrote g c =
     let head = c.args.head.now in let sums = c.args.sums.now in let k = c.loop-index.index in let s = c.in-Some.sum in
-    let line : c.deref.result.now ≡ sum_line head k s = search rules in
+    let text : c.push_sum_line.new.pending.items ≡ c.loop-index.pending.items ++ sum_line head k s = search rules in
     let ahead = text_of_lines (field_lines_from head (k + 1) (drop (k + 1) sums)) in
     prints_part g.K.Sink.outlet _ c.loop-index.pending.items (sum_line head k s) ahead [] [] _ _ _
     (rw (sums_some head sums k c.index-sums-index.result s (omega arith) c.in-Some.is) at c.loop-index.invariant.wrote)
-    (rw (line, c.in-Failed.is) at c.print_line.ensures.wrote)
+    (rw (text, c.in-Failed.is) at c.make_room.ensures.wrote)
 
 pub loop-index-preserved : goal.loop-index-preserved
 loop-index-preserved g c =
     let head = c.args.head.now in let sums = c.args.sums.now in let k = c.loop-index.index in let s = c.in-Some.sum in
     let left = rw (sums_some head sums k c.index-sums-index.result s (omega arith) c.in-Some.is) at c.loop-index.invariant.left in
-    let line : c.deref.result.now ≡ sum_line head k s = search rules in
+    let text : c.push_sum_line.new.pending.items ≡ c.loop-index.pending.items ++ sum_line head k s = search rules in
     let ahead = text_of_lines (field_lines_from head (k + 1) (drop (k + 1) sums)) in
     record {
-      room = c.print_line.ensures.room;
-      faults = c.print_line.ensures.still c.in_default-print_line.not-Failed ∙ c.loop-index.invariant.faults;
+      room = c.make_room.ensures.room;
+      faults = c.make_room.ensures.still c.in_default-make_room.not-Failed ∙ c.loop-index.invariant.faults;
       left = held_shrinks _ _ _ _ (c.loop-index.pending.items ++ sum_line head k s) ahead _
-          (held_grows _ _ _ c.loop-index.pending.items (sum_line head k s) ahead left) (rw line at (c.print_line.ensures.done c.in_default-print_line.is));
+          (held_grows _ _ _ c.loop-index.pending.items (sum_line head k s) ahead left) (rw text at (c.make_room.ensures.done c.in_default-make_room.is));
       wrote = prints_more g.K.Sink.outlet _ c.loop-index.pending.items (sum_line head k s) ahead _ _ _ _
           (rw (sums_some head sums k c.index-sums-index.result s (omega arith) c.in-Some.is) at c.loop-index.invariant.wrote)
-          (rw (line, c.in_default-print_line.is) at c.print_line.ensures.wrote);
+          (rw (text, c.in_default-make_room.is) at c.make_room.ensures.wrote);
     }
 
 pub returns-clause-done : goal.returns-clause-done

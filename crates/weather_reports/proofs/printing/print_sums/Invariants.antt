@@ -1,7 +1,7 @@
 use Rattle.std.proofs.Common.{◌≡◌, ◌<◌, ◌++◌, drop}
 use Rattle.arrayvec.specs.ArrayVec.{array_vec_len}
 use Rattle.causes.specs.Written.{Leaves}
-use Rattle.weather_reports.specs.declared.printing.TheConstants.{PIECE}
+use Rattle.weather_reports.specs.declared.line.TheConstants.{PIECE}
 use Rattle.weather_reports.specs.Line.{field_lines_from}
 use Rattle.station_io.specs.declared.sink.Put.TheVariants.{Done}
 use Rattle.weather_reports.specs.Reported.{text_of_lines}
