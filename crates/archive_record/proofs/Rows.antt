@@ -4,9 +4,28 @@ use Rattle.std.proofs.lemmas.List.Folds.{list_all_at}
 use Rattle.station_base.specs.CivilMinute.{CivilMinute}
 use Rattle.station_base.specs.declared.row.Row.{Row}
 use Rattle.archive_record.specs.declared.record_read.RecordRead.{RecordRead}
-use Rattle.archive_record.specs.declared.record_read.RecordRead.TheVariants.{Row as ReadRow, Empty, OtherRevision}
+use Rattle.archive_record.specs.declared.record_read.RecordRead.TheVariants.{Row as ReadRow, Empty, OtherRevision, BadStamp}
 use Rattle.archive_record.specs.Reading.{is_unwritten, stamp_in, record_values, dated, reading}
-use Rattle.archive_record.specs.Record.{IsRow, ReadsAsRow}
+use Rattle.archive_record.specs.Record.{IsRow, ReadsAsRow, is_row, reads_as_row}
+
+-- bytes read as a row just if they pass the test
+row_passes : (x : RecordRead) → IsRow x → is_row x ≡ true
+row_passes (ReadRow row) h = refl
+row_passes Empty h = absurd h
+row_passes (OtherRevision revision) h = absurd h
+row_passes (BadStamp date time) h = absurd h
+
+passed : (x : RecordRead) → is_row x ≡ true → IsRow x
+passed (ReadRow row) h = tt
+passed Empty h = cc
+passed (OtherRevision revision) h = cc
+passed (BadStamp date time) h = cc
+
+pub reads_row : (bytes : List ℕ) → ReadsAsRow bytes → reads_as_row bytes ≡ true
+reads_row bytes h = row_passes (reading bytes 1) h
+
+pub row_reads : (bytes : List ℕ) → reads_as_row bytes ≡ true → ReadsAsRow bytes
+row_reads bytes h = passed (reading bytes 1) h
 
 -- a reading by its tests
 chosen : Bool → Bool → Option CivilMinute → List ℕ → ℕ → RecordRead
@@ -96,9 +115,9 @@ row_by false false stamp bytes row is = cc
 row_by false true None bytes row is = cc
 row_by false true (Some stamp) bytes row is = tt
 
-pub reads_as_row : (bytes : List ℕ) (row : Row) → reading bytes row.interval ≡ ReadRow row → ReadsAsRow bytes
+pub reads_this_row : (bytes : List ℕ) (row : Row) → reading bytes row.interval ≡ ReadRow row → ReadsAsRow bytes
 unfolding chosen reading
-reads_as_row bytes row is = row_by (is_unwritten bytes) (slice_index bytes 42 == 0) (stamp_in bytes) bytes row is
+reads_this_row bytes row is = row_by (is_unwritten bytes) (slice_index bytes 42 == 0) (stamp_in bytes) bytes row is
 
 -- what reads as a row at one interval does at any
 row_at_by : (unwritten known : Bool) (stamp : Option CivilMinute) (bytes : List ℕ) (interval : ℕ) → IsRow (chosen unwritten known stamp bytes 1) → IsRow (chosen unwritten known stamp bytes interval)
@@ -116,4 +135,4 @@ row_at bytes interval row = row_at_by (is_unwritten bytes) (slice_index bytes 42
 pub row_with : (bytes : List ℕ) (stamp : CivilMinute) → length bytes ≡ 52 → slice_index bytes 42 ≡ 0 → stamp_in bytes ≡ Some stamp → ReadsAsRow bytes
 unfolding made
 row_with bytes stamp long revision is =
-    reads_as_row bytes (made stamp 1 (record_values bytes)) (parts_row bytes (made stamp 1 (record_values bytes)) long revision is refl refl)
+    reads_this_row bytes (made stamp 1 (record_values bytes)) (parts_row bytes (made stamp 1 (record_values bytes)) long revision is refl refl)

@@ -22,7 +22,7 @@ use Rattle.archive_record.specs.declared.record_read.RecordRead.TheVariants.{Row
 use Rattle.archive_record.specs.Kind.{word_at}
 use Rattle.archive_record.specs.Reading.{reading, dated, is_unwritten, stamp_in, record_values}
 use Rattle.archive_record.specs.Record.{IsRecord, IsRow, ReadsAsRow}
-use Rattle.archive_record.proofs.Rows.{parts_row, reads_as_row}
+use Rattle.archive_record.proofs.Rows.{parts_row, reads_this_row}
 use Rattle.archive_record.specs.MovedOn.{minute_numbered, with_stamp, moved_by, moved_on}
 
 same_by_words : (d e t u : ℕ) → (nat_lt d e || (d == e) && nat_lt t u) ≡ false → (nat_lt e d || (e == d) && nat_lt u t) ≡ false → (d ≡ e) × (t ≡ u)
@@ -135,7 +135,7 @@ pub row_given : (s : CivilMinute) (rec : List ℕ) → IsCivilMinute s → IsRec
 row_given s rec civil size row =
     let given = with_stamp s rec in
     let made : Row = record { stamp = s; interval = 1; values = record_values given; limited = 0 } in
-    reads_as_row given made (parts_row given made (record_given s rec size).long (revision_given s rec row) (stamp_given s rec civil) refl refl)
+    reads_this_row given made (parts_row given made (record_given s rec size).long (revision_given s rec row) (stamp_given s rec civil) refl refl)
 
 -- where a stamp comes so many minutes later, a record moved on by them has that stamp
 pub is_moved : (minutes : ℕ) (rec : List ℕ) (stamp next : CivilMinute) → stamp_in rec ≡ Some stamp → IsCivilMinute next → minute_of next ≡ minute_of stamp + minutes

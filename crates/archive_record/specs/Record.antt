@@ -1,5 +1,5 @@
 -- Records that read as rows.
-use Rattle.std.specs.Prelude.{ℕ, ℤ, pos, ◌≡◌, List, length, map, Some, None}
+use Rattle.std.specs.Prelude.{ℕ, ℤ, pos, ◌≡◌, Bool, true, false, List, length, map, Some, None}
 use Rattle.std.specs.declared.option.Option.{Option}
 use Rattle.causes.specs.Lists.{AreBytes}
 use Rattle.station_base.specs.declared.row.Row.{Row}
@@ -17,6 +17,11 @@ IsRow Empty = ⊥
 IsRow (OtherRevision revision) = ⊥
 IsRow (BadStamp date time) = ⊥
 
+-- whether the reading is a row
+abbrev pub is_row : RecordRead → Bool
+is_row (ReadRow row) = true
+is_row other = false
+
 -- a fact of the row that was read, if one was
 abbrev pub IfRow : RecordRead → (Row → Type 0) → Type 0
 IfRow (ReadRow row) P = P row
@@ -27,6 +32,10 @@ IfRow (BadStamp date time) P = Unit {0}
 -- the bytes read as a row, at whatever interval
 abbrev pub ReadsAsRow : List ℕ → Type 0
 ReadsAsRow bytes = IsRow (reading bytes 1)
+
+-- whether the bytes read as a row, at whatever interval
+abbrev pub reads_as_row : List ℕ → Bool
+reads_as_row bytes = is_row (reading bytes 1)
 
 -- no value, where a place has a mark to tell that, and else 0
 abbrev pub unmeasured : Option ℕ → Option ℤ

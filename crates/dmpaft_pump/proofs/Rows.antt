@@ -5,7 +5,8 @@ use Rattle.std.proofs.lemmas.Bool.{ltb-true, lt-ltb, and_parts}
 use Rattle.station_base.specs.CivilMinute.{CivilMinute, minute_of}
 use Rattle.vantage_frames.specs.Slots.{slot_at}
 use Rattle.archive_record.specs.Reading.{stamp_in}
-use Rattle.dmpaft_pump.specs.Slot.{is_record, is_skipped, StampIsWithin}
+use Rattle.archive_record.specs.Record.{reads_as_row}
+use Rattle.dmpaft_pump.specs.Slot.{is_skipped, StampIsWithin}
 use Rattle.station_base.specs.LastStamp.{exceeds, Rises, last_stamp}
 use Rattle.dmpaft_pump.specs.Batch.{slots_from, slots_in_page, slot_is_newer, one_if, last_if, count_if, rising, newest, skipped}
 
@@ -31,11 +32,11 @@ module _ (a : Option CivilMinute) (all rows : List (List ℕ)) (b : Option Civil
   going : Going a all rows b n (slot_at page place ∷ slots_in_page (place + 1) page)
   going = subst (λ (x : List (List ℕ)). Going a all rows b n x) (next_slot page place below) h
 
-  newer_by : (t u : Bool) → is_record (slot_at page place) ≡ t → exceeds b (stamp_in (slot_at page place)) ≡ u → slot_is_newer b (slot_at page place) ≡ (t && u)
+  newer_by : (t u : Bool) → reads_as_row (slot_at page place) ≡ t → exceeds b (stamp_in (slot_at page place)) ≡ u → slot_is_newer b (slot_at page place) ≡ (t && u)
   newer_by t u e f = ap (λ (x : Bool). x && exceeds b (stamp_in (slot_at page place))) e ∙ ap (λ (x : Bool). t && x) f
 
   -- a record that is newer
-  pub going_newer : is_record (slot_at page place) ≡ true → is_skipped (slot_at page place) ≡ false → exceeds b (stamp_in (slot_at page place)) ≡ true
+  pub going_newer : reads_as_row (slot_at page place) ≡ true → is_skipped (slot_at page place) ≡ false → exceeds b (stamp_in (slot_at page place)) ≡ true
       → Going a all (rows ++ slot_at page place ∷ []) (stamp_in (slot_at page place)) n (slots_in_page (place + 1) page)
   going_newer e s f =
       let z : n + 0 ≡ n = omega arith in
@@ -52,15 +53,15 @@ module _ (a : Option CivilMinute) (all rows : List (List ℕ)) (b : Option Civil
   going_past e s = let z : n + 0 ≡ n = omega arith in subst (λ m. Going a all rows b m (slots_in_page (place + 1) page)) z (passed false e s)
 
   -- a slot that is skipped
-  pub going_skipped : is_record (slot_at page place) ≡ false → is_skipped (slot_at page place) ≡ true → Going a all rows b (n + 1) (slots_in_page (place + 1) page)
+  pub going_skipped : reads_as_row (slot_at page place) ≡ false → is_skipped (slot_at page place) ≡ true → Going a all rows b (n + 1) (slots_in_page (place + 1) page)
   going_skipped e s = passed true (newer_by false (exceeds b (stamp_in (slot_at page place))) e refl) s
 
   -- a record that is not newer
-  pub older : is_record (slot_at page place) ≡ true → exceeds b (stamp_in (slot_at page place)) ≡ false → slot_is_newer b (slot_at page place) ≡ false
+  pub older : reads_as_row (slot_at page place) ≡ true → exceeds b (stamp_in (slot_at page place)) ≡ false → slot_is_newer b (slot_at page place) ≡ false
   older e f = newer_by true false e f
 
   -- no record
-  pub no_record : is_record (slot_at page place) ≡ false → slot_is_newer b (slot_at page place) ≡ false
+  pub no_record : reads_as_row (slot_at page place) ≡ false → slot_is_newer b (slot_at page place) ≡ false
   no_record e = newer_by false (exceeds b (stamp_in (slot_at page place))) e refl
 
 -- the same, by other names
@@ -90,7 +91,7 @@ within_self (Some a) = no_less (minute_of a)
 
 rises_by : (b a : Option CivilMinute) (s : List ℕ) (ss : List (List ℕ)) → StampIsWithin b a → (t : Bool) → slot_is_newer a s ≡ t → Rises stamp_in (stamp_in s) (rising (stamp_in s) ss) → Rises stamp_in b (rising a ss)
     → Rises stamp_in b (one_if t s ++ rising (last_if t a s) ss)
-rises_by b a s ss le true e one two = (exceeds_within b a (stamp_in s) le (and_parts (is_record s) (exceeds a (stamp_in s)) e).1, one)
+rises_by b a s ss le true e one two = (exceeds_within b a (stamp_in s) le (and_parts (reads_as_row s) (exceeds a (stamp_in s)) e).1, one)
 rises_by b a s ss le false e one two = two
 
 -- the records rise over each stamp that is not above the one that they exceed

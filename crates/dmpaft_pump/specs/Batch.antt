@@ -3,9 +3,10 @@ use Rattle.std.specs.Prelude.{◌≢◌, ℕ, zero, suc, ◌+◌, ◌-◌, Bool,
 use Rattle.station_base.specs.CivilMinute.{CivilMinute}
 use Rattle.vantage_frames.specs.Slots.{slot_at}
 use Rattle.archive_record.specs.Reading.{stamp_in}
+use Rattle.archive_record.specs.Record.{reads_as_row}
 use Rattle.causes.specs.declared.stored.Stored.{Stored}
 use Rattle.station_base.specs.LastStamp.{exceeds}
-use Rattle.dmpaft_pump.specs.Slot.{is_record, is_skipped}
+use Rattle.dmpaft_pump.specs.Slot.{is_skipped}
 use Rattle.dmpaft_pump.specs.Keeper.{Handed, one_batch}
 
 -- so many slots of a page, from a place on
@@ -17,9 +18,9 @@ slots_from (suc left) place page = slot_at page place ∷ slots_from left (place
 abbrev pub slots_in_page : ℕ → List ℕ → List (List ℕ)
 slots_in_page place page = slots_from (5 - place) place page
 
--- whether a slot holds a record whose stamp exceeds the last one
+-- whether a slot reads as a row, and its stamp exceeds the last one
 abbrev pub slot_is_newer : Option CivilMinute → List ℕ → Bool
-slot_is_newer last slot = is_record slot && exceeds last (stamp_in slot)
+slot_is_newer last slot = reads_as_row slot && exceeds last (stamp_in slot)
 
 -- the slot, or none
 abbrev pub one_if : Bool → List ℕ → List (List ℕ)

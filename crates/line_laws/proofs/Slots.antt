@@ -7,12 +7,10 @@ use Rattle.crc_ccitt.specs.Check.{check_bytes}
 use Rattle.station_base.specs.CivilMinute.{CivilMinute}
 use Rattle.vantage_frames.specs.Slots.{slot_at}
 use Rattle.archive_record.specs.Reading.{stamp_in, reading}
-use Rattle.archive_record.specs.Record.{IsRow, ReadsAsRow}
-use Rattle.archive_record.specs.declared.record_read.RecordRead.{RecordRead}
-use Rattle.archive_record.specs.declared.record_read.RecordRead.TheVariants.{Row as ReadRow, Empty, OtherRevision, BadStamp}
+use Rattle.archive_record.specs.Record.{ReadsAsRow, reads_as_row}
+use Rattle.archive_record.proofs.Rows.{reads_row}
 use Rattle.console_ring.specs.declared.plan.Plan.{Plan}
 use Rattle.console_ring.specs.Picture.{ring_slot, slot_on, slots_before, shown, last_number_in, page_of}
-use Rattle.dmpaft_pump.specs.Slot.{is_row, is_record}
 use Rattle.station_base.specs.LastStamp.{exceeds}
 use Rattle.console_ring.specs.History.{ring_pages}
 use Rattle.dmpaft_pump.specs.Batch.{slots_from, slots_in_page, slot_is_newer, one_if, last_if, rising, all_slots}
@@ -154,13 +152,7 @@ good_drop zero xs a = a
 good_drop (suc n) [] a = a
 good_drop (suc n) (x ∷ xs) a = good_drop n xs a.1
 
-row_is : (x : RecordRead) → IsRow x → is_row x ≡ true
-row_is (ReadRow row) h = refl
-row_is Empty h = absurd h
-row_is (OtherRevision n) h = absurd h
-row_is (BadStamp d t) h = absurd h
-
-unwritten_is : is_record (replicate 52 255) ≡ false
+unwritten_is : reads_as_row (replicate 52 255) ≡ false
 unfolding reading
 unwritten_is = refl
 
@@ -168,7 +160,7 @@ newer_none : (a : Option CivilMinute) → slot_is_newer a (replicate 52 255) ≡
 newer_none a = ap (λ t. t && exceeds a (stamp_in (replicate 52 255))) unwritten_is
 
 newer_some : (a : Option CivilMinute) (r : List ℕ) → ReadsAsRow r → slot_is_newer a r ≡ nat_lt (level a) (level_of r)
-newer_some a r row = ap (λ t. t && exceeds a (stamp_in r)) (row_is (reading r 1) row) ∙ exceeds_level a (stamp_in r) ∙ ap (λ n. nat_lt (level a) n) (sym (level_is r))
+newer_some a r row = ap (λ t. t && exceeds a (stamp_in r)) (reads_row r row) ∙ exceeds_level a (stamp_in r) ∙ ap (λ n. nat_lt (level a) n) (sym (level_is r))
 
 -- the rows that a host gathers of slots are those that climb
 pub rising_is : (a : Option CivilMinute) (os : List (Option (List ℕ))) → AreGood os → rising a (all_shown os) ≡ climbing (level a) os

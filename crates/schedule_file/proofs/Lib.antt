@@ -1,4 +1,3 @@
-pub mod Reading
 pub mod Cutting
 pub mod Spelling
 pub mod Naming

@@ -1,5 +1,4 @@
 pub mod Fates
-pub mod Rows
 pub mod InOrder
 pub mod Lists
 pub mod Pieces

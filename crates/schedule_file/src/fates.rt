@@ -1,7 +1,6 @@
 ghost use Rattle.std.specs.Prelude.{◌≡◌, ◌≤◌, true, vec_len};
-ghost use Rattle.archive_record.specs.Record.{IsRecord};
+ghost use Rattle.archive_record.specs.Record.{IsRecord, reads_as_row};
 ghost use Rattle.schedule_file.specs.InOrder.{is_in_order};
-ghost use Rattle.schedule_file.specs.Rows.{reads_as_row};
 
 use crate::fate::Fate;
 use archive_record::Rec52;

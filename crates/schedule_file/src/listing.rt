@@ -67,7 +67,7 @@ impl Fates {
     }
 
     /// A record that falls due after the host's message of a number, which is not below that of the one before.
-    #[tactic(auto, using(crate::proofs::Reading::reads_row, crate::proofs::InOrder::last_mid))]
+    #[tactic(auto, using(archive_record::proofs::Rows::reads_row, crate::proofs::InOrder::last_mid))]
     pub fn mid(&mut self, number: u32, rec: Rec52) -> Result<(), OutOfMemory>
         requires first { 1 ≤ number }
         requires few { vec_len self.old.mids < MOST_MIDS }

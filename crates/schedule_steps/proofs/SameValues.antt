@@ -14,7 +14,7 @@ use Rattle.archive_record.specs.Reading.{reading}
 use Rattle.archive_record.specs.Record.{IsRecord}
 use Rattle.archive_record.specs.Table.{places, field_places}
 use Rattle.archive_record.proofs.Once.{raw_stays}
-use Rattle.archive_record.proofs.Rows.{row_parts, parts_row, reads_as_row}
+use Rattle.archive_record.proofs.Rows.{row_parts, parts_row, reads_this_row}
 use Rattle.archive_record.specs.MovedOn.{minute_numbered, with_stamp}
 use Rattle.archive_record.proofs.Stamping.{row_of, record_given, revision_given, stamp_given}
 use Rattle.schedule_steps.specs.Runs.{next_record, run_records, IsRun, ReadsLater}
@@ -58,7 +58,7 @@ moved_reads period rec row next size is moved =
     let parts = row_parts rec row at in
     let given = with_stamp next rec in
     let values = values_kept next rec places all_behind ∙ parts.values in
-    let read = parts_row given (later_row row next) (record_given next rec size).long (revision_given next rec (reads_as_row rec row at)) (stamp_given next rec moved.civil) values parts.unlimited in
+    let read = parts_row given (later_row row next) (record_given next rec size).long (revision_given next rec (reads_this_row rec row at)) (stamp_given next rec moved.civil) values parts.unlimited in
     ap (λ (r : List ℕ). reading r period) moved.is ∙ ap (reading given) (sym interval) ∙ read
 
 pub run_reads : (period count place : ℕ) (first : List ℕ) (row : Row) → IsRecord first → reading first period ≡ ReadRow row → IsRun period first count → place < count

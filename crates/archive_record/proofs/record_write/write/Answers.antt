@@ -3,7 +3,7 @@ use Rattle.std.proofs.lemmas.Bool.{false≢true}
 use Rattle.archive_record.specs.Writing.{TellsRow}
 use Rattle.archive_record.proofs.Back.{told_can_all}
 use Rattle.archive_record.proofs.Holding.{can_hold_all-decides, can_tell-holds}
-use Rattle.archive_record.proofs.Rows.{reads_as_row, row_parts}
+use Rattle.archive_record.proofs.Rows.{reads_this_row, row_parts}
 use Rattle.archive_record.proofs.Written.{tells_made, tells_read, read_tells, tells_once}
 use Rattle.archive_record.proofs.record_write.write.Goals as goal
 
@@ -34,7 +34,7 @@ new-requires c =
     tells_made c.put_word.new.bytes c.put_word-2.new.bytes c.put_values.new.bytes row c.date_word.result c.time_word.result
     c.date_word.ensures.word c.time_word.ensures revision c.put_word.ensures.word c.put_word-2.ensures.word c.put_word-2.ensures.others
     c.in_ok-put_values.ensures.others c.in_ok-put_values.ensures.values in
-    reads_as_row c.put_values.new.bytes row (tells_read c.put_values.new.bytes row c.put_values.array_long c.date_word.ensures.civil (search rules) tells)
+    reads_this_row c.put_values.new.bytes row (tells_read c.put_values.new.bytes row c.put_values.array_long c.date_word.ensures.civil (search rules) tells)
 
 pub returns-clause-read_back : goal.returns-clause-read_back
 returns-clause-read_back c =
