@@ -7,7 +7,6 @@ use Rattle.disk_model.specs.Medium.{Medium}
 use Rattle.gated_log.specs.declared.start.Purpose.TheVariants.{Read}
 use Rattle.query_service.specs.Lines.{lines_in}
 use Rattle.query_service.specs.Service.{ReadsFor}
-use Rattle.query_service.specs.Talk.{count_served}
 use Rattle.query_service.specs.Turns.{AnswersLines, AnswersTurns}
 use Rattle.query_service.specs.declared.service.QueryEnd.{QueryEnd}
 use Rattle.query_service.specs.declared.service.QueryEnd.TheVariants as query_end
@@ -24,7 +23,7 @@ use Rattle.serial_link.specs.declared.link.Side.TheVariants.{Serve}
 use Rattle.serial_link.specs.declared.talk.TalkItem.{TalkItem}
 use Rattle.station_base.specs.declared.row.Row.{Row}
 use Rattle.wake_retry.specs.Bounds.{said}
-use Rattle.wake_retry.specs.Parts.{heard}
+use Rattle.wake_retry.specs.Parts.{heard, count_met}
 use Rattle.weather_book.specs.Book.{BookStandsFor}
 use Rattle.weather_book.specs.Stands.{ReadsRows}
 use Rattle.weather_book.specs.declared.book.Book.{Book}
@@ -57,8 +56,8 @@ pub record requests_answered {L D : Type 0} (traffic : Traffic L) (medium : Medi
 -- In each of so many turns a wait passed or up to 256 bytes were heard. Where the disk tells its bytes what was said are
 -- the answers, by these rows, to the lines that were heard: to all, or up to a fault to some in front.
 pub record AnswersRows (rows : List Row) (told : Type 0) (end : QueryEnd) (turns lines : ℕ) (t : List TalkItem) : Type 0 where
-  pub most : count_served t ≤ 256 * turns
-  pub least : end ≡ query_end.Done → turns ≤ count_served t
+  pub most : count_met t ≤ 256 * turns
+  pub least : end ≡ query_end.Done → turns ≤ count_met t
   pub answers : told → AnswersLines end rows (lines_in (heard t)) (said t) 0 lines
 
 -- the disk tells its bytes

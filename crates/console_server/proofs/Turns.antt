@@ -13,10 +13,10 @@ use Rattle.serial_link.specs.declared.talk.TalkItem.{TalkItem}
 use Rattle.serial_link.specs.declared.talk.TalkItem.TheVariants.{Heard, Quiet}
 use Rattle.serial_link.proofs.Growing.{count_quiets-append}
 use Rattle.wake_retry.specs.Bounds.{said}
-use Rattle.wake_retry.specs.Parts.{heard}
+use Rattle.wake_retry.specs.Parts.{heard, count_met}
 use Rattle.wake_retry.proofs.Endings.{heard_both}
 use Rattle.console_server.specs.Replies.{said_items, console_after, replies}
-use Rattle.console_server.specs.Serving.{AnswersAll, IsAnsweredInPart, IsBrokenOff, OnlySays, SaysReply, ServesTurns, count_met}
+use Rattle.console_server.specs.Serving.{AnswersAll, IsAnsweredInPart, IsBrokenOff, OnlySays, SaysReply, ServesTurns}
 use Rattle.console_server.specs.declared.serving.Served.{Served}
 use Rattle.console_server.specs.declared.serving.ServeEnd.{ServeEnd}
 use Rattle.console_server.specs.declared.serving.ServeEnd.TheVariants as end

@@ -5,19 +5,15 @@ use Rattle.console_model.specs.Console as model
 use Rattle.console_model.specs.Standing.{ConsoleStandsFor}
 use Rattle.console_model.specs.declared.console.Console.{Console}
 use Rattle.serial_link.specs.Link.{IsFront}
-use Rattle.serial_link.specs.Talk.{count_quiets, message}
+use Rattle.serial_link.specs.Talk.{message}
 use Rattle.serial_link.specs.declared.talk.TalkItem.{TalkItem}
 use Rattle.serial_link.specs.declared.talk.TalkItem.TheVariants.{Said, Heard, Quiet}
 use Rattle.wake_retry.specs.Bounds.{said}
-use Rattle.wake_retry.specs.Parts.{heard}
+use Rattle.wake_retry.specs.Parts.{heard, count_met}
 use Rattle.console_server.specs.Replies.{said_items, console_after, replies}
 use Rattle.console_server.specs.declared.serving.Served.{Served}
 use Rattle.console_server.specs.declared.serving.ServeEnd.{ServeEnd}
 use Rattle.console_server.specs.declared.serving.ServeEnd.TheVariants as end
-
--- how many bytes were heard and waits passed
-abbrev pub count_met : List TalkItem → ℕ
-count_met t = length (heard t) + count_quiets t
 
 -- Both counts were raised by the bytes heard and said. In each of so many turns a wait or up to 256 bytes came.
 pub record TalkIsCounted (turns : ℕ) (old new : Served) (t : List TalkItem) : Type 0 where

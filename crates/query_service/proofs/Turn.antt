@@ -13,7 +13,7 @@ use Rattle.serial_link.specs.declared.talk.TalkItem.TheVariants.{Heard, Quiet}
 use Rattle.serial_link.proofs.Growing.{count_quiets-append, heard_waits}
 use Rattle.station_base.specs.declared.row.Row.{Row}
 use Rattle.wake_retry.specs.Bounds.{said}
-use Rattle.wake_retry.specs.Parts.{heard}
+use Rattle.wake_retry.specs.Parts.{heard, count_met}
 use Rattle.wake_retry.proofs.Endings.{heard-append}
 use Rattle.gated_log.specs.Layout.{slot_size}
 use Rattle.packed_rows.specs.Rows.{slot_total}
@@ -23,7 +23,7 @@ use Rattle.query_service.specs.Answers.{answer_to}
 use Rattle.query_service.specs.Asked.{LineAsks}
 use Rattle.query_service.specs.Lines.{lines_after}
 use Rattle.query_service.specs.Service.{ServesQueries}
-use Rattle.query_service.specs.Talk.{count_served, only_joins, only_none, said_joins}
+use Rattle.query_service.specs.Talk.{only_joins, only_none, said_joins}
 use Rattle.query_service.specs.Turns.{AnswersBytes, AnswersLine, AnswersLines, AnswersTurns, AnsweringBreaksOff, IsAnswer, ServesFrom, TakesTurns}
 use Rattle.query_service.specs.declared.service.QueryEnd.{QueryEnd}
 use Rattle.query_service.specs.declared.service.QueryEnd.TheVariants.{Done, LinkFault, DiskFault, OutOfMemory}
@@ -158,7 +158,7 @@ module _ {D : Type 0} (medium : Medium D) (book : Book) where
       let all : heard (s ++ t) ≡ bytes =
       heard-append s t ∙ (ap (λ (l : List ℕ). l ++ heard t) came ∙ (ap (λ (l : List ℕ). bytes ++ l) one.only.0 ∙ append-nil bytes)) in
       let texts : said (s ++ t) ≡ said t = said_joins s t ∙ ap (λ (l : List ℕ). l ++ said t) (ap said is ∙ heard_said bytes) in
-      let met : count_served (s ++ t) ≡ length bytes = omega (arith, ap length all, count_quiets-append s t, waits, one.only.1) in
+      let met : count_met (s ++ t) ≡ length bytes = omega (arith, ap length all, count_quiets-append s t, waits, one.only.1) in
       record {
         most = omega (arith, met, few);
         least = λ _. omega (arith, met, some);
@@ -173,7 +173,7 @@ module _ {D : Type 0} (medium : Medium D) (book : Book) where
       → TakesTurns medium book disk end all before after a c (s ++ t)
   turns_join disk later end turns all before now after a b c s t stays within whole one two =
       let came = heard-append s t in
-      let met : count_served (s ++ t) ≡ count_served s + count_served t =
+      let met : count_met (s ++ t) ≡ count_met s + count_met t =
       omega (arith, ap length came, length-append (heard s) (heard t), count_quiets-append s t) in
       record {
         most = omega (arith, met, one.most, two.most, within);

@@ -1,5 +1,5 @@
 -- A talk in which bytes are only said.
-use Rattle.std.specs.Prelude.{ℕ, ◌≡◌, ◌+◌, List, [], ◌∷◌, ◌++◌, length}
+use Rattle.std.specs.Prelude.{ℕ, ◌≡◌, List, [], ◌∷◌, ◌++◌}
 use Rattle.std.proofs.Common.{refl, ap, ◌∙◌, arith}
 use Rattle.serial_link.specs.Talk.{count_quiets}
 use Rattle.serial_link.specs.declared.talk.TalkItem.{TalkItem}
@@ -8,10 +8,6 @@ use Rattle.serial_link.proofs.Growing.{count_quiets-append}
 use Rattle.wake_retry.specs.Bounds.{said}
 use Rattle.wake_retry.specs.Parts.{heard}
 use Rattle.wake_retry.proofs.Endings.{heard-append}
-
--- how many bytes were heard and waits passed
-abbrev pub count_served : List TalkItem → ℕ
-count_served t = length (heard t) + count_quiets t
 
 -- nothing is heard in it, and no wait passes
 abbrev pub TalkOnlySays : List TalkItem → Type 0

@@ -6,13 +6,13 @@ use Rattle.disk_model.specs.Medium.{Medium}
 use Rattle.serial_link.specs.declared.talk.TalkItem.{TalkItem}
 use Rattle.station_base.specs.declared.row.Row.{Row}
 use Rattle.wake_retry.specs.Bounds.{said}
-use Rattle.wake_retry.specs.Parts.{heard}
+use Rattle.wake_retry.specs.Parts.{heard, count_met}
 use Rattle.weather_book.specs.Stands.{StandsToReadOn}
 use Rattle.weather_book.specs.declared.book.Book.{Book}
 use Rattle.query_service.specs.Answers.{answer_to}
 use Rattle.query_service.specs.Asked.{LineAsks}
 use Rattle.query_service.specs.Lines.{lines_after, lines_in, rest_after}
-use Rattle.query_service.specs.Talk.{TalkOnlySays, count_served}
+use Rattle.query_service.specs.Talk.{TalkOnlySays}
 use Rattle.query_service.specs.declared.request.Request.{Request}
 use Rattle.query_service.specs.declared.service.QueryEnd.{QueryEnd}
 use Rattle.query_service.specs.declared.service.QueryEnd.TheVariants.{Done, LinkFault, DiskFault, OutOfMemory}
@@ -57,8 +57,8 @@ AnswersLines OutOfMemory rows lines bytes old new = AnsweringBreaksOff rows line
 -- turns a wait passed, or up to 256 bytes were heard.
 pub record AnswersTurns {D : Type 0} (medium : Medium D) (book : Book) (disk : D) (end : QueryEnd) (turns lines : ℕ)
     (t : List TalkItem) : Type 0 where
-  pub most : count_served t ≤ 256 * turns
-  pub least : end ≡ Done → turns ≤ count_served t
+  pub most : count_met t ≤ 256 * turns
+  pub least : end ≡ Done → turns ≤ count_met t
   pub answers : WhereRead medium book disk (λ rows. AnswersLines end rows (lines_in (heard t)) (said t) 0 lines)
 
 -- The same where a line has begun, of which up to 65 bytes are held. So are they of the one that has begun afterwards.
@@ -75,8 +75,8 @@ ServesFrom medium book disk end came bytes before after old new =
 -- so many turns were taken
 pub record TakesTurns {D : Type 0} (medium : Medium D) (book : Book) (disk : D) (end : QueryEnd) (turns : ℕ)
     (before after : List ℕ) (old new : ℕ) (t : List TalkItem) : Type 0 where
-  pub most : count_served t ≤ 256 * turns
-  pub least : end ≡ Done → turns ≤ count_served t
+  pub most : count_met t ≤ 256 * turns
+  pub least : end ≡ Done → turns ≤ count_met t
   pub answers : ServesFrom medium book disk end (heard t) (said t) before after old new
 
 -- these bytes had come before
