@@ -5,6 +5,7 @@ use Rattle.serial_link.specs.Traffic.{Traffic}
 use Rattle.disk_model.specs.Medium.{Medium}
 use Rattle.causes.specs.Cause.{RoseBy}
 use Rattle.serial_link.proofs.Growing.{adds_none}
+use Rattle.wake_retry.specs.Parts.{settled_waits}
 use Rattle.station_base.specs.CivilMinute.{CivilMinute}
 use Rattle.station_base.specs.declared.row.Row.{Row}
 use Rattle.settings_file.specs.StationSettings.{StationSettings}
@@ -152,7 +153,7 @@ module _ {L D : Type 0} {traffic : Traffic L} {medium : Medium D} where
       rose = λ e. chain_rose medium old.settings (holding b disk marks) (all_batches (last_stamp_of b) made.tries) (holding b' disk' report.marks.items) (last ∙ ap answer_at e) made.chain;
     }
 
-    pub waited : end ≡ round.GaveUp → RoseBy (6 * most_attempts) (traffic.quiets link) (traffic.quiets link')
+    pub waited : end ≡ round.GaveUp → RoseBy (settled_waits * most_attempts) (traffic.quiets link) (traffic.quiets link')
     waited e = let n = gave_up_quiets 0 (last_stamp_of b) made.tries end e made.attempts in let w = made.adds.waits in omega (arith, n, w)
 
     pub stale_is : book_is_stale b' ≡ stale_with end (book_is_stale old.book)
