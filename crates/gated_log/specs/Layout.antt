@@ -5,6 +5,10 @@ use Rattle.std.specs.Prelude.{ℕ, ◌+◌}
 abbrev pub slot_size : ℕ
 slot_size = 176
 
+-- the slots of a batch, at most
+abbrev pub most_in_a_batch : ℕ
+most_in_a_batch = 70
+
 -- the bytes of an archive without slots: the head and a closed gate
 abbrev pub empty_size : ℕ
 empty_size = slot_size + 1

@@ -3,7 +3,7 @@ ghost use Rattle.causes.specs.Told.{WhereTold};
 ghost use Rattle.disk_model.specs.Disk.{Stays, Faults, OnDone};
 ghost use Rattle.gated_log.specs.Calls.{Looked};
 ghost use Rattle.gated_log.specs.GatedLog.{slot_count};
-ghost use Rattle.gated_log.specs.Layout.{slot_size};
+ghost use Rattle.gated_log.specs.Layout.{slot_size, most_in_a_batch};
 ghost use Rattle.weather_book.specs.Pieces.{AreSlotsOf, did_fail};
 
 use disk_model::{Disk, Disked};
@@ -43,7 +43,7 @@ impl Piece {
     ) -> Disked
         requires within { n < slot_count log.now }
         requires order { self.old.first ≤ n }
-        requires few { self.old.held ≤ 70 }
+        requires few { self.old.held ≤ most_in_a_batch }
         ensures file { OnDone result
             (WhereTold (D.medium.seen disk.old) (λ c. AreSlotsOf self.old.held self.old.first self.old.bytes c
             → slot.new ≡ take slot_size (drop (slot_size * (n + 1)) c))) }
@@ -51,7 +51,7 @@ impl Piece {
             (WhereTold (D.medium.seen disk.old) (λ c. AreSlotsOf self.old.held self.old.first self.old.bytes c
             → AreSlotsOf self.new.held self.new.first self.new.bytes c)) }
         ensures order { OnDone result (self.new.first ≤ n) }
-        ensures few { OnDone result (self.new.held ≤ 70) }
+        ensures few { OnDone result (self.new.held ≤ most_in_a_batch) }
         ensures stays { Stays D.medium disk.old disk.new }
         ensures cause { Faults D.medium disk.old disk.new (result ≡ Disked.Failed) }
         ensures went { (len : ℕ) → slot_size * (slot_count log.now + 1) ≤ len
@@ -76,7 +76,7 @@ impl Piece {
 fn most_from(log: &GatedLog, n: u64) -> usize
     requires { n < slot_count log.now }
     ensures some { 1 ≤ result }
-    ensures most { result ≤ 70 }
+    ensures most { result ≤ most_in_a_batch }
     ensures within { n + result ≤ slot_count log.now }
 {
     let left = log.slots() - n;
