@@ -5,7 +5,7 @@ use Rattle.std.proofs.lemmas.Bool.Decides.{nat_tests}
 use Rattle.std.proofs.lemmas.List.{ext_get_or, get_or-map}
 use Rattle.archive_record.specs.declared.kind.Kind.TheVariants.{Byte}
 use Rattle.archive_record.specs.Kind.{word_at}
-use Rattle.archive_record.specs.Place.{value_in}
+use Rattle.archive_record.specs.Place.{value_in, record_size}
 use Rattle.archive_record.specs.Reading.{record_values}
 use Rattle.archive_record.specs.Record.{IsRecord}
 use Rattle.archive_record.specs.Table.{place, field_places, places, place_of}
@@ -23,7 +23,7 @@ covers i =
     let field = owner 37 i in
     nat_lt i 4 || (nat_eq i 42 || (nat_lt field 37 && (nat_le (place_of field).offset i && nat_lt i (end_of (place_of field)))))
 
-all_covered : all_below 52 covers ≡ true
+all_covered : all_below record_size covers ≡ true
 unfolding all_below covers owner places field_places
 all_covered = refl
 
@@ -41,10 +41,10 @@ le_of m n test = grind (arith, nat_tests)
 eq_of : (m n : ℕ) → nat_eq m n ≡ true → m ≡ n
 eq_of m n test = grind (arith, nat_tests)
 
-covered : (i : ℕ) → i < 52 → (i < 4) ⊎ ((i ≡ 42) ⊎ IsOfField i (owner 37 i))
+covered : (i : ℕ) → i < record_size → (i < 4) ⊎ ((i ≡ 42) ⊎ IsOfField i (owner 37 i))
 unfolding covers
 covered i within =
-    elim (or_parts _ _ (all_below-at 52 covers i all_covered within)) [
+    elim (or_parts _ _ (all_below-at record_size covers i all_covered within)) [
       | inl stamp ↦ inl (lt_of i 4 stamp)
       | inr rest ↦ elim (or_parts _ _ rest) [
         | inl revision ↦ inr (inl (eq_of i 42 revision))

@@ -7,6 +7,7 @@ use Rattle.archive_record.specs.declared.record_read.RecordRead.{RecordRead}
 use Rattle.archive_record.specs.declared.record_read.RecordRead.TheVariants.{Row as ReadRow, Empty, OtherRevision, BadStamp}
 use Rattle.archive_record.specs.Reading.{is_unwritten, stamp_in, record_values, dated, reading}
 use Rattle.archive_record.specs.Record.{IsRow, ReadsAsRow, is_row, reads_as_row}
+use Rattle.archive_record.specs.Place.{record_size}
 
 -- bytes read as a row just if they pass the test
 row_passes : (x : RecordRead) → IsRow x → is_row x ≡ true
@@ -56,7 +57,7 @@ row_parts bytes row is =
     record { known = parts.0; stamp = parts.1; values = parts.2; unlimited = parts.3 }
 
 -- a slot that was never written has no record of revision B
-written : (bytes : List ℕ) → length bytes ≡ 52 → slice_index bytes 42 ≡ 0 → is_unwritten bytes ≡ false
+written : (bytes : List ℕ) → length bytes ≡ record_size → slice_index bytes 42 ≡ 0 → is_unwritten bytes ≡ false
 written bytes long revision =
     list_all_at (λ byte. byte == 255) bytes 42 0 (omega arith) (ap (λ byte. byte == 255) revision)
 
@@ -77,7 +78,7 @@ chosen_row unwritten known stamp bytes row u k s v l =
     rw (u, k, s) (ap (λ r. ReadRow r) (same_row row.stamp row.interval (record_values bytes) row refl refl v l))
 
 -- bytes with the parts of a row read as that row
-pub parts_row : (bytes : List ℕ) (row : Row) → length bytes ≡ 52 → slice_index bytes 42 ≡ 0 → stamp_in bytes ≡ Some row.stamp → record_values bytes ≡ row.values → row.limited ≡ 0 →
+pub parts_row : (bytes : List ℕ) (row : Row) → length bytes ≡ record_size → slice_index bytes 42 ≡ 0 → stamp_in bytes ≡ Some row.stamp → record_values bytes ≡ row.values → row.limited ≡ 0 →
     reading bytes row.interval ≡ ReadRow row
 unfolding chosen reading made
 parts_row bytes row long revision stamp values unlimited =
@@ -132,7 +133,7 @@ unfolding chosen reading
 row_at bytes interval row = row_at_by (is_unwritten bytes) (slice_index bytes 42 == 0) (stamp_in bytes) bytes interval row
 
 -- bytes of revision B with a stamp read as a row
-pub row_with : (bytes : List ℕ) (stamp : CivilMinute) → length bytes ≡ 52 → slice_index bytes 42 ≡ 0 → stamp_in bytes ≡ Some stamp → ReadsAsRow bytes
+pub row_with : (bytes : List ℕ) (stamp : CivilMinute) → length bytes ≡ record_size → slice_index bytes 42 ≡ 0 → stamp_in bytes ≡ Some stamp → ReadsAsRow bytes
 unfolding made
 row_with bytes stamp long revision is =
     reads_this_row bytes (made stamp 1 (record_values bytes)) (parts_row bytes (made stamp 1 (record_values bytes)) long revision is refl refl)

@@ -6,7 +6,7 @@ use Rattle.std.proofs.lemmas.Bool.{and_parts, cases_lt, false≢true}
 use Rattle.std.proofs.lemmas.List.{get_or_default}
 use Rattle.archive_record.specs.declared.place.Place.{Place}
 use Rattle.archive_record.specs.Kind.{width_of}
-use Rattle.archive_record.specs.Place.{IsPlace}
+use Rattle.archive_record.specs.Place.{IsPlace, record_size}
 use Rattle.archive_record.specs.Table.{place, field_places, places, place_of}
 use Rattle.archive_record.specs.declared.kind.Kind.TheVariants.{Byte}
 
@@ -39,7 +39,7 @@ mark_fits (Some mark) width = nat_lt mark (256 ^ width)
 fits : ℕ → Bool
 fits field =
     let place = place_of field in
-    nat_le 4 place.offset && nat_le (end_of place) 52 && mark_fits place.mark (width_of place.kind)
+    nat_le 4 place.offset && nat_le (end_of place) record_size && mark_fits place.mark (width_of place.kind)
     && (nat_le (end_of place) 42 || nat_le 43 place.offset)
 
 all_fit : all_below 37 fits ≡ true
@@ -61,7 +61,7 @@ mark_raw (Some mark) width fit raw is =
     let P : ℕ → Type 0 = λ n. n < 256 ^ width in subst P same small
 
 fit_parts : (field : ℕ) → field < 37 → let place = place_of field in
-    (nat_le 4 place.offset ≡ true) × (nat_le (end_of place) 52 ≡ true) × (mark_fits place.mark (width_of place.kind) ≡ true)
+    (nat_le 4 place.offset ≡ true) × (nat_le (end_of place) record_size ≡ true) × (mark_fits place.mark (width_of place.kind) ≡ true)
     × ((nat_le (end_of place) 42 || nat_le 43 place.offset) ≡ true)
 unfolding fits
 fit_parts field within = parts_of _ _ _ _ (all_below-at 37 fits field all_fit within)

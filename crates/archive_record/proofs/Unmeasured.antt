@@ -4,6 +4,7 @@ use Rattle.std.specs.List.{list_all}
 use Rattle.std.proofs.lemmas.Bool.{and_parts}
 use Rattle.std.proofs.lemmas.Bool.Decides.{nat_tests}
 use Rattle.archive_record.specs.Record.{IsRecord}
+use Rattle.archive_record.specs.Place.{record_size}
 
 lt_of : (byte : ℕ) → nat_lt byte 256 ≡ true → byte < 256
 lt_of byte test = grind (arith, nat_tests)
@@ -14,5 +15,5 @@ all_small (byte ∷ bytes) test zero = (let small = (and_parts (nat_lt byte 256)
 all_small (byte ∷ bytes) test (suc i) = all_small bytes (and_parts (nat_lt byte 256) (list_all (λ b. nat_lt b 256) bytes) test).1 i
 
 -- a list that a test finds to be a record
-pub is_record : (bytes : List ℕ) → length bytes ≡ 52 → list_all (λ byte. nat_lt byte 256) bytes ≡ true → IsRecord bytes
+pub is_record : (bytes : List ℕ) → length bytes ≡ record_size → list_all (λ byte. nat_lt byte 256) bytes ≡ true → IsRecord bytes
 is_record bytes long test = record { long = long; small = all_small bytes test }

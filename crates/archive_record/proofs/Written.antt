@@ -12,6 +12,7 @@ use Rattle.archive_record.specs.Record.{IsRecord}
 use Rattle.archive_record.specs.Writing.{TellsRow}
 use Rattle.archive_record.proofs.Cover.{same_record}
 use Rattle.archive_record.proofs.Rows.{row_parts, parts_row}
+use Rattle.archive_record.specs.Place.{record_size}
 
 -- words stay where the bytes of the stamp stay
 pub words_stay : (old new : List ℕ) → ((i : ℕ) → (i < 4) ⊎ (i ≡ 42) → slice_index new i ≡ slice_index old i) →
@@ -23,7 +24,7 @@ words_stay old new same = (
 )
 
 -- what tells a row reads as the row
-pub tells_read : (bytes : List ℕ) (row : Row) → length bytes ≡ 52 → IsCivilMinute row.stamp → row.limited ≡ 0 → TellsRow bytes row → reading bytes row.interval ≡ ReadRow row
+pub tells_read : (bytes : List ℕ) (row : Row) → length bytes ≡ record_size → IsCivilMinute row.stamp → row.limited ≡ 0 → TellsRow bytes row → reading bytes row.interval ≡ ReadRow row
 tells_read bytes row long civil unlimited tells =
     let stamp : stamp_in bytes ≡ Some row.stamp = rw (tells.date, tells.time) (stamp_of_words-of row.stamp civil) in
     parts_row bytes row long tells.revision stamp tells.values unlimited

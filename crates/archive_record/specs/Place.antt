@@ -38,8 +38,12 @@ can_hold place (Some value) =
     int_le (least_of_kind place.kind) value && int_le value (greatest_of_kind place.kind)
     && not (means_missing place value place.mark)
 
+-- the bytes of a record (Davis serial manual)
+abbrev pub record_size : ℕ
+record_size = 52
+
 -- a place within a record, behind the stamp, whose mark has room in it
 pub record IsPlace (place : Place) : Type 0 where
   pub from : 4 ≤ place.offset
-  pub to : place.offset + width_of place.kind ≤ 52
+  pub to : place.offset + width_of place.kind ≤ record_size
   pub mark : ForSome place.mark (IsRaw place.kind)

@@ -9,6 +9,7 @@ use Rattle.archive_record.specs.declared.record_read.RecordRead.{RecordRead}
 use Rattle.archive_record.specs.declared.record_read.RecordRead.TheVariants.{Row as ReadRow, Empty}
 use Rattle.archive_record.specs.declared.record_read.RecordRead.TheVariants.{OtherRevision, BadStamp}
 use Rattle.archive_record.specs.Reading.{reading}
+use Rattle.archive_record.specs.Place.{record_size}
 
 -- the reading is a row
 abbrev pub IsRow : RecordRead → Type 0
@@ -47,7 +48,7 @@ abbrev pub unmeasured_row : Row
 unmeasured_row =
     record { stamp = first_minute; interval = 1; values = map (λ place. unmeasured place.mark) places; limited = 0 }
 
--- fifty-two bytes
+-- the bytes of a record
 pub record IsRecord (bytes : List ℕ) : Type 0 where
-  pub long : length bytes ≡ 52
+  pub long : length bytes ≡ record_size
   pub small : AreBytes bytes

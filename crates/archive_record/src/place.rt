@@ -1,5 +1,6 @@
 ghost use Rattle.std.specs.Prelude.{◌≡◌, ◌+◌, ◌<◌, ◌≤◌, ◌↔◌, ◌⊎◌, ℕ, IsSome, IfSome, slice_index};
 ghost use Rattle.archive_record.specs.Kind.{IsRaw, raw_at, width_of, word_at};
+ghost use Rattle.archive_record.specs.Place.{record_size};
 
 use crate::kind::Kind;
 
@@ -64,7 +65,7 @@ impl Place {
 
 /// The two bytes at an offset as one number, the low one first.
 pub fn word_at(bytes: &[u8; RECORD_SIZE], offset: usize) -> u16
-    requires { offset + 2 ≤ 52 }
+    requires { offset + 2 ≤ record_size }
     ensures { result ≡ word_at bytes.now offset }
 {
     u16::from_le_bytes([bytes[offset], bytes[offset + 1]])
@@ -72,7 +73,7 @@ pub fn word_at(bytes: &[u8; RECORD_SIZE], offset: usize) -> u16
 
 /// Writes a number as two bytes, the low one first.
 pub fn put_word(bytes: &mut [u8; RECORD_SIZE], offset: usize, word: u16)
-    requires { offset + 2 ≤ 52 }
+    requires { offset + 2 ≤ record_size }
     ensures word { word_at bytes.new offset ≡ word }
     ensures others { (i : ℕ) → (i < offset) ⊎ (offset + 2 ≤ i) → slice_index bytes.new i ≡ slice_index bytes.old i }
 {

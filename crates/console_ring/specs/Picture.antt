@@ -4,6 +4,7 @@
 use Rattle.std.specs.Prelude.{ℕ, ◌≡◌, ◌<◌, ◌≤◌, zero, suc, ◌+◌, ◌-◌, ◌*◌, ◌/◌, ◌%◌, List, [], ◌∷◌, ◌++◌}
 use Rattle.std.specs.Prelude.{length, replicate, if◌then◌else◌, nat_lt, slice_get, position, Some, None}
 use Rattle.std.specs.declared.option.Option.{Option}
+use Rattle.archive_record.specs.Place.{record_size}
 use Rattle.crc_ccitt.specs.Check.{sealed}
 use Rattle.console_ring.specs.declared.plan.Plan.{Plan}
 use Rattle.console_ring.specs.History.{retained, record_is_newer, ring_size, ring_pages}
@@ -25,7 +26,7 @@ ring_slot history slot =
 
 -- the bytes of a slot, all 0xFF where none was written
 abbrev pub shown : Option (List ℕ) → List ℕ
-shown None = replicate 52 255
+shown None = replicate record_size 255
 shown (Some bytes) = bytes
 
 -- a dump of nothing

@@ -3,6 +3,7 @@ use Rattle.std.proofs.Common.{◌≡◌, ◌≢◌, ℕ, zero, suc, ◌+◌, ◌
 use Rattle.std.specs.Prelude.{◌==◌}
 use Rattle.std.proofs.lemmas.Bool.{eqb-true}
 use Rattle.std.proofs.Math.Seq.{take-length}
+use Rattle.archive_record.specs.Place.{record_size}
 use Rattle.station_base.specs.CivilMinute.{CivilMinute}
 use Rattle.dmpaft_pump.specs.Keeper.{kept_all}
 use Rattle.dmpaft_pump.specs.Slot.{is_skipped}
@@ -34,7 +35,7 @@ one_skipped false = omega arith
 
 skipped_few : (n place : ℕ) (page : List ℕ) → skipped (slots_from n place page) ≤ n
 skipped_few zero place page = omega arith
-skipped_few (suc n) place page = omega (arith, skipped_few n (place + 1) page, one_skipped (is_skipped (take 52 (drop (1 + 52 * place) page))))
+skipped_few (suc n) place page = omega (arith, skipped_few n (place + 1) page, one_skipped (is_skipped (take record_size (drop (1 + record_size * place) page))))
 
 pub all_few : (place : ℕ) (taken : List (List ℕ)) → all_skipped place taken ≤ 5 * length taken
 all_few place [] = omega arith

@@ -3,6 +3,7 @@ use Rattle.std.proofs.Common.{◌≡◌, ◌*◌, ℕ, zero, suc, ◌+◌, ◌�
 use Rattle.std.specs.Prelude.{bytes_eq, nat_lt, slice_get}
 use Rattle.std.proofs.lemmas.List.{length-replicate}
 use Rattle.std.proofs.lemmas.Slice.Eq.{bytes_eq-Decides}
+use Rattle.archive_record.specs.Place.{record_size}
 use Rattle.console_ring.specs.declared.plan.Plan.{Plan}
 use Rattle.console_model.specs.declared.reply.ReplyKind.{ReplyKind}
 use Rattle.console_ring.specs.Picture.{page_of, shown, ring_slot, slot_on, slots_before, last_number_in}
@@ -63,19 +64,19 @@ unharmed_page None x k sent got e ls lg g h = sym ((bytes_eq-Decides sent got).0
     go false true q r m = absurd cc
     go false false q r m = absurd cc
 
-get_long : (h : List (List ℕ)) (i : ℕ) → AreRecords h → length (shown (slice_get h i)) ≡ 52
-get_long [] i ok = length-replicate {A = ℕ} 52 255
+get_long : (h : List (List ℕ)) (i : ℕ) → AreRecords h → length (shown (slice_get h i)) ≡ record_size
+get_long [] i ok = length-replicate {A = ℕ} record_size 255
 get_long (r ∷ h) zero ok = ok.0.long
 get_long (r ∷ h) (suc i) ok = get_long h i ok.2
 
-pub slot_long : (h : List (List ℕ)) → AreRecords h → (s : ℕ) → length (shown (ring_slot h s)) ≡ 52
+pub slot_long : (h : List (List ℕ)) → AreRecords h → (s : ℕ) → length (shown (ring_slot h s)) ≡ record_size
 slot_long h ok s = go (nat_lt s (length h))
   where
-    go : (t : Bool) → length (shown (if t then slice_get h (last_number_in (length h) s) else None)) ≡ 52
+    go : (t : Bool) → length (shown (if t then slice_get h (last_number_in (length h) s) else None)) ≡ record_size
     go true = get_long h (last_number_in (length h) s) ok
-    go false = length-replicate {A = ℕ} 52 255
+    go false = length-replicate {A = ℕ} record_size 255
 
-slots_long : (slot : ℕ → List ℕ) → ((n : ℕ) → length (slot n) ≡ 52) → (n : ℕ) → length (slots_before slot n) ≡ 52 * n
+slots_long : (slot : ℕ → List ℕ) → ((n : ℕ) → length (slot n) ≡ record_size) → (n : ℕ) → length (slots_before slot n) ≡ record_size * n
 unfolding slots_before
 slots_long slot long zero = refl
 slots_long slot long (suc n) = omega (arith, length-append (slots_before slot n) (slot n), long n, slots_long slot long n)

@@ -9,6 +9,7 @@ use Rattle.vantage_frames.specs.Slots.{slot_at}
 use Rattle.archive_record.specs.Reading.{stamp_in, reading}
 use Rattle.archive_record.specs.Record.{ReadsAsRow, reads_as_row}
 use Rattle.archive_record.proofs.Rows.{reads_row}
+use Rattle.archive_record.specs.Place.{record_size}
 use Rattle.console_ring.specs.declared.plan.Plan.{Plan}
 use Rattle.console_ring.specs.Picture.{ring_slot, slot_on, slots_before, shown, last_number_in, page_of}
 use Rattle.station_base.specs.LastStamp.{exceeds}
@@ -21,8 +22,8 @@ use Rattle.line_laws.proofs.Levels.{level, level_of, level_is, exceeds_level}
 use Rattle.line_laws.proofs.Gathering.{seen_at, seen_from, pages_from, climbing}
 
 -- slot j of so many, one behind the other
-slot_among : (slot : ℕ → List ℕ) → ((n : ℕ) → length (slot n) ≡ 52) → (long : (n : ℕ) → length (slots_before slot n) ≡ 52 * n) → (n j : ℕ) → j < n → (rest : List ℕ) →
-    take 52 (drop (52 * j) (slots_before slot n ++ rest)) ≡ slot j
+slot_among : (slot : ℕ → List ℕ) → ((n : ℕ) → length (slot n) ≡ record_size) → (long : (n : ℕ) → length (slots_before slot n) ≡ record_size * n) → (n j : ℕ) → j < n → (rest : List ℕ) →
+    take record_size (drop (record_size * j) (slots_before slot n ++ rest)) ≡ slot j
 unfolding slots_before
 slot_among slot size long zero j below rest = absurd (omega arith)
 slot_among slot size long (suc n) j below rest = go (λ less. slot_among slot size long n j less (slot n ++ rest)) (cases_lt j n)
@@ -30,17 +31,17 @@ slot_among slot size long (suc n) j below rest = go (λ less. slot_among slot si
     split : (slots_before slot n ++ slot n) ++ rest ≡ slots_before slot n ++ (slot n ++ rest)
     split = append_assoc (slots_before slot n) (slot n) rest
 
-    go : ((j < n) → take 52 (drop (52 * j) (slots_before slot n ++ (slot n ++ rest))) ≡ slot j) → ((j < n) ⊎ (n ≤ j)) → take 52 (drop (52 * j) ((slots_before slot n ++ slot n) ++ rest)) ≡ slot j
-    go before (inl less) = ap (λ xs. take 52 (drop (52 * j) xs)) split ∙ before less
+    go : ((j < n) → take record_size (drop (record_size * j) (slots_before slot n ++ (slot n ++ rest))) ≡ slot j) → ((j < n) ⊎ (n ≤ j)) → take record_size (drop (record_size * j) ((slots_before slot n ++ slot n) ++ rest)) ≡ slot j
+    go before (inl less) = ap (λ xs. take record_size (drop (record_size * j) xs)) split ∙ before less
     go before (inr more) =
         let same : j ≡ n = omega arith in
-        let front : 52 * j ≡ length (slots_before slot n) = omega (arith, long n) in
-        let one : 52 ≡ length (slot n) = sym (size n) in
-        ap (λ xs. take 52 (drop (52 * j) xs)) split ∙ ap (λ m. take 52 (drop m (slots_before slot n ++ (slot n ++ rest)))) front
-        ∙ ap (λ xs. take 52 xs) (drop-append_seam (slots_before slot n) (slot n ++ rest))
+        let front : record_size * j ≡ length (slots_before slot n) = omega (arith, long n) in
+        let one : record_size ≡ length (slot n) = sym (size n) in
+        ap (λ xs. take record_size (drop (record_size * j) xs)) split ∙ ap (λ m. take record_size (drop m (slots_before slot n ++ (slot n ++ rest)))) front
+        ∙ ap (λ xs. take record_size xs) (drop-append_seam (slots_before slot n) (slot n ++ rest))
         ∙ ap (λ m. take m (slot n ++ rest)) one ∙ take-append_seam (slot n) rest ∙ ap slot (sym same)
 
-slots_long : (slot : ℕ → List ℕ) → ((n : ℕ) → length (slot n) ≡ 52) → (n : ℕ) → length (slots_before slot n) ≡ 52 * n
+slots_long : (slot : ℕ → List ℕ) → ((n : ℕ) → length (slot n) ≡ record_size) → (n : ℕ) → length (slots_before slot n) ≡ record_size * n
 unfolding slots_before
 slots_long slot long zero = refl
 slots_long slot long (suc n) = omega (arith, length-append (slots_before slot n) (slot n), long n, slots_long slot long n)
@@ -50,13 +51,13 @@ pub slot_seen : (h : List (List ℕ)) (p : Plan) (k j : ℕ) → AreRecords h �
 unfolding page_of
 slot_seen h p k j ok below =
     let slot = slot_on h p k in
-    let size : (n : ℕ) → length (slot n) ≡ 52 = λ n. slot_long h ok (5 * ((p.first_page + k) % ring_pages) + n) in
+    let size : (n : ℕ) → length (slot n) ≡ record_size = λ n. slot_long h ok (5 * ((p.first_page + k) % ring_pages) + n) in
     let body = slots_before slot 5 in
     let fill = replicate 4 255 in
     let seal = check_bytes ((k % 256) ∷ body ++ fill) in
     let all : List ℕ = (k % 256) ∷ (body ++ fill) ++ seal in
-    let past : drop (1 + 52 * j) all ≡ drop (52 * j) ((body ++ fill) ++ seal) = after (52 * j) (k % 256) ((body ++ fill) ++ seal) in
-    ap (λ xs. take 52 xs) past ∙ ap (λ xs. take 52 (drop (52 * j) xs)) (append_assoc body fill seal) ∙ slot_among slot size (slots_long slot size) 5 j below (fill ++ seal)
+    let past : drop (1 + record_size * j) all ≡ drop (record_size * j) ((body ++ fill) ++ seal) = after (record_size * j) (k % 256) ((body ++ fill) ++ seal) in
+    ap (λ xs. take record_size xs) past ∙ ap (λ xs. take record_size (drop (record_size * j) xs)) (append_assoc body fill seal) ∙ slot_among slot size (slots_long slot size) 5 j below (fill ++ seal)
   where
     after : (n x : ℕ) (xs : List ℕ) → drop (1 + n) (x ∷ xs) ≡ drop n xs
     after n x xs = let e : 1 + n ≡ suc n = omega arith in ap (λ m. drop m (x ∷ xs)) e
@@ -152,12 +153,12 @@ good_drop zero xs a = a
 good_drop (suc n) [] a = a
 good_drop (suc n) (x ∷ xs) a = good_drop n xs a.1
 
-unwritten_is : reads_as_row (replicate 52 255) ≡ false
+unwritten_is : reads_as_row (replicate record_size 255) ≡ false
 unfolding reading
 unwritten_is = refl
 
-newer_none : (a : Option CivilMinute) → slot_is_newer a (replicate 52 255) ≡ false
-newer_none a = ap (λ t. t && exceeds a (stamp_in (replicate 52 255))) unwritten_is
+newer_none : (a : Option CivilMinute) → slot_is_newer a (replicate record_size 255) ≡ false
+newer_none a = ap (λ t. t && exceeds a (stamp_in (replicate record_size 255))) unwritten_is
 
 newer_some : (a : Option CivilMinute) (r : List ℕ) → ReadsAsRow r → slot_is_newer a r ≡ nat_lt (level a) (level_of r)
 newer_some a r row = ap (λ t. t && exceeds a (stamp_in r)) (reads_row r row) ∙ exceeds_level a (stamp_in r) ∙ ap (λ n. nat_lt (level a) n) (sym (level_is r))
@@ -166,7 +167,7 @@ newer_some a r row = ap (λ t. t && exceeds a (stamp_in r)) (reads_row r row) �
 pub rising_is : (a : Option CivilMinute) (os : List (Option (List ℕ))) → AreGood os → rising a (all_shown os) ≡ climbing (level a) os
 rising_is a [] good = refl
 rising_is a (None ∷ os) good =
-    ap (λ t. one_if t (replicate 52 255) ++ rising (last_if t a (replicate 52 255)) (all_shown os)) (newer_none a) ∙ rising_is a os good.1
+    ap (λ t. one_if t (replicate record_size 255) ++ rising (last_if t a (replicate record_size 255)) (all_shown os)) (newer_none a) ∙ rising_is a os good.1
 rising_is a (Some r ∷ os) good =
     ap (λ t. one_if t r ++ rising (last_if t a r) (all_shown os)) (newer_some a r good.0)
     ∙ go (nat_lt (level a) (level_of r)) (rising_is (stamp_in r) os good.1 ∙ ap (λ n. climbing n os) (sym (level_is r))) (rising_is a os good.1)
