@@ -12,13 +12,14 @@ use Rattle.daily_summary.specs.declared.summary.DaySummary.{DaySummary}
 use Rattle.weather_reports.specs.Report.{rows_of_days}
 use Rattle.climate_table.specs.declared.climate_summary.ClimateSummary.{ClimateSummary}
 use Rattle.climate_table.specs.declared.degree_days.DegreeDays.{DegreeDays}
+use Rattle.climate_table.specs.declared.totals.Fraction.{Fraction}
 use Rattle.climate_table.specs.DegreeDays.{degrees_of}
 use Rattle.climate_table.specs.Climate.{climate_of, outsides, some_of, wet_days}
 use Rattle.climate_table.specs.Degrees.{cooling, day_summary, heating, is_wet, outside, rain}
 use Rattle.climate_table.specs.Total.{total_of, thousandths}
 
 -- the total of fractions and of more behind them
-pub total_join : (xs ys : List (ℕ × ℕ)) → total_of (xs ++ ys) ≡ total_of xs + total_of ys
+pub total_join : (xs ys : List Fraction) → total_of (xs ++ ys) ≡ total_of xs + total_of ys
 total_join [] ys = omega arith
 total_join (x ∷ xs) ys = let more = total_join xs ys in omega (arith, more)
 
@@ -47,7 +48,7 @@ wet_join rows days next =
     ∙ ap (λ (n : ℕ). length (filter p days) + n) (length_one (p next) next)
 
 -- the totals of their degree days
-pub totals_join : (f : FieldSum → ℕ × ℕ) (rows : List Row) (days : List ℤ) (next : ℤ)
+pub totals_join : (f : FieldSum → Fraction) (rows : List Row) (days : List ℤ) (next : ℤ)
     → total_of (map f (outsides rows (days ++ next ∷ [])))
     ≡ total_of (map f (outsides rows days)) + total_of (map f (some_of (outside (day_summary rows next))))
 totals_join f rows days next =
@@ -88,8 +89,8 @@ climate_join rows days next day old new was is grows sums =
 
 -- a day with an outside temperature, by its degree days
 pub with_degrees : (sum : Option FieldSum) (d : DegreeDays) → Some d ≡ option_map degrees_of sum
-    → (length (some_of sum) ≡ 1) × (total_of (map heating (some_of sum)) ≡ thousandths (d.heating, d.seconds))
-    × (total_of (map cooling (some_of sum)) ≡ thousandths (d.cooling, d.seconds))
+    → (length (some_of sum) ≡ 1) × (total_of (map heating (some_of sum)) ≡ thousandths d.heating)
+    × (total_of (map cooling (some_of sum)) ≡ thousandths d.cooling)
 with_degrees None d is = absurd cc
 with_degrees (Some s) d is =
     let e : d ≡ degrees_of s = cc in

@@ -6,14 +6,21 @@ use Rattle.station_base.specs.declared.row.Row.{Row}
 use Rattle.daily_summary.specs.Summary.{rows_of_day, summary_of}
 use Rattle.daily_summary.specs.declared.field_sum.FieldSum.{FieldSum}
 use Rattle.daily_summary.specs.declared.summary.DaySummary.{DaySummary}
+use Rattle.climate_table.specs.declared.totals.Fraction.{Fraction}
 
 -- how far the weighted sum lies below 650 for each second, over the seconds, in tenths of a degree F
-abbrev pub heating : FieldSum → ℕ × ℕ
-heating s = (unsigned_abs (int_max (pos 650 *ℤ pos s.sumtime -ℤ s.wsum) (pos 0)), s.sumtime)
+abbrev pub heating : FieldSum → Fraction
+heating s = record {
+  numerator = unsigned_abs (int_max (pos 650 *ℤ pos s.sumtime -ℤ s.wsum) (pos 0));
+  denominator = s.sumtime;
+}
 
 -- how far it lies above
-abbrev pub cooling : FieldSum → ℕ × ℕ
-cooling s = (unsigned_abs (int_max (s.wsum -ℤ pos 650 *ℤ pos s.sumtime) (pos 0)), s.sumtime)
+abbrev pub cooling : FieldSum → Fraction
+cooling s = record {
+  numerator = unsigned_abs (int_max (s.wsum -ℤ pos 650 *ℤ pos s.sumtime) (pos 0));
+  denominator = s.sumtime;
+}
 
 -- the sums of the outside temperatures, and of rain
 abbrev pub outside : DaySummary → Option FieldSum

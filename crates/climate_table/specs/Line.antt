@@ -8,17 +8,18 @@ use Rattle.daily_summary.specs.Summary.{tenths}
 use Rattle.daily_summary.specs.declared.field_sum.FieldSum.{FieldSum}
 use Rattle.climate_table.specs.declared.climate_summary.ClimateSummary.{ClimateSummary}
 use Rattle.climate_table.specs.declared.degree_days.DegreeDays.{DegreeDays}
+use Rattle.climate_table.specs.declared.totals.Fraction.{Fraction}
 use Rattle.climate_table.specs.Degrees.{outside, rain}
 
 -- `N/T`
-abbrev pub fraction_text : ℕ → ℕ → List ℕ
-fraction_text n d = decimal n ++ codes "/" ++ decimal d
+abbrev pub fraction_text : Fraction → List ℕ
+fraction_text f = decimal f.numerator ++ codes "/" ++ decimal f.denominator
 
 -- `degree YYYY-MM-DD hdd N/T cdd N/T`
 abbrev pub degree_line : ℤ → DegreeDays → List ℕ
 degree_line day d =
-    codes "degree " ++ day_text day ++ codes " hdd " ++ fraction_text d.heating d.seconds
-    ++ codes " cdd " ++ fraction_text d.cooling d.seconds ++ codes "\n"
+    codes "degree " ++ day_text day ++ codes " hdd " ++ fraction_text d.heating
+    ++ codes " cdd " ++ fraction_text d.cooling ++ codes "\n"
 
 -- a number, or a dash
 abbrev pub number_or_dash : Option ℤ → List ℕ

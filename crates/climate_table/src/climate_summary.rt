@@ -6,7 +6,6 @@ ghost use Rattle.climate_table.specs.Climate.{IsOfDays, climate_of};
 ghost use Rattle.climate_table.specs.Degrees.{day_summary, is_wet, rain};
 
 use crate::degree_days::degrees_in;
-use crate::totals::thousandths;
 use daily_summary::DaySummary;
 
 // The field of rain, by its number.
@@ -58,8 +57,8 @@ impl ClimateSummary {
             return;
         };
         self.days += 1;
-        self.heating += thousandths(degrees.heating, degrees.seconds);
-        self.cooling += thousandths(degrees.cooling, degrees.seconds);
+        self.heating += degrees.heating.thousandths();
+        self.cooling += degrees.cooling.thousandths();
     }
 }
 

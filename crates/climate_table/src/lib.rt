@@ -10,5 +10,5 @@ mod table;
 mod totals;
 mod year_table;
 
-pub use totals::total;
+pub use totals::{Fraction, total};
 pub use year_table::climate;

@@ -1,13 +1,15 @@
 ghost use Rattle.std.specs.Prelude.{◌≡◌, ◌+◌, ◌*◌, ◌<◌, ◌≤◌, ◌++◌, codes, length, option_map};
+ghost use Rattle.std.specs.Fmt.{decimal};
 ghost use Rattle.arrayvec.specs.ArrayVec.{array_vec_len};
 ghost use Rattle.station_base.specs.DayText.{IsDayNumber};
 ghost use Rattle.daily_summary.specs.Bounds.{IsInBounds};
 ghost use Rattle.daily_summary.specs.Summary.{tenths};
-ghost use Rattle.climate_table.specs.Degrees.{outside};
-ghost use Rattle.climate_table.specs.Line.{climate_line, degree_line, extreme_text, extremes_text, number_or_dash, rain_text};
+ghost use Rattle.climate_table.specs.Degrees.{outside, rain};
+ghost use Rattle.climate_table.specs.Line.{climate_line, degree_line, fraction_text, extreme_text, extremes_text, number_or_dash, rain_text};
 
 use crate::climate_summary::{ClimateSummary, RAIN};
 use crate::degree_days::{DegreeDays, OUTSIDE};
+use crate::totals::Fraction;
 use daily_summary::{DaySummary, FieldSum};
 use station_base::{DayNumber, FieldId, Stamp, push_bytes};
 use weather_reports::{DIGITS, PIECE, Pending, ROOM, push_count, push_signed};
@@ -34,11 +36,20 @@ pub fn push_degree_line(pending: &mut Pending, day: DayNumber, degrees: &DegreeD
 {
     push_bytes(pending, b"degree ");
     push_bytes(pending, &day.text());
-    push_count(pending, b" hdd ", degrees.heating);
-    push_count(pending, b"/", degrees.seconds);
-    push_count(pending, b" cdd ", degrees.cooling);
-    push_count(pending, b"/", degrees.seconds);
+    push_fraction(pending, b" hdd ", &degrees.heating);
+    push_fraction(pending, b" cdd ", &degrees.cooling);
     push_bytes(pending, b"\n");
+}
+
+// Appends a name and a fraction, `N/T`.
+fn push_fraction(pending: &mut Pending, name: &[u8], fraction: &Fraction)
+    requires room { array_vec_len pending.old + WORD + 2 * NUMBER ≤ ROOM }
+    requires name { length name.now ≤ WORD }
+    ensures text { pending.new.items ≡ pending.old.items ++ name.now ++ fraction_text fraction.now }
+    ensures length { array_vec_len pending.new ≤ array_vec_len pending.old + WORD + 2 * NUMBER }
+{
+    push_count(pending, name, fraction.numerator);
+    push_count(pending, b"/", fraction.denominator);
 }
 
 // Appends `climate`, the name of a month or of a year, and the totals of its days.
@@ -52,13 +63,35 @@ pub fn push_climate_line(pending: &mut Pending, name: &[u8], summary: &ClimateSu
     push_bytes(pending, b"climate ");
     push_bytes(pending, name);
     push_count(pending, b" days ", u64::from(summary.days));
-    push_mean(pending, &summary.sums);
-    push_extremes(pending, &summary.sums.fields[OUTSIDE]);
+    push_temperatures(pending, &summary.sums);
+    push_totals(pending, summary);
+    push_bytes(pending, b"\n");
+}
+
+// Appends the sum of the rain, the days that had some, and the totals of heating and cooling.
+fn push_totals(pending: &mut Pending, summary: &ClimateSummary)
+    requires room { array_vec_len pending.old + 4 * NUMBER ≤ ROOM }
+    ensures text { pending.new.items ≡ pending.old.items ++ codes " rain " ++ rain_text (rain summary.now.sums)
+        ++ codes " wet " ++ decimal summary.now.wet ++ codes " hdd " ++ decimal summary.now.heating
+        ++ codes " cdd " ++ decimal summary.now.cooling }
+    ensures length { array_vec_len pending.new ≤ array_vec_len pending.old + 4 * NUMBER }
+{
     push_rain(pending, &summary.sums.fields[RAIN]);
     push_count(pending, b" wet ", u64::from(summary.wet));
     push_count(pending, b" hdd ", summary.heating);
     push_count(pending, b" cdd ", summary.cooling);
-    push_bytes(pending, b"\n");
+}
+
+// Appends the mean of the outside temperatures, and the greatest and the least of them.
+fn push_temperatures(pending: &mut Pending, sums: &DaySummary)
+    requires room { array_vec_len pending.old + NUMBER + 2 * EXTREME ≤ ROOM }
+    requires bounds { IsInBounds sums.now }
+    ensures text { pending.new.items ≡ pending.old.items ++ codes " mean "
+        ++ number_or_dash (option_map tenths (outside sums.now)) ++ extremes_text (outside sums.now) }
+    ensures length { array_vec_len pending.new ≤ array_vec_len pending.old + NUMBER + 2 * EXTREME }
+{
+    push_mean(pending, sums);
+    push_extremes(pending, &sums.fields[OUTSIDE]);
 }
 
 // Appends the mean of the outside temperatures.

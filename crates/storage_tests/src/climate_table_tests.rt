@@ -3,7 +3,7 @@ ghost use Rattle.station_base.specs.FieldSet.{AreMissing};
 ghost use Rattle.station_base.specs.RowLine.{IsPrintable};
 
 use crate::weather_reports_tests::archive;
-use climate_table::{climate, total};
+use climate_table::{Fraction, climate, total};
 use disk_model::{Disk, MemDisk};
 use station_base::{Period, Row, Stamp};
 use station_io::MemSink;
@@ -170,6 +170,14 @@ climate 2024-06 days 1 mean 6700 high 700 at 2024-06-30 low 640 at 2024-06-30 ra
 #[test]
 fn a_total_is_rounded_down_day_by_day(rt: HostRuntime) {
     assert_eq!(rt; total(&[]), 0);
-    assert_eq!(rt; total(&[(1, 3), (1, 3), (1, 3)]), 99);
-    assert_eq!(rt; total(&[(15_000, 300)]), 5_000);
+    let third = Fraction {
+        numerator: 1,
+        denominator: 3,
+    };
+    assert_eq!(rt; total(&[third, third, third]), 99);
+    let day = Fraction {
+        numerator: 15_000,
+        denominator: 300,
+    };
+    assert_eq!(rt; total(&[day]), 5_000);
 }
