@@ -374,12 +374,8 @@ pub cut_front : (a : Option CivilMinute) (t u : List TalkItem) (ks : List Stored
     → HasTaken (pump_from a s u []) place taken × AttemptCanEnd a (pump_from a s u []) place taken → SaysLast a s u
     → IsCutAfter (λ y pages x. Attempt (stamp_frame_of a) y place pages x) (t ++ u) taken
 cut_front a t u ks s place taken e ne x says =
-    let has = x.0 in
-    let rest = x.1.0 in
-    let answers = x.1.1 in
-    let end = x.1.2 in
-    let over = x.1.3 in
-    let mild = x.1.4 in
+    let (has, ends) = x in
+    let (rest, answers, end, over, mild) = ends in
     let k : pump_after a (t ++ u) (ks ++ []) ≡ pump_from a s u [] = goes_on a t u ks [] s e ne in
     let no = has_no_astray (pump_from a s u []) place taken has in
     let whole : pump_after a ((t ++ u) ++ rest) ((ks ++ []) ++ answers) ≡ Over place taken end = goes_on a (t ++ u) rest (ks ++ []) answers (pump_from a s u []) k no ∙ over in

@@ -74,13 +74,15 @@ module _ (a : Option CivilMinute) where
   -- what is to be said, or heard, goes on
   saying_goes : (p : AttemptPart) (i : TalkItem) (l : List TalkItem) → Fine (Saying p i l) → Unended (Saying p i l)
   saying_goes p i l fine =
-      let m = might_end (Saying p i l) fine in
-      (m.0, (λ none. saying_more p i l m.1.0 m.1.1 m.1.2 m.1.3 (ap (λ (y : List TalkItem). pump_from a (Saying p i l) y m.1.0) (sym none) ∙ m.1.4)), m.1)
+      let (rest, may) = might_end (Saying p i l) fine in
+      let (ks, place, taken, end, over, mild) = may in
+      (rest, (λ none. saying_more p i l ks place taken end (ap (λ (y : List TalkItem). pump_from a (Saying p i l) y ks) (sym none) ∙ over)), may)
 
   hearing_goes : (p : AttemptPart) (bs : List ℕ) (r : ℕ) → Fine (Hearing p bs r) → Unended (Hearing p bs r)
   hearing_goes p bs r fine =
-      let m = might_end (Hearing p bs r) fine in
-      (m.0, (λ none. hearing_more p bs r m.1.0 m.1.1 m.1.2 m.1.3 (ap (λ (y : List TalkItem). pump_from a (Hearing p bs r) y m.1.0) (sym none) ∙ m.1.4)), m.1)
+      let (rest, may) = might_end (Hearing p bs r) fine in
+      let (ks, place, taken, end, over, mild) = may in
+      (rest, (λ none. hearing_more p bs r ks place taken end (ap (λ (y : List TalkItem). pump_from a (Hearing p bs r) y ks) (sym none) ∙ over)), may)
 
   message_goes : (p : AttemptPart) (left : List ℕ) → left ≢ [] → Unended (saying p (message left))
   message_goes p [] some = absurd (some refl)
