@@ -13,10 +13,10 @@ use Rattle.daily_summary.proofs.Pieces.{put_behind}
 use Rattle.daily_summary.specs.declared.field_sum.FieldSum.{FieldSum}
 use Rattle.daily_summary.specs.declared.summary.DaySummary.{DaySummary}
 use Rattle.daily_summary.specs.Bounds.{IsSumOf, IsInBounds}
-use Rattle.daily_summary.specs.Parts.{field_entry, entry_at, summary_part, summary_parts, IsTyped, AreTyped}
+use Rattle.daily_summary.specs.Parts.{field_entry, entry_at, entry_in, part_size, summary_part, summary_parts, IsTyped, AreTyped}
 
 -- the bytes are chunks of 44
-chunks : (n a : ℕ) (f : ℕ → List ℕ) (xs : List ℕ) → length xs ≡ 44 * n → ((i : ℕ) → i < n → take 44 (drop (44 * i) xs) ≡ f (a + i)) → xs ≡ flat_map f (range_with_len a n)
+chunks : (n a : ℕ) (f : ℕ → List ℕ) (xs : List ℕ) → length xs ≡ 44 * n → ((i : ℕ) → i < n → entry_in i xs ≡ f (a + i)) → xs ≡ flat_map f (range_with_len a n)
 chunks zero a f [] long each = refl
 chunks zero a f (x ∷ xs) long each = absurd (omega arith)
 chunks (suc n) a f xs long each =
@@ -27,7 +27,7 @@ chunks (suc n) a f xs long each =
     sym (take-append-drop 44 xs) ∙ ap (λ (ys : List ℕ). ys ++ drop 44 xs) first ∙ ap (λ (ys : List ℕ). f a ++ ys) rest
 
 -- and the other way round
-chunk_at : (n a i : ℕ) (f : ℕ → List ℕ) → ((j : ℕ) → length (f j) ≡ 44) → i < n → take 44 (drop (44 * i) (flat_map f (range_with_len a n))) ≡ f (a + i)
+chunk_at : (n a i : ℕ) (f : ℕ → List ℕ) → ((j : ℕ) → length (f j) ≡ 44) → i < n → entry_in i (flat_map f (range_with_len a n)) ≡ f (a + i)
 chunk_at zero a i f long within = absurd (omega arith)
 chunk_at (suc n) a zero f long within =
     ap (λ (k : ℕ). take k (f a ++ flat_map f (range_with_len (a + 1) n))) (sym (long a)) ∙ take-append_seam (f a) (flat_map f (range_with_len (a + 1) n)) ∙ ap f (let e : a ≡ a + 0 = omega arith in e)
@@ -35,7 +35,7 @@ chunk_at (suc n) a (suc i) f long within =
     let rest : List ℕ = flat_map f (range_with_len (a + 1) n) in
     let place : 44 * suc i ≡ 44 + 44 * i = omega arith in
     let behind : drop 44 (f a ++ rest) ≡ rest = ap (λ (k : ℕ). drop k (f a ++ rest)) (sym (long a)) ∙ drop-append_seam (f a) rest in
-    ap (λ (k : ℕ). take 44 (drop k (f a ++ rest))) place ∙ ap (take 44) (sym (drop-drop (44 * i) 44 (f a ++ rest))) ∙ ap (λ (xs : List ℕ). take 44 (drop (44 * i) xs)) behind
+    ap (λ (k : ℕ). take 44 (drop k (f a ++ rest))) place ∙ ap (take 44) (sym (drop-drop (44 * i) 44 (f a ++ rest))) ∙ ap (entry_in i) behind
     ∙ chunk_at n (a + 1) i f long (omega arith) ∙ ap f (let e : a + 1 + i ≡ a + suc i = omega arith in e)
 
 entry_long : (o : Option FieldSum) → length (field_entry o) ≡ 44
@@ -55,14 +55,14 @@ unfolding entries_of
 parts_entries s = simp append_assoc
 
 -- the entry of a field stands in the parts
-pub entry_there : (s : DaySummary) (parts : List ℕ) (field : ℕ) → summary_parts s ≡ parts → field < 39 → take 44 (drop (44 * field) parts) ≡ field_entry (get_or s.fields field None)
+pub entry_there : (s : DaySummary) (parts : List ℕ) (field : ℕ) → summary_parts s ≡ parts → field < 39 → entry_in field parts ≡ field_entry (get_or s.fields field None)
 unfolding entries_of entry_at
 entry_there s parts field is within =
-    ap (λ (xs : List ℕ). take 44 (drop (44 * field) xs)) (sym is ∙ parts_entries s) ∙ chunk_at 39 0 field (λ f. entry_at f s) (entry_at_long s) within
+    ap (entry_in field) (sym is ∙ parts_entries s) ∙ chunk_at 39 0 field (λ f. entry_at f s) (entry_at_long s) within
     ∙ ap (λ (k : ℕ). entry_at k s) (let e : 0 + field ≡ field = omega arith in e)
 
 -- parts whose entries are those of a summary
-pub parts_are : (s : DaySummary) (parts : List ℕ) → length parts ≡ 1716 → ((field : ℕ) → field < 39 → take 44 (drop (44 * field) parts) ≡ field_entry (get_or s.fields field None)) → summary_parts s ≡ parts
+pub parts_are : (s : DaySummary) (parts : List ℕ) → length parts ≡ 1716 → ((field : ℕ) → field < 39 → entry_in field parts ≡ field_entry (get_or s.fields field None)) → summary_parts s ≡ parts
 unfolding entries_of entry_at
 parts_are s parts long each =
     parts_entries s ∙ sym (chunks 39 0 (λ f. entry_at f s) parts (omega (arith, long)) (λ i h. each i h ∙ ap (λ (k : ℕ). entry_at k s) (let e : i ≡ 0 + i = omega arith in e)))
@@ -70,10 +70,10 @@ parts_are s parts long each =
 -- the fields that were read so far
 pub record AreRead (count rows : ℕ) (parts : List ℕ) (fields : List (Option FieldSum)) : Type 0 where
   pub long : length fields ≡ 37
-  pub right : (k : ℕ) → k < count → IsEntry rows (take 44 (drop (44 * k) parts))
-  pub written : (k : ℕ) → k < count → take 44 (drop (44 * k) parts) ≡ field_entry (get_or fields k None)
+  pub right : (k : ℕ) → k < count → IsEntry rows (entry_in k parts)
+  pub written : (k : ℕ) → k < count → entry_in k parts ≡ field_entry (get_or fields k None)
   pub bounds : (k : ℕ) → k < count → IfSome (get_or fields k None) (IsSumOf rows)
-  pub only : (k : ℕ) → k < count → (sum : Option FieldSum) → IfSome sum IsTyped → IfSome sum (IsSumOf rows) → field_entry sum ≡ take 44 (drop (44 * k) parts) → get_or fields k None ≡ sum
+  pub only : (k : ℕ) → k < count → (sum : Option FieldSum) → IfSome sum IsTyped → IfSome sum (IsSumOf rows) → field_entry sum ≡ entry_in k parts → get_or fields k None ≡ sum
 
 pub more_read : (count size rows : ℕ) (parts : List ℕ) (fields : List (Option FieldSum)) (value : Option FieldSum) → count < 37 → size ≡ 44 → IsEntry rows (take size (drop (44 * count) parts)) → field_entry value ≡ take size (drop (44 * count) parts) → IfSome value (IsSumOf rows) →
     ((sum : Option FieldSum) → IfSome sum IsTyped → IfSome sum (IsSumOf rows) → field_entry sum ≡ take size (drop (44 * count) parts) → Some value ≡ Some sum) → AreRead count rows parts fields →
@@ -96,14 +96,14 @@ more_read count size rows parts fields value within is44 right written bound onl
 blank_at : (s : DaySummary) (field : ℕ) → length s.fields ≡ 37 → 37 ≤ field → get_or s.fields field None ≡ None
 blank_at s field long past = get_or-eq_default s.fields None {n = field} (omega (arith, long))
 
-blank_chunk : (field : ℕ) (xs : List ℕ) → 37 ≤ field → field < 39 → drop 1628 xs ≡ replicate 88 0 → take 44 (drop (44 * field) xs) ≡ replicate 44 0
+blank_chunk : (field : ℕ) (xs : List ℕ) → 37 ≤ field → field < 39 → drop 1628 xs ≡ replicate 88 0 → entry_in field xs ≡ replicate 44 0
 blank_chunk field xs from to blank =
     by (field - 37) (omega arith) ∙ refl
   where
     place : (k : ℕ) → field ≡ 37 + k → drop (44 * field) xs ≡ drop (44 * k) (replicate 88 0)
     place k e = ap (λ (n : ℕ). drop n xs) (let f : 44 * field ≡ 1628 + 44 * k = omega arith in f) ∙ sym (drop-drop (44 * k) 1628 xs) ∙ ap (drop (44 * k)) blank
 
-    by : (k : ℕ) → field ≡ 37 + k → take 44 (drop (44 * field) xs) ≡ replicate 44 0
+    by : (k : ℕ) → field ≡ 37 + k → entry_in field xs ≡ replicate 44 0
     by zero e = ap (take 44) (place 0 e)
     by (suc zero) e = ap (take 44) (place 1 e)
     by (suc (suc k)) e = absurd (omega arith)
@@ -119,7 +119,7 @@ found_parts rows parts fields long few are blank =
     bounded field (inl h) = are.bounds field h
     bounded field (inr h) = subst (λ (o : Option FieldSum). IfSome o (IsSumOf rows)) (sym (get_or-eq_default fields None {n = field} (omega (arith, are.long)))) tt
 
-    chunk : (field : ℕ) → field < 39 → (field < 37) ⊎ (37 ≤ field) → take 44 (drop (44 * field) parts) ≡ field_entry (get_or fields field None)
+    chunk : (field : ℕ) → field < 39 → (field < 37) ⊎ (37 ≤ field) → entry_in field parts ≡ field_entry (get_or fields field None)
     chunk field within (inl h) = are.written field h
     chunk field within (inr h) = blank_chunk field parts h within blank ∙ ap field_entry (sym (get_or-eq_default fields None {n = field} (omega (arith, are.long))))
 
@@ -160,7 +160,7 @@ all_blank parts long all =
     let size : length (drop 1628 parts) ≡ 88 = omega (arith, length-drop 1628 parts) in
     zeros (drop 1628 parts) 88 size (subst (λ (xs : List ℕ). All {X = ℕ} (λ byte. byte ≡ 0) xs) (take_all 88 (drop 1628 parts) (omega (arith, size))) all)
 
-pub part_long : (k : ℕ) (s : DaySummary) → length (summary_part k s) ≡ 132
+pub part_long : (k : ℕ) (s : DaySummary) → length (summary_part k s) ≡ part_size
 part_long k s =
     omega (arith, length-append (entry_at (3 * k) s ++ entry_at (3 * k + 1) s) (entry_at (3 * k + 2) s), length-append (entry_at (3 * k) s) (entry_at (3 * k + 1) s), entry_at_long s (3 * k), entry_at_long s (3 * k + 1), entry_at_long s (3 * k + 2))
 
@@ -170,7 +170,7 @@ right_parts rows parts fields long few are blank = record { few = few; entries =
 
 -- so many entries from a field on, in front of zeros in place of those that are still to be written
 pub record AreWritten (s : DaySummary) (first count : ℕ) (part : List ℕ) : Type 0 where
-  pub bytes : part ≡ flat_map (λ field. entry_at field s) (range_with_len first count) ++ drop (44 * count) (replicate 132 0)
+  pub bytes : part ≡ flat_map (λ field. entry_at field s) (range_with_len first count) ++ drop (44 * count) (replicate part_size 0)
 
 entries_long : (s : DaySummary) (first count : ℕ) → length (flat_map (λ field. entry_at field s) (range_with_len first count)) ≡ 44 * count
 entries_long s first zero = refl
@@ -189,7 +189,7 @@ pub one_written : (s : DaySummary) (first count size : ℕ) (part new : List ℕ
     AreWritten s first (count + 1) (put_mid (44 * count) size part new)
 one_written s first count size part new is44 are new_is =
     let front : List ℕ = flat_map (λ field. entry_at field s) (range_with_len first count) in
-    let blank : List ℕ = replicate 132 0 in
+    let blank : List ℕ = replicate part_size 0 in
     let place : 44 + 44 * count ≡ 44 * (count + 1) = omega arith in
     record {
       bytes =

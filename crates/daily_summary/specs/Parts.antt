@@ -28,6 +28,10 @@ field_entry (Some s) =
 unfoldable pub entry_at : ℕ → DaySummary → List ℕ
 entry_at field s = field_entry (slice_index_or s.fields field None)
 
+-- the bytes of a part
+abbrev pub part_size : ℕ
+part_size = 132
+
 -- part k: the entries of the fields 3 * k, 3 * k + 1 and 3 * k + 2
 abbrev pub summary_part : ℕ → DaySummary → List ℕ
 summary_part k s = entry_at (3 * k) s ++ entry_at (3 * k + 1) s ++ entry_at (3 * k + 2) s

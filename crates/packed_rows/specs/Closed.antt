@@ -3,14 +3,14 @@ use Rattle.std.specs.Prelude.{ℕ, ℤ, ◌≡◌, ◌+◌, ◌*◌, ◌<◌, Li
 use Rattle.std.specs.List.{range_with_len}
 use Rattle.daily_summary.specs.declared.summary.DaySummary.{DaySummary}
 use Rattle.daily_summary.specs.Bounds.{IsInBounds}
-use Rattle.daily_summary.specs.Parts.{AreTyped}
+use Rattle.daily_summary.specs.Parts.{AreTyped, part_size}
 use Rattle.gated_log.specs.Log.{unmarked}
 use Rattle.gated_log.specs.Layout.{slot_size}
-use Rattle.packed_rows.specs.Closing.{summary_slot}
+use Rattle.packed_rows.specs.Closing.{part_place, summary_slot}
 
 -- the part of a summary that stands in slot k of these bytes
 abbrev pub part_at : List ℕ → ℕ → List ℕ
-part_at bytes k = take 132 (drop (slot_size * k + 24) bytes)
+part_at bytes k = take part_size (drop (slot_size * k + part_place) bytes)
 
 -- all thirteen one behind another
 abbrev pub parts_at : List ℕ → List ℕ

@@ -8,7 +8,7 @@ use Rattle.byteorder.specs.Endian.{little_bytes}
 use Rattle.station_base.specs.declared.row.Row.{Row}
 use Rattle.station_base.specs.CivilMinute.{CivilMinute, archive_day_of}
 use Rattle.daily_summary.specs.declared.summary.DaySummary.{DaySummary}
-use Rattle.daily_summary.specs.Parts.{summary_part}
+use Rattle.daily_summary.specs.Parts.{part_size, summary_part}
 use Rattle.daily_summary.specs.Summary.{summary_of, rows_of_day}
 use Rattle.gated_log.specs.Layout.{slot_size}
 use Rattle.packed_rows.specs.Rising.{last_row_stamp}
@@ -26,12 +26,16 @@ last_day rows = day_of_stamp (last_row_stamp rows)
 abbrev pub last_day_rows : List Row → List Row
 last_day_rows rows = rows_of_day (last_day rows) rows
 
+-- where the part of a summary begins in its slot
+abbrev pub part_place : ℕ
+part_place = 24
+
 -- Part k of a stored summary: the slot of a closed gate, kind 2, no number of slots, the day, the number of the part,
 -- three bytes 0, the rows of the day, eight bytes 0, the part itself, and bytes 0 up to the end of the slot.
 unfoldable pub summary_slot : ℤ → ℕ → DaySummary → List ℕ
 summary_slot day k s =
     0 ∷ 2 ∷ 0 ∷ 0 ∷ (little_bytes 4 (cast_unsigned w32 day) ++ (k ∷ 0 ∷ 0 ∷ 0 ∷ (little_bytes 4 s.rows ++ (replicate 8 0
-    ++ (summary_part k s ++ replicate (slot_size - 156) 0)))))
+    ++ (summary_part k s ++ replicate (slot_size - part_place - part_size) 0)))))
 
 -- the slot k that closes the day of the last of these rows
 abbrev pub closing_slot : List Row → ℕ → List ℕ

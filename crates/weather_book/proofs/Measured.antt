@@ -10,7 +10,7 @@ use Rattle.station_base.specs.declared.row.Row.{Row}
 use Rattle.station_base.proofs.Printable.{printable_some, printable_none}
 use Rattle.station_base.proofs.Civil.{stamp_civil}
 use Rattle.station_base.specs.Period.{is_period}
-use Rattle.row_slot.specs.Slot.{slot_of, number_at}
+use Rattle.row_slot.specs.Slot.{slot_of, number_at, presence_in}
 use Rattle.row_slot.specs.Values.{signed_number_in, is_allowed, slot_values_in}
 use Rattle.row_slot.proofs.Inverse.{parts_of, end_of}
 use Rattle.row_slot.proofs.Slots.{parts-row_in}
@@ -43,7 +43,7 @@ measured row back =
     record {
       stamp = stamp_civil (number_at 2 4 (slot_of row)) (number_at 2 6 (slot_of row)) row.stamp parts.stamp;
       interval = subst (λ (n : ℕ). is_period n ≡ true) parts.interval parts.period;
-      values = values_printable 37 (number_at 8 12 (slot_of row)) (drop 20 (slot_of row)) row.values parts.values;
+      values = values_printable 37 (presence_in (slot_of row)) (drop 20 (slot_of row)) row.values parts.values;
     }
 
 pub all_measured : (rows : List Row) → AreReadBack rows → All IsMeasured rows

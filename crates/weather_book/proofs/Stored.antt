@@ -9,17 +9,17 @@ use Rattle.packed_rows.specs.Closed.{IsClosedAt, part_at, parts_at}
 use borrow.Rule.Slice.PartMut.{put_mid}
 use Rattle.daily_summary.specs.declared.summary.DaySummary.{DaySummary}
 use Rattle.daily_summary.specs.Bounds.{IsInBounds}
-use Rattle.daily_summary.specs.Parts.{summary_part, summary_parts}
+use Rattle.daily_summary.specs.Parts.{part_size, summary_part, summary_parts}
 use Rattle.daily_summary.specs.WellFormed.{IsStoredAs}
 use Rattle.daily_summary.proofs.PartsLaws.{part_long}
 use Rattle.gated_log.specs.Log.{unmarked}
 use Rattle.gated_log.specs.Stands.{AreSlots, IsSlot}
 use Rattle.gated_log.specs.Layout.{slot_size}
-use Rattle.packed_rows.specs.Closing.{summary_slot}
+use Rattle.packed_rows.specs.Closing.{part_place, summary_slot}
 
 -- the part in a slot
 pub part_in : List ℕ → List ℕ
-part_in slot = take 132 (drop 24 slot)
+part_in slot = take part_size (drop part_place slot)
 
 same_part : (slot : List ℕ) → part_in (unmarked slot) ≡ part_in slot
 unfolding part_in
@@ -32,10 +32,10 @@ same_part (a ∷ b ∷ c ∷ d ∷ rest) = refl
 part_written : (day : ℤ) (k : ℕ) (s : DaySummary) → part_in (summary_slot day k s) ≡ summary_part k s
 unfolding part_in summary_slot
 part_written day k s =
-    ap (λ (n : ℕ). take n (summary_part k s ++ replicate (slot_size - 156) 0)) (sym (part_long k s)) ∙ take-append_seam (summary_part k s) (replicate (slot_size - 156) 0)
+    ap (λ (n : ℕ). take n (summary_part k s ++ replicate (slot_size - part_place - part_size) 0)) (sym (part_long k s)) ∙ take-append_seam (summary_part k s) (replicate (slot_size - part_place - part_size) 0)
 
 -- what is read of a slot that closes a day has its part
-pub part_read : (day : ℤ) (k : ℕ) (s : DaySummary) (slot bytes : List ℕ) → IsSlot slot bytes → unmarked slot ≡ summary_slot day k s → take 132 (drop 24 bytes) ≡ summary_part k s
+pub part_read : (day : ℤ) (k : ℕ) (s : DaySummary) (slot bytes : List ℕ) → IsSlot slot bytes → unmarked slot ≡ summary_slot day k s → take part_size (drop part_place bytes) ≡ summary_part k s
 unfolding part_in
 part_read day k s slot bytes (inl same) is = ap part_in (sym same) ∙ sym (same_part slot) ∙ ap part_in is ∙ part_written day k s
 part_read day k s slot bytes (inr same) is = sym (same_part bytes) ∙ ap part_in (sym same) ∙ sym (same_part slot) ∙ ap part_in is ∙ part_written day k s
@@ -57,21 +57,21 @@ parts_read slots place day s bytes long are closed =
     one : (i : ℕ) → i < 13 → part_at bytes i ≡ summary_part i s
     one i h =
         let slot_bytes : List ℕ = take slot_size (drop (slot_size * i) bytes) in
-        let inner : take 132 (drop 24 slot_bytes) ≡ part_at bytes i =
-        ap (take 132) (drop-take 24 (slot_size - 24) (drop (slot_size * i) bytes)) ∙ take-take 132 (slot_size - 24) (drop 24 (drop (slot_size * i) bytes)) (omega arith) ∙ ap (take 132) (drop-drop 24 (slot_size * i) bytes) in
+        let inner : take part_size (drop part_place slot_bytes) ≡ part_at bytes i =
+        ap (take part_size) (drop-take part_place (slot_size - part_place) (drop (slot_size * i) bytes)) ∙ take-take part_size (slot_size - part_place) (drop part_place (drop (slot_size * i) bytes)) (omega arith) ∙ ap (take part_size) (drop-drop part_place (slot_size * i) bytes) in
         sym inner ∙ part_read day i s (get_or slots (place + i) []) slot_bytes (are i (omega (arith, long, h))) (closed.each i h)
 
 -- so many parts in front of zeros in place of those that are still to be copied
 pub record AreCopied (bytes : List ℕ) (count : ℕ) (parts : List ℕ) : Type 0 where
-  pub parts_are : parts ≡ flat_map (part_at bytes) (range_with_len 0 count) ++ drop (132 * count) (replicate 1716 0)
+  pub parts_are : parts ≡ flat_map (part_at bytes) (range_with_len 0 count) ++ drop (part_size * count) (replicate (13 * part_size) 0)
 
-part_size : (bytes : List ℕ) (k : ℕ) → length bytes ≡ 13 * slot_size → k < 13 → length (part_at bytes k) ≡ 132
-part_size bytes k long lt = let a = length-take 132 (drop (slot_size * k + 24) bytes) in let b = length-drop (slot_size * k + 24) bytes in omega (arith, a, b, long, lt)
+part_at_long : (bytes : List ℕ) (k : ℕ) → length bytes ≡ 13 * slot_size → k < 13 → length (part_at bytes k) ≡ part_size
+part_at_long bytes k long lt = let a = length-take part_size (drop (slot_size * k + part_place) bytes) in let b = length-drop (slot_size * k + part_place) bytes in omega (arith, a, b, long, lt)
 
-front_size : (bytes : List ℕ) (a n : ℕ) → length bytes ≡ 13 * slot_size → a + n ≤ 13 → length (flat_map (part_at bytes) (range_with_len a n)) ≡ 132 * n
+front_size : (bytes : List ℕ) (a n : ℕ) → length bytes ≡ 13 * slot_size → a + n ≤ 13 → length (flat_map (part_at bytes) (range_with_len a n)) ≡ part_size * n
 front_size bytes a zero long le = refl
 front_size bytes a (suc n) long le =
-    let one = part_size bytes a long (omega arith) in let rest = front_size bytes (a + 1) n long (omega arith) in
+    let one = part_at_long bytes a long (omega arith) in let rest = front_size bytes (a + 1) n long (omega arith) in
     omega (arith, length-append (part_at bytes a) (flat_map (part_at bytes) (range_with_len (a + 1) n)), one, rest)
 
 more_parts : (bytes : List ℕ) (a n : ℕ) → flat_map (part_at bytes) (range_with_len a (suc n)) ≡ flat_map (part_at bytes) (range_with_len a n) ++ part_at bytes (a + n)
@@ -81,20 +81,20 @@ more_parts bytes a (suc n) =
     ap (λ (xs : List ℕ). part_at bytes a ++ xs) (more_parts bytes (a + 1) n) ∙ sym (append_assoc (part_at bytes a) rest (part_at bytes (a + 1 + n)))
     ∙ ap (λ (k : ℕ). (part_at bytes a ++ rest) ++ part_at bytes k) (let e : a + 1 + n ≡ a + suc n = omega arith in e)
 
-pub one_copied : (bytes : List ℕ) (count size : ℕ) (parts new : List ℕ) → length bytes ≡ 13 * slot_size → count < 13 → size ≡ 132 → AreCopied bytes count parts → new ≡ part_at bytes count →
-    AreCopied bytes (count + 1) (put_mid (132 * count) size parts new)
-one_copied bytes count size parts new long lt is132 are new_is =
+pub one_copied : (bytes : List ℕ) (count size : ℕ) (parts new : List ℕ) → length bytes ≡ 13 * slot_size → count < 13 → size ≡ part_size → AreCopied bytes count parts → new ≡ part_at bytes count →
+    AreCopied bytes (count + 1) (put_mid (part_size * count) size parts new)
+one_copied bytes count size parts new long lt sized are new_is =
     let front : List ℕ = flat_map (part_at bytes) (range_with_len 0 count) in
-    let blank : List ℕ = replicate 1716 0 in
+    let blank : List ℕ = replicate (13 * part_size) 0 in
     record {
       parts_are =
-          ap (λ (n : ℕ). put_mid (132 * count) n parts new) is132 ∙ ap (λ (xs : List ℕ). put_mid (132 * count) 132 xs new) are.parts_are
-          ∙ put_behind (132 * count) 132 front (drop (132 * count) blank) new (front_size bytes 0 count long (omega arith))
-          ∙ ap (λ (xs : List ℕ). front ++ (new ++ xs)) (drop-drop 132 (132 * count) blank)
-          ∙ ap (λ (k : ℕ). front ++ (new ++ drop k blank)) (let e : 132 * count + 132 ≡ 132 * (count + 1) = omega arith in e)
-          ∙ ap (λ (xs : List ℕ). front ++ (xs ++ drop (132 * (count + 1)) blank)) (new_is ∙ ap (part_at bytes) (let e : count ≡ 0 + count = omega arith in e))
-          ∙ sym (append_assoc front (part_at bytes (0 + count)) (drop (132 * (count + 1)) blank))
-          ∙ ap (λ (xs : List ℕ). xs ++ drop (132 * (count + 1)) blank) (sym (more_parts bytes 0 count) ∙ ap (λ (k : ℕ). flat_map (part_at bytes) (range_with_len 0 k)) (let e : suc count ≡ count + 1 = omega arith in e));
+          ap (λ (n : ℕ). put_mid (part_size * count) n parts new) sized ∙ ap (λ (xs : List ℕ). put_mid (part_size * count) part_size xs new) are.parts_are
+          ∙ put_behind (part_size * count) part_size front (drop (part_size * count) blank) new (front_size bytes 0 count long (omega arith))
+          ∙ ap (λ (xs : List ℕ). front ++ (new ++ xs)) (drop-drop part_size (part_size * count) blank)
+          ∙ ap (λ (k : ℕ). front ++ (new ++ drop k blank)) (let e : part_size * count + part_size ≡ part_size * (count + 1) = omega arith in e)
+          ∙ ap (λ (xs : List ℕ). front ++ (xs ++ drop (part_size * (count + 1)) blank)) (new_is ∙ ap (part_at bytes) (let e : count ≡ 0 + count = omega arith in e))
+          ∙ sym (append_assoc front (part_at bytes (0 + count)) (drop (part_size * (count + 1)) blank))
+          ∙ ap (λ (xs : List ℕ). xs ++ drop (part_size * (count + 1)) blank) (sym (more_parts bytes 0 count) ∙ ap (λ (k : ℕ). flat_map (part_at bytes) (range_with_len 0 k)) (let e : suc count ≡ count + 1 = omega arith in e));
     }
 
 pub all_copied : (bytes : List ℕ) (count : ℕ) (parts : List ℕ) → count ≡ 13 → AreCopied bytes count parts → parts ≡ parts_at bytes
