@@ -14,7 +14,7 @@ use Rattle.station_replay.specs.Stopped.{IsStop}
 use Rattle.schedule_steps.specs.Accepted.{AreAccepted, HasRecord}
 use Rattle.schedule_steps.specs.Steps.{steps_for}
 use Rattle.schedule_steps.proofs.Accepting.{falling_accepted}
-use Rattle.schedule_steps.proofs.Falling.{AllFall, MidsFall, lines_in}
+use Rattle.schedule_steps.proofs.Falling.{AllFall, MidsFall, lines_in, open_falls}
 use Rattle.archive_record.proofs.Stamping.{IsNumbered, numbered_after}
 use Rattle.draws.specs.Draws.{drawn, next_draw}
 use Rattle.made_run.specs.Made.{after_rounds, details_of, due_after, due_row, due_step, first_due, host_lost, is_round, kind_drawn, made_steps, reply_cut, reply_late, rounds_behind, steps_from, stop_drawn, stop_of_kind}
@@ -62,11 +62,18 @@ is_stop kind x = stop_by (kind == 7) x
 -- the records fall due one after another
 behind_falls : (t : Bool) (y m b : ℕ) (rest : List ScheduleStep) → AllFall 5 m rest b → AllFall 5 m (rounds_behind t y ++ rest) b
 behind_falls true y m b rest fall =
-    (m, (is_stop (kind_drawn y) (next_draw y), subst (λ (ms : List MidRecord). MidsFall m ms m) (sym (mids_none (kind_drawn y))) refl), fall)
+    record {
+      minute = m;
+      first = record {
+        stops = is_stop (kind_drawn y) (next_draw y);
+        records = subst (λ (ms : List MidRecord). MidsFall m ms m) (sym (mids_none (kind_drawn y))) refl;
+      };
+      rest = fall;
+    }
 behind_falls false y m b rest fall = fall
 
 pub made_falls : (left number x a : ℕ) → number + left ≤ 5000 → a < minute_of first_due + 5 * number → (b : ℕ) × AllFall 5 a (steps_from left number x) b
-made_falls zero number x a few before = (a, (a, (tt, refl), refl))
+made_falls zero number x a few before = (a, record { minute = a; first = open_falls a None tt; rest = refl })
 made_falls (suc left) number x a few before =
     let at = due_numbered (5 * number) (omega (arith, few)) in
     let m = minute_of (due_after (5 * number)) in
@@ -74,7 +81,14 @@ made_falls (suc left) number x a few before =
     let t = is_round (number + 1) left in
     let row = due_row number (drawn (next_draw x)) (drawn (next_draw (next_draw x))) in
     let rest = made_falls left (number + 1) (after_rounds t y) m (omega (arith, few)) (omega (arith, at.number)) in
-    (rest.0, (m, (row, refl, omega (arith, before, at.number), refl), behind_falls t y m rest.0 (steps_from left (number + 1) (after_rounds t y)) rest.1))
+    let behind = behind_falls t y m rest.0 (steps_from left (number + 1) (after_rounds t y)) rest.1 in (
+      rest.0,
+      record {
+        minute = m;
+        first = record { row = row; reads = refl; later = omega (arith, before, at.number); minute = refl };
+        rest = behind;
+      },
+    )
 
 -- how many rounds are made
 lines_behind : (t : Bool) (y : ℕ) (rest : List ScheduleStep) → lines_in (rounds_behind t y ++ rest) ≤ 1 + lines_in rest

@@ -35,14 +35,16 @@ mids_are : (period a b : ℕ) (xs : List Mid) → MidsFall a (map (mid_seen peri
     → Rise a (records_left_in xs 0) b × (length (records_left_in xs 0) ≡ length (map (mid_seen period) xs))
 mids_are period a b [] fall = (omega (arith, fall), refl)
 mids_are period a b (x ∷ xs) fall =
-    let first : nat_lt 0 x.number ≡ true = grind (arith, nat_tests, fall.1) in
-    go (nat_lt 0 x.number) first (row_of x.rec period fall.2.0 fall.2.1).0 (mids_are period fall.0 b xs fall.3)
+    let due = fall.first.falls in
+    let first : nat_lt 0 x.number ≡ true = grind (arith, nat_tests, fall.first.counts) in
+    go (nat_lt 0 x.number) first (row_of x.rec period due.row due.reads).0 (mids_are period fall.minute b xs fall.rest)
   where
-    go : (t : Bool) → t ≡ true → stamp_in x.rec ≡ Some fall.2.0.stamp
-        → Rise fall.0 (records_left_in xs 0) b × (length (records_left_in xs 0) ≡ length (map (mid_seen period) xs))
+    go : (t : Bool) → t ≡ true → stamp_in x.rec ≡ Some fall.first.falls.row.stamp
+        → Rise fall.minute (records_left_in xs 0) b × (length (records_left_in xs 0) ≡ length (map (mid_seen period) xs))
         → Rise a (if t then x.rec ∷ records_left_in xs 0 else records_left_in xs 0) b × (length (if t then x.rec ∷ records_left_in xs 0 else records_left_in xs 0) ≡ suc (length (map (mid_seen period) xs)))
     go true first stamp rest =
-        ((fall.2.0.stamp, stamp, fall.2.2, subst (λ (m : ℕ). Rise m (records_left_in xs 0) b) (sym fall.2.3) rest.0), ap suc rest.1)
+        let due = fall.first.falls in
+        ((due.row.stamp, stamp, due.later, subst (λ (m : ℕ). Rise m (records_left_in xs 0) b) (sym due.minute) rest.0), ap suc rest.1)
     go false first stamp rest = cc
 
 -- What some steps are as steps of a run: their records come after minute a and up to minute b.
@@ -57,12 +59,13 @@ record AreTaken (period a b : ℕ) (steps : List code_step.Step) : Type 0 where
 taken : (period : ℕ) → 1 ≤ period → (steps : List code_step.Step) (a b : ℕ) → AllFall period a (steps_seen period steps) b → AllByRecursion HasRecord steps → AreTaken period a b steps
 taken period long [] a b fall has = record { rise = omega (arith, fall); are = tt; each = tt; ranges = tt; lines_are = refl; counted = refl }
 taken period long (code.Due rec ∷ steps) a b fall has =
-    let m = fall.0 in
-    let row = row_of rec period fall.1.0 fall.1.1 in
-    let rest = taken period long steps m b fall.2 has.1 in
+    let m = fall.minute in
+    let due = fall.first in
+    let row = row_of rec period due.row due.reads in
+    let rest = taken period long steps m b fall.rest has.1 in
     let others = records (steps_for period steps) in
     record {
-      rise = rise_join a m b (rec ∷ []) others (fall.1.0.stamp, row.0, fall.1.2, omega (arith, fall.1.3)) rest.rise;
+      rise = rise_join a m b (rec ∷ []) others (due.row.stamp, row.0, due.later, omega (arith, due.minute)) rest.rise;
       are = records_join (rec ∷ []) others (has.0, row.1, tt) rest.are;
       each = (tt, rest.each);
       ranges = (tt, rest.ranges);
@@ -70,26 +73,26 @@ taken period long (code.Due rec ∷ steps) a b fall has =
       counted = omega (arith, rest.counted);
     }
 taken period long (code.Run first count ∷ steps) a b fall has =
-    let m = fall.0 in
-    let at = fall.1.1 in
-    let stamp = at.0.stamp in
-    let row = row_of first period at.0 at.1 in
-    let rest = taken period long steps m b fall.2 has.1 in
+    let m = fall.minute in
+    let due = fall.first.first in
+    let stamp = due.row.stamp in
+    let row = row_of first period due.row due.reads in
+    let rest = taken period long steps m b fall.rest has.1 in
     let others = records (steps_for period steps) in
-    let run = run_is period count a first stamp long row.0 at.2 (omega (arith, fall.1.2, at.3)) has.0 row.1 in
-    let end : minute_of stamp + (count - 1) * period ≡ m = omega (arith, fall.1.3, at.3) in
+    let run = run_is period count a first stamp long row.0 due.later (omega (arith, fall.first.stamped, due.minute)) has.0 row.1 in
+    let end : minute_of stamp + (count - 1) * period ≡ m = omega (arith, fall.first.last, due.minute) in
     record {
       rise = rise_join a m b (run_records period first count) others (subst (Rise a (run_records period first count)) end run.rise) rest.rise;
       are = records_join (run_records period first count) others run.are rest.are;
       each = (tt, rest.each);
-      ranges = (subst (λ (s : Option CivilMinute). IsSomeAnd s (λ t. minute_of t + (count - 1) * period ≤ minute_of last_minute)) (sym row.0) (omega (arith, fall.1.2, at.3)), rest.ranges);
+      ranges = (subst (λ (s : Option CivilMinute). IsSomeAnd s (λ t. minute_of t + (count - 1) * period ≤ minute_of last_minute)) (sym row.0) (omega (arith, fall.first.stamped, due.minute)), rest.ranges);
       lines_are = omega (arith, rest.lines_are);
       counted = omega (arith, rest.counted, run.count_is, length-append (run_records period first count) others);
     }
 taken period long (code.Idle ticks ∷ steps) a b fall has =
-    let rest = taken period long steps fall.0 b fall.2 has.1 in
+    let rest = taken period long steps fall.minute b fall.rest has.1 in
     record {
-      rise = subst (λ (m : ℕ). Rise m (records (steps_for period steps)) b) (sym fall.1) rest.rise;
+      rise = subst (λ (m : ℕ). Rise m (records (steps_for period steps)) b) (sym fall.first) rest.rise;
       are = rest.are;
       each = (tt, rest.each);
       ranges = (tt, rest.ranges);
@@ -97,26 +100,26 @@ taken period long (code.Idle ticks ∷ steps) a b fall has =
       counted = omega (arith, rest.counted);
     }
 taken period long (code.Open stop ∷ steps) a b fall has =
-    let rest = taken period long steps fall.0 b fall.2 has.1 in
+    let rest = taken period long steps fall.minute b fall.rest has.1 in
     record {
-      rise = subst (λ (m : ℕ). Rise m (records (steps_for period steps)) b) (sym fall.1.1) rest.rise;
+      rise = subst (λ (m : ℕ). Rise m (records (steps_for period steps)) b) (sym fall.first.records) rest.rise;
       are = rest.are;
       each = (tt, rest.each);
-      ranges = (fall.1.0, rest.ranges);
+      ranges = (fall.first.stops, rest.ranges);
       lines_are = omega (arith, rest.lines_are);
       counted = omega (arith, rest.counted);
     }
 taken period long (code.Round fates stop ∷ steps) a b fall has =
-    let m = fall.0 in
-    let rest = taken period long steps m b fall.2 has.1 in
+    let m = fall.minute in
+    let rest = taken period long steps m b fall.rest has.1 in
     let others = records (steps_for period steps) in
-    let mids = mids_are period a m fates.mids.items fall.1.1 in
+    let mids = mids_are period a m fates.mids.items fall.first.records in
     let left = records_left_in fates.mids.items 0 in
     record {
       rise = rise_join a m b left others mids.0 rest.rise;
       are = records_join left others (left_records fates.mids.items 0) rest.are;
       each = ((fates_sound fates, fates_fall fates), rest.each);
-      ranges = (fall.1.0, rest.ranges);
+      ranges = (fall.first.stops, rest.ranges);
       lines_are = omega (arith, rest.lines_are);
       counted = omega (arith, rest.counted, mids.1, length-append left others);
     }

@@ -23,27 +23,56 @@ use Rattle.station_replay.specs.Stopped.{IsStop}
 use Rattle.schedule_steps.proofs.ReadForms.{CountsFromOne}
 
 -- a record that is read so falls due after minute a, and at minute b
-abbrev pub FallsAt : ℕ → RecordRead → ℕ → Type 0
-FallsAt a read b = (row : Row) × (read ≡ ReadRow row) × (a < minute_of row.stamp) × (minute_of row.stamp ≡ b)
+pub record FallsAt (a : ℕ) (read : RecordRead) (b : ℕ) : Type 0 where
+  pub row : Row
+  pub reads : read ≡ ReadRow row
+  pub later : a < minute_of row.stamp
+  pub minute : minute_of row.stamp ≡ b
+
+-- what comes first falls due up to some minute, and the rest after it
+pub record FallInTurn (First Rest : ℕ → Type 0) : Type 0 where
+  pub minute : ℕ
+  pub first : First minute
+  pub rest : Rest minute
+
+-- a record of a round counts from 1 on, and falls due likewise
+pub record MidFalls (a : ℕ) (mid : MidRecord) (b : ℕ) : Type 0 where
+  pub counts : 1 ≤ mid.number
+  pub falls : FallsAt a mid.record_read b
 
 -- the records of a round fall due after minute a, and the last of them at minute b
 abbrev pub MidsFall : ℕ → List MidRecord → ℕ → Type 0
 MidsFall a [] b = a ≡ b
-MidsFall a (x ∷ xs) b = (m : ℕ) × (1 ≤ x.number) × FallsAt a x.record_read m × MidsFall m xs b
+MidsFall a (x ∷ xs) b = FallInTurn (MidFalls a x) (λ m. MidsFall m xs b)
 
--- the records of a step likewise; those of a run have stamps, and a stop is of a change from 1 on
+-- the records of a run fall due after minute a, and the last of them, which has a stamp, at minute b
+pub record RunFalls (period a : ℕ) (read : RecordRead) (count b : ℕ) : Type 0 where
+  pub minute : ℕ
+  pub first : FallsAt a read minute
+  pub stamped : minute + (count - 1) * period ≤ minute_of last_minute
+  pub last : minute + (count - 1) * period ≡ b
+
+-- a step with such a stop, which is of a change from 1 on, and with such records
+pub record StoppedFall (stop : Option code.Stop) (Records : Type 0) : Type 0 where
+  pub stops : IsStop stop
+  pub records : Records
+
+-- the records of a step likewise
 abbrev pub Falls : ℕ → ℕ → ScheduleStep → ℕ → Type 0
 Falls period a (DueStep read) b = FallsAt a read b
-Falls period a (RunStep read count) b =
-    (m : ℕ) × FallsAt a read m × (m + (count - 1) * period ≤ minute_of last_minute) × (m + (count - 1) * period ≡ b)
+Falls period a (RunStep read count) b = RunFalls period a read count b
 Falls period a (IdleStep ticks) b = a ≡ b
-Falls period a (OpenStep stop) b = IsStop stop × (a ≡ b)
-Falls period a (RoundStep details stop) b = IsStop stop × MidsFall a details.mids b
+Falls period a (OpenStep stop) b = StoppedFall stop (a ≡ b)
+Falls period a (RoundStep details stop) b = StoppedFall stop (MidsFall a details.mids b)
 
 -- the records of all steps
 abbrev pub AllFall : ℕ → ℕ → List ScheduleStep → ℕ → Type 0
 AllFall period a [] b = a ≡ b
-AllFall period a (x ∷ xs) b = (m : ℕ) × Falls period a x m × AllFall period m xs b
+AllFall period a (x ∷ xs) b = FallInTurn (Falls period a x) (λ m. AllFall period m xs b)
+
+-- no record falls due
+pub open_falls : (a : ℕ) (stop : Option code.Stop) → IsStop stop → StoppedFall stop (a ≡ a)
+open_falls a stop is = record { stops = is; records = refl }
 
 -- how many of the steps open a session or make a round
 abbrev pub line_in : ScheduleStep → ℕ
@@ -59,11 +88,13 @@ lines_in (x ∷ xs) = line_in x + lines_in xs
 
 pub fall_join : (period a b c : ℕ) (xs ys : List ScheduleStep) → AllFall period a xs b → AllFall period b ys c → AllFall period a (xs ++ ys) c
 fall_join period a b c [] ys fall more = subst (λ (m : ℕ). AllFall period m ys c) (sym fall) more
-fall_join period a b c (x ∷ xs) ys fall more = (fall.0, fall.1, fall_join period fall.0 b c xs ys fall.2 more)
+fall_join period a b c (x ∷ xs) ys fall more =
+    record { minute = fall.minute; first = fall.first; rest = fall_join period fall.minute b c xs ys fall.rest more }
 
 mids_join : (a b c : ℕ) (xs ys : List MidRecord) → MidsFall a xs b → MidsFall b ys c → MidsFall a (xs ++ ys) c
 mids_join a b c [] ys fall more = subst (λ (m : ℕ). MidsFall m ys c) (sym fall) more
-mids_join a b c (x ∷ xs) ys fall more = (fall.0, fall.1, fall.2, mids_join fall.0 b c xs ys fall.3 more)
+mids_join a b c (x ∷ xs) ys fall more =
+    record { minute = fall.minute; first = fall.first; rest = mids_join fall.minute b c xs ys fall.rest more }
 
 lines_join : (xs ys : List ScheduleStep) → lines_in (xs ++ ys) ≡ lines_in xs + lines_in ys
 lines_join [] ys = omega arith
@@ -98,7 +129,8 @@ none_due : (period a b : ℕ) (xs : List ScheduleStep) → AreBetween xs → lis
 none_due period a b [] are none fall c = refl
 none_due period a b (DueStep read ∷ xs) are none fall c = absurd (let wrong : ⊥ = cc in wrong)
 none_due period a b (RunStep read count ∷ xs) are none fall c = absurd (let wrong : ⊥ = cc in wrong)
-none_due period a b (IdleStep ticks ∷ xs) are none fall c = (c, refl, none_due period fall.0 b xs are.1 none fall.2 c)
+none_due period a b (IdleStep ticks ∷ xs) are none fall c =
+    record { minute = c; first = refl; rest = none_due period fall.minute b xs are.1 none fall.rest c }
 none_due period a b (OpenStep stop ∷ xs) are none fall c = absurd are.0
 none_due period a b (RoundStep details stop ∷ xs) are none fall c = absurd are.0
 
@@ -128,51 +160,52 @@ all_lines period s f =
 above : (m n : ℕ) → nat_le m n ≡ false → n < m
 above m n h = grind (arith, nat_tests, h)
 
--- The records of a line without a fault: the first comes after the newest minute, and each has a stamp.
-record IsTold (period a : ℕ) (told : Told) (count : ℕ) : Type 0 where
-  minute : ℕ
-  falls : FallsAt a (record_told period told) minute
-  stamps : minute + (count - 1) * period ≤ minute_of last_minute
-  last : minute + (count - 1) * period ≡ last_minute_of period told.stamp count
-
+-- the records of a line without a fault
 read_by : (period a count : ℕ) (stamp : Option CivilMinute) (values : Option (List (Option ℤ))) → is_no_stamp period stamp count ≡ false → is_not_later a stamp ≡ false → has_no_record values ≡ false
-    → (m : ℕ) × FallsAt a (read_at period stamp values) m × (m + (count - 1) * period ≤ minute_of last_minute) × (m + (count - 1) * period ≡ last_minute_of period stamp count)
+    → RunFalls period a (read_at period stamp values) count (last_minute_of period stamp count)
 read_by period a count None values stamped later known = cc
 read_by period a count (Some stamp) None stamped later known = cc
 read_by period a count (Some stamp) (Some values) stamped later known =
     let row : Row = record { stamp = stamp; interval = period; values = values; limited = 0 } in
-    (minute_of stamp, (row, refl, above (minute_of stamp) a later, refl), ltb-false (minute_of last_minute) (minute_of stamp + (count - 1) * period) stamped, refl)
+    record {
+      minute = minute_of stamp;
+      first = record { row = row; reads = refl; later = above (minute_of stamp) a later; minute = refl };
+      stamped = ltb-false (minute_of last_minute) (minute_of stamp + (count - 1) * period) stamped;
+      last = refl;
+    }
 
-is_told : (period : ℕ) (s : Said) (told : Told) (count : ℕ) (more : List Kind) → first_applying (told_kinds period s told count ++ more) ≡ None → IsTold period s.newest told count × (first_applying more ≡ None)
+is_told : (period : ℕ) (s : Said) (told : Told) (count : ℕ) (more : List Kind) → first_applying (told_kinds period s told count ++ more) ≡ None
+    → RunFalls period s.newest (record_told period told) count (last_minute_of period told.stamp count) × (first_applying more ≡ None)
 is_told period s told count more none =
     let no_stamp = is_no_stamp period told.stamp count in
     let not_later = is_not_later s.newest told.stamp in
     let no_record = has_no_record told.values in
     let from_six = rest_fails no_stamp 5 (first_applying (kind_if 6 not_later ∷ kind_if 7 no_record ∷ more)) none in
     let from_seven = rest_fails not_later 6 (first_applying (kind_if 7 no_record ∷ more)) from_six in
-    let told_so = read_by period s.newest count told.stamp told.values
+    let falls = read_by period s.newest count told.stamp told.values
     (first_fails no_stamp 5 (first_applying (kind_if 6 not_later ∷ kind_if 7 no_record ∷ more)) none)
     (first_fails not_later 6 (first_applying (kind_if 7 no_record ∷ more)) from_six)
     (first_fails no_record 7 (first_applying more) from_seven) in
-    (record { minute = told_so.0; falls = told_so.1; stamps = told_so.2; last = told_so.3 }, rest_fails no_record 7 (first_applying more) from_seven)
+    (falls, rest_fails no_record 7 (first_applying more) from_seven)
 
 no_more : (m period : ℕ) → m + (1 - 1) * period ≡ m
 no_more m period = omega arith
 
 -- what a further record says
-one_told : (period : ℕ) (s : Said) (told : Told) → IsTold period s.newest told 1 → FallsAt s.newest (record_told period told) (last_minute_of period told.stamp 1)
-one_told period s told is = subst (FallsAt s.newest (record_told period told)) (sym (no_more is.minute period) ∙ is.last) is.falls
+one_told : (period : ℕ) (s : Said) (told : Told) → RunFalls period s.newest (record_told period told) 1 (last_minute_of period told.stamp 1)
+    → FallsAt s.newest (record_told period told) (last_minute_of period told.stamp 1)
+one_told period s told is = subst (FallsAt s.newest (record_told period told)) (sym (no_more is.minute period) ∙ is.last) is.first
 
 -- a step more behind the last `open` or `round`
 with_one : (period : ℕ) (s : Said) (f : IsFalling period s) (x : ScheduleStep) (newest : ℕ) → Falls period s.newest x newest → IsBetween x
     → AllFall period f.within (s.since ++ x ∷ []) newest × AreBetween (s.since ++ x ∷ [])
 with_one period s f x newest falls between =
-    (fall_join period f.within s.newest newest s.since (x ∷ []) f.since (newest, falls, refl), between_more s.since x f.between between)
+    (fall_join period f.within s.newest newest s.since (x ∷ []) f.since (record { minute = newest; first = falls; rest = refl }), between_more s.since x f.between between)
 
 turn_falls : (period a : ℕ) (t : Turn) → AllFall period a (turn_steps t no_details None) a
 turn_falls period a Neither = refl
-turn_falls period a Opening = (a, (tt, refl), refl)
-turn_falls period a InRound = (a, (tt, refl), refl)
+turn_falls period a Opening = record { minute = a; first = open_falls a None tt; rest = refl }
+turn_falls period a InRound = record { minute = a; first = open_falls a None tt; rest = refl }
 
 -- an `open` or a `round` more
 turned : (period : ℕ) (s : Said) (t : Turn) → lines_in (turn_steps t no_details None) ≡ 1 → IsFalling period s → s.turns + 1 ≤ 200
@@ -192,7 +225,14 @@ turned period s t one f few = record {
 detailed : (period a b : ℕ) (t : Turn) (d e : Details) (stop : Option code.Stop) → d.mids ≡ e.mids → AllFall period a (turn_steps t d stop) b → AllFall period a (turn_steps t e stop) b
 detailed period a b Neither d e stop same fall = fall
 detailed period a b Opening d e stop same fall = fall
-detailed period a b InRound d e stop same fall = (fall.0, (fall.1.0, subst (λ (mids : List MidRecord). MidsFall a mids fall.0) same fall.1.1), fall.2)
+detailed period a b InRound d e stop same fall = record {
+  minute = fall.minute;
+  first = record {
+    stops = fall.first.stops;
+    records = subst (λ (mids : List MidRecord). MidsFall a mids fall.minute) same fall.first.records;
+  };
+  rest = fall.rest;
+}
 
 lines_same : (t : Turn) (d e : Details) (stop other : Option code.Stop) → lines_in (turn_steps t d stop) ≡ lines_in (turn_steps t e other)
 lines_same Neither d e stop other = refl
@@ -214,8 +254,10 @@ with_details period s e same f = record {
 -- a stop of the last `open` or `round`
 stopped : (period a b : ℕ) (t : Turn) (d : Details) (old : Option code.Stop) (stop : code.Stop) → 1 ≤ stop.change → AllFall period a (turn_steps t d old) b → AllFall period a (turn_steps t d (Some stop)) b
 stopped period a b Neither d old stop counts fall = fall
-stopped period a b Opening d old stop counts fall = (fall.0, (counts, fall.1.1), fall.2)
-stopped period a b InRound d old stop counts fall = (fall.0, (counts, fall.1.1), fall.2)
+stopped period a b Opening d old stop counts fall =
+    record { minute = fall.minute; first = record { stops = counts; records = fall.first.records }; rest = fall.rest }
+stopped period a b InRound d old stop counts fall =
+    record { minute = fall.minute; first = record { stops = counts; records = fall.first.records }; rest = fall.rest }
 
 -- a record more in the last round
 mid_added : (period a b m : ℕ) (t : Turn) (d : Details) (stop : Option code.Stop) (x : MidRecord) → is_in_round t ≡ true → 1 ≤ x.number → FallsAt b x.record_read m
@@ -223,7 +265,15 @@ mid_added : (period a b m : ℕ) (t : Turn) (d : Details) (stop : Option code.St
 mid_added period a b m Neither d stop x round counts falls fall = cc
 mid_added period a b m Opening d stop x round counts falls fall = cc
 mid_added period a b m InRound d stop x round counts falls fall =
-    (m, (fall.1.0, mids_join a b m d.mids (x ∷ []) (subst (MidsFall a d.mids) fall.2 fall.1.1) (m, counts, falls, refl)), refl)
+    let last : MidsFall b (x ∷ []) m = record { minute = m; first = record { counts = counts; falls = falls }; rest = refl } in
+    record {
+      minute = m;
+      first = record {
+        stops = fall.first.stops;
+        records = mids_join a b m d.mids (x ∷ []) (subst (MidsFall a d.mids) fall.rest fall.first.records) last;
+      };
+      rest = refl;
+    }
 
 in_round : (a b : Bool) → (not a || b) ≡ false → (a ≡ true) × (b ≡ false)
 in_round true b none = (refl, none)
@@ -233,7 +283,7 @@ same_from : (period a b : ℕ) (xs : List ScheduleStep) → AreBetween xs → li
 same_from period a b [] are none fall = fall
 same_from period a b (DueStep read ∷ xs) are none fall = absurd (let wrong : ⊥ = cc in wrong)
 same_from period a b (RunStep read count ∷ xs) are none fall = absurd (let wrong : ⊥ = cc in wrong)
-same_from period a b (IdleStep ticks ∷ xs) are none fall = fall.1 ∙ same_from period fall.0 b xs are.1 none fall.2
+same_from period a b (IdleStep ticks ∷ xs) are none fall = fall.first ∙ same_from period fall.minute b xs are.1 none fall.rest
 same_from period a b (OpenStep stop ∷ xs) are none fall = absurd are.0
 same_from period a b (RoundStep details stop ∷ xs) are none fall = absurd are.0
 
@@ -244,7 +294,7 @@ falling_after period s (Due told) counts f none =
     record { behind = f.behind; within = f.within; before = f.before; turn = f.turn; since = more.0; between = more.1; lines = f.lines; few = f.few }
 falling_after period s (Run first count) counts f none =
     let is = is_told period s first count (count_kinds s count) none in
-    let more = with_one period s f (RunStep (record_told period first) count) (last_minute_of period first.stamp count) (is.0.minute, is.0.falls, is.0.stamps, is.0.last) tt in
+    let more = with_one period s f (RunStep (record_told period first) count) (last_minute_of period first.stamp count) is.0 tt in
     record { behind = f.behind; within = f.within; before = f.before; turn = f.turn; since = more.0; between = more.1; lines = f.lines; few = f.few }
 falling_after period s (Idle ticks) counts f none =
     let more = with_one period s f (IdleStep ticks) s.newest refl tt in
