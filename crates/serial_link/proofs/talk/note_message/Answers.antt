@@ -11,6 +11,10 @@ loop-i-preserved c =
     let last = c.loop-i.i + 1 == length c.args.bytes.now in
     let one : List TalkItem = Said b last ∷ [] in
     record {
-      sofar = (q.0 ++ one, c.push_reserved.ensures.items ∙ ap (λ (l : List TalkItem). l ++ one) q.1 ∙ append_assoc c.args.talk.now.items q.0 one, said_more c.args.bytes.now c.loop-i.i b last q.0 c.loop-i-test.true refl refl q.2);
+      sofar = record {
+        said = q.said ++ one;
+        noted = c.push_reserved.ensures.items ∙ ap (λ (l : List TalkItem). l ++ one) q.noted ∙ append_assoc c.args.talk.now.items q.said one;
+        whole = said_more c.args.bytes.now c.loop-i.i b last q.said c.loop-i-test.true refl refl q.whole;
+      };
       room = omega (arith, c.push_reserved.ensures.len, c.push_reserved.ensures.capacity, c.loop-i.invariant.room, c.loop-i-test.true);
     }
