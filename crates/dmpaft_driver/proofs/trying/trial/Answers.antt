@@ -15,7 +15,17 @@ left_of_talk talk t u at is n = take_rest talk at ∙ ap (λ k. drop k talk) (sy
 
 pub steps-init : goal.steps-init
 steps-init c = record {
-  sofar = ([], c.args.talk.now, [], begun c.args.after Settling, refl, refl, refl, tt, c.new-pump.ensures.shows);
+  sofar = record {
+    taken = [];
+    rest = c.args.talk.now;
+    answers = [];
+    state = begun c.args.after Settling;
+    talk_is = refl;
+    counted = refl;
+    stands = refl;
+    kept = tt;
+    shown = c.new-pump.ensures.shows;
+  };
   within = omega arith;
 }
 
@@ -24,13 +34,23 @@ steps-preserved c =
     let i = c.steps.invariant.sofar in
     let a = c.args.after in
     let talk = c.args.talk.now in
-    let v = c.in-Ok.ensures.steps no_tally a i.3 i.8 in
-    let left : take (length talk - c.steps.at) (drop c.steps.at talk) ≡ i.1 = left_of_talk talk i.0 i.1 c.steps.at i.4 i.5 in
-    let on = tries_on a talk i.0 i.1 i.2 i.3 i.4 i.6 i.7 (shown_no_astray no_tally a i.3 c.steps.pump i.8) v.0 v.2 v.5 in
-    let is : talk ≡ (i.0 ++ v.0) ++ v.1 = i.4 ∙ ap (λ (y : List TalkItem). i.0 ++ y) (sym left ∙ v.3) ∙ sym (append_assoc i.0 v.0 v.1) in
+    let v = c.in-Ok.ensures.steps no_tally a i.state i.shown in
+    let left : take (length talk - c.steps.at) (drop c.steps.at talk) ≡ i.rest = left_of_talk talk i.taken i.rest c.steps.at i.talk_is i.counted in
+    let on = tries_on a talk i.taken i.rest i.answers i.state i.talk_is i.stands i.kept (shown_no_astray no_tally a i.state c.steps.pump i.shown) v.0 v.2 v.5 in
+    let is : talk ≡ (i.taken ++ v.0) ++ v.1 = i.talk_is ∙ ap (λ (y : List TalkItem). i.taken ++ y) (sym left ∙ v.3) ∙ sym (append_assoc i.taken v.0 v.1) in
     record {
-      sofar = (i.0 ++ v.0, v.1, i.2 ++ v.2, pump_from a i.3 v.0 v.2, is, omega (arith, length-append i.0 v.0, i.5, v.4), on.0, on.1, v.6);
-      within = omega (arith, ap (λ (y : List TalkItem). length y) is, length-append (i.0 ++ v.0) v.1, length-append i.0 v.0, i.5, v.4);
+      sofar = record {
+        taken = i.taken ++ v.0;
+        rest = v.1;
+        answers = i.answers ++ v.2;
+        state = pump_from a i.state v.0 v.2;
+        talk_is = is;
+        counted = omega (arith, length-append i.taken v.0, i.counted, v.4);
+        stands = on.0;
+        kept = on.1;
+        shown = v.6;
+      };
+      within = omega (arith, ap (λ (y : List TalkItem). length y) is, length-append (i.taken ++ v.0) v.1, length-append i.taken v.0, i.counted, v.4);
     }
 
 pub returns-in-Err : goal.returns-in-Err
@@ -38,9 +58,9 @@ returns-in-Err c =
     let i = c.steps.invariant.sofar in
     let a = c.args.after in
     let talk = c.args.talk.now in
-    let left : take (length talk - c.steps.at) (drop c.steps.at talk) ≡ i.1 = left_of_talk talk i.0 i.1 c.steps.at i.4 i.5 in
-    let stops = subst (λ (y : List TalkItem). TrialStopsAt a i.3 y c.in-Err.end) left (c.in-Err.ensures.steps no_tally a i.3 i.8) in
+    let left : take (length talk - c.steps.at) (drop c.steps.at talk) ≡ i.rest = left_of_talk talk i.taken i.rest c.steps.at i.talk_is i.counted in
+    let stops = subst (λ (y : List TalkItem). TrialStopsAt a i.state y c.in-Err.end) left (c.in-Err.ensures.steps no_tally a i.state i.shown) in
     record {
-      tried = subst (λ y. TalkIsTried a talk y) (sym c.behind.ensures) (subst (λ n. TalkIsTried a talk (later n c.in-Err.end)) i.5
-          (tried a talk i.0 i.1 i.2 i.3 i.4 i.6 i.7 (shown_no_astray no_tally a i.3 c.steps.pump i.8) c.in-Err.end stops));
+      tried = subst (λ y. TalkIsTried a talk y) (sym c.behind.ensures) (subst (λ n. TalkIsTried a talk (later n c.in-Err.end)) i.counted
+          (tried a talk i.taken i.rest i.answers i.state i.talk_is i.stands i.kept (shown_no_astray no_tally a i.state c.steps.pump i.shown) c.in-Err.end stops));
     }
