@@ -45,10 +45,10 @@ some_inner xs ys e = cc
 pub shown_done : {L : Type 0} (traffic : Traffic L) (task : Task) (old new : L) (answers : List (List ℕ)) (end : TaskEnd) →
     DoesTask traffic old (exchanges_of task) answers end new → ShowsDone traffic task old new → end ≡ task_end.Done
 shown_done {L} traffic task old new answers end does shown =
-    let t = does.talk.0 in
-    let grown : Some (shown.before ++ t) ≡ Some (shown.before ++ shown.gained) = sym (rw shown.told at does.talk.2.told) ∙ shown.grown in
+    let t = does.talk.items in
+    let grown : Some (shown.before ++ t) ≡ Some (shown.before ++ shown.gained) = sym (rw shown.told at does.talk.adds.told) ∙ shown.grown in
     let same : t ≡ shown.gained = append_cancel_left shown.before t shown.gained (some_inner (shown.before ++ t) (shown.before ++ shown.gained) grown) in
-    ends_done (exchanges_of task) t answers shown.done.0 end does.talk.1 (rw same shown.done.1)
+    ends_done (exchanges_of task) t answers shown.done.0 end does.talk.are (rw same shown.done.1)
 
 -- a task of a link that gained nothing is not done
 pub not_silent : {L : Type 0} (traffic : Traffic L) (task : Task) (old new : L) → traffic.talk new ≡ traffic.talk old → ShowsDone traffic task old new → ⊥

@@ -1,9 +1,8 @@
-ghost use Rattle.std.specs.Prelude.{◌≡◌, ◌<◌, ◌≤◌, List, Option, None, Some};
+ghost use Rattle.std.specs.Prelude.{◌≡◌, ◌<◌, ◌≤◌, Option, None, Some};
 ghost use Rattle.causes.specs.Cause.{Cause};
 ghost use Rattle.station_base.specs.CivilMinute.{CivilMinute};
 ghost use Rattle.vantage_frames.specs.Slots.{page_size};
-ghost use Rattle.serial_link.specs.declared.talk.TalkItem.{TalkItem};
-ghost use Rattle.serial_link.specs.Talk.{Adds};
+ghost use Rattle.serial_link.specs.Link.{TalkOf};
 ghost use Rattle.dmpaft_pump.specs.declared.outcome.Tally.{Tally};
 ghost use Rattle.dmpaft_pump.specs.Pump.{AttemptState};
 ghost use Rattle.dmpaft_pump.specs.Shown.{PumpShows, PumpStands, room_of, steps_left};
@@ -52,8 +51,7 @@ fn listen<L: Link>(pump: &mut Pump, link: &mut L, most: u16) -> Option<DumpEnd>
     requires room { most ≤ room_of pump.old }
     requires piece { most ≤ page_size }
     ensures hears { (start : Tally) (after : Option CivilMinute) (s : AttemptState) → PumpShows start after s pump.old
-        → (t : List TalkItem) × Adds L.traffic link.old t link.new
-        × ListensTo result start after s t pump.old pump.new }
+        → TalkOf L.traffic link.old (λ t. ListensTo result start after s t pump.old pump.new) link.new }
     ensures left { (start : Tally) (after : Option CivilMinute) (s : AttemptState) → PumpShows start after s pump.old
         → result ≡ None → steps_left pump.new < steps_left pump.old }
     ensures fault { Cause (L.traffic.faults link.old) (L.traffic.faults link.new) (result ≡ Some DumpEnd.LinkFault) }

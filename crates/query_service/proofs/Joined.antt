@@ -23,7 +23,7 @@ module _ {L D : Type 0} (traffic : Traffic L) (medium : Medium D) (book : Book) 
   pub serves_none : (Part : List TalkItem → Type 0) (link : L) (disk : D) → Part [] → ServesQueries traffic medium book Done Part link link disk disk
   serves_none Part link disk part = record {
     talk = record {
-      talk = ([], part, adds_none traffic link);
+      talk = record { items = []; are = part; adds = adds_none traffic link };
       fault = record { never_falls = omega arith; rose = λ e. absurd (let bad : Done ≡ LinkFault = e in cc) };
       shortage = record { never_falls = omega arith; rose = λ e. absurd (let bad : Done ≡ OutOfMemory = e in cc) };
     };

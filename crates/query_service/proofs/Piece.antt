@@ -69,15 +69,15 @@ module _ {L : Type 0} (traffic : Traffic L) (old new : LinkSink L) (bytes : List
     done = λ _. tt;
     failed = λ e. absurd (let bad : put.Done ≡ put.Failed = e in cc);
     call =
-        let (talk, whole, adds) = speaks.talk in (
+        let talk = speaks.talk in (
           bytes,
           refl,
           record {
             same = same;
-            talk = talk;
-            said_is = ap said whole ∙ message_bytes bytes;
-            only = subst TalkOnlySays (sym whole) (message_only bytes);
-            adds = adds;
+            talk = talk.items;
+            said_is = ap said talk.are ∙ message_bytes bytes;
+            only = subst TalkOnlySays (sym talk.are) (message_only bytes);
+            adds = talk.adds;
             refuses = refuses_by _ _ None _ _ _ _ free (is ∙ free) (record {
               same = refl;
               faults = speaks.still.faults (λ e. absurd (let bad : sent.Done ≡ sent.Failed = e in cc));
@@ -116,9 +116,9 @@ module _ {L : Type 0} (traffic : Traffic L) (old new : LinkSink L) (bytes : List
     done = λ e. absurd (let bad : put.Failed ≡ put.Done = e in cc);
     failed = λ _. writes_nothing None bytes;
     call =
-        let (talk, says, adds) = speaks.talk in
-        let (rest, whole) = says in
-        front_said talk rest whole adds (refuses_by _ _ (Some LinkFault) _ _ _ _ free is (record {
+        let talk = speaks.talk in
+        let (rest, whole) = talk.are in
+        front_said talk.items rest whole talk.adds (refuses_by _ _ (Some LinkFault) _ _ _ _ free is (record {
           never_falls = speaks.fault.never_falls;
           rose = speaks.fault.rose refl;
           stands = speaks.still.shortages (λ e. absurd (let bad : sent.Failed ≡ sent.OutOfMemory = e in cc));
@@ -133,9 +133,9 @@ module _ {L : Type 0} (traffic : Traffic L) (old new : LinkSink L) (bytes : List
     done = λ e. absurd (let bad : put.Failed ≡ put.Done = e in cc);
     failed = λ _. writes_nothing None bytes;
     call =
-        let (talk, says, adds) = speaks.talk in
-        let (rest, whole) = says in
-        front_said talk rest whole adds (refuses_by _ _ (Some OutOfMemory) _ _ _ _ free is (record {
+        let talk = speaks.talk in
+        let (rest, whole) = talk.are in
+        front_said talk.items rest whole talk.adds (refuses_by _ _ (Some OutOfMemory) _ _ _ _ free is (record {
           never_falls = speaks.shortage.never_falls;
           rose = speaks.shortage.rose refl;
           stands = speaks.still.faults (λ e. absurd (let bad : sent.OutOfMemory ≡ sent.Failed = e in cc));

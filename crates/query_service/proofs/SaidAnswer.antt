@@ -42,14 +42,14 @@ module _ {L D : Type 0} (traffic : Traffic L) (medium : Medium D) (book : Book) 
       let over = by.wrote.1 in let r = counts None is over.refuses in
       record {
         talk = record {
-          talk = (
-            over.talk,
-            record {
+          talk = record {
+            items = over.talk;
+            are = record {
               only = over.only;
               answers = λ rows stands x told. (request, asks, subst (λ (b : List ℕ). IsAnswer (answer_to rows request) Done b) (sym over.said_is) (by.wrote.2 rows stands x told));
-            },
-            over.adds,
-          );
+            };
+            adds = over.adds;
+          };
           fault = record { never_falls = omega (arith, r.faults); rose = λ e. absurd (let bad : Done ≡ LinkFault = e in cc) };
           shortage = record { never_falls = omega (arith, r.shortages); rose = λ e. absurd (let bad : Done ≡ OutOfMemory = e in cc) };
         };
@@ -64,14 +64,14 @@ module _ {L D : Type 0} (traffic : Traffic L) (medium : Medium D) (book : Book) 
       let over = by.wrote.1 in let r = counts None is over.refuses in
       record {
         talk = record {
-          talk = (
-            over.talk,
-            record {
+          talk = record {
+            items = over.talk;
+            are = record {
               only = over.only;
               answers = λ rows stands x told. (request, asks, subst (λ (b : List ℕ). IsAnswer (answer_to rows request) DiskFault b) (sym over.said_is) (by.wrote.2 rows stands x told));
-            },
-            over.adds,
-          );
+            };
+            adds = over.adds;
+          };
           fault = record { never_falls = omega (arith, r.faults); rose = λ e. absurd (let bad : DiskFault ≡ LinkFault = e in cc) };
           shortage = record { never_falls = omega (arith, r.shortages); rose = λ e. absurd (let bad : DiskFault ≡ OutOfMemory = e in cc) };
         };
@@ -89,14 +89,14 @@ module _ {L D : Type 0} (traffic : Traffic L) (medium : Medium D) (book : Book) 
       let over = by.wrote.1 in let r = counts (Some refusal.LinkFault) is over.refuses in
       record {
         talk = record {
-          talk = (
-            over.talk,
-            record {
+          talk = record {
+            items = over.talk;
+            are = record {
               only = over.only;
               answers = λ rows stands x told. (request, asks, subst (λ (b : List ℕ). IsAnswer (answer_to rows request) LinkFault b) (sym over.said_is) (by.wrote.2 rows stands x told));
-            },
-            over.adds,
-          );
+            };
+            adds = over.adds;
+          };
           fault = record { never_falls = r.never_falls; rose = λ e. r.rose };
           shortage = record { never_falls = omega (arith, r.stands); rose = λ e. absurd (let bad : LinkFault ≡ OutOfMemory = e in cc) };
         };
@@ -109,14 +109,14 @@ module _ {L D : Type 0} (traffic : Traffic L) (medium : Medium D) (book : Book) 
       let over = by.wrote.1 in let r = counts (Some refusal.OutOfMemory) is over.refuses in
       record {
         talk = record {
-          talk = (
-            over.talk,
-            record {
+          talk = record {
+            items = over.talk;
+            are = record {
               only = over.only;
               answers = λ rows stands x told. (request, asks, subst (λ (b : List ℕ). IsAnswer (answer_to rows request) OutOfMemory b) (sym over.said_is) (by.wrote.2 rows stands x told));
-            },
-            over.adds,
-          );
+            };
+            adds = over.adds;
+          };
           fault = record { never_falls = omega (arith, r.stands); rose = λ e. absurd (let bad : OutOfMemory ≡ LinkFault = e in cc) };
           shortage = record { never_falls = r.never_falls; rose = λ e. r.rose };
         };

@@ -199,7 +199,7 @@ pub hears_serves : {L D : Type 0} (traffic : Traffic L) (medium : Medium D) (boo
     → Hears traffic link (recv.Got n) buf link' → ServesQueries traffic medium book Done (λ t. t ≡ map Heard (take n buf)) link link' disk disk
 hears_serves traffic medium book link link' disk n buf hears = record {
   talk = record {
-    talk = (map Heard (take n buf), refl, hears.talk);
+    talk = record { items = map Heard (take n buf); are = refl; adds = hears.talk };
     fault = record { never_falls = hears.fault.never_falls; rose = λ e. absurd (let bad : Done ≡ LinkFault = e in cc) };
     shortage = record { never_falls = hears.shortage.never_falls; rose = λ e. absurd (let bad : Done ≡ OutOfMemory = e in cc) };
   };
@@ -218,7 +218,7 @@ pub quiet_serves : {L D : Type 0} (traffic : Traffic L) (medium : Medium D) (boo
     → Hears traffic link recv.Quiet buf link' → ServesQueries traffic medium book Done (λ t. t ≡ Quiet ∷ []) link link' disk disk
 quiet_serves traffic medium book link link' disk buf hears = record {
   talk = record {
-    talk = (Quiet ∷ [], refl, hears.talk);
+    talk = record { items = Quiet ∷ []; are = refl; adds = hears.talk };
     fault = record { never_falls = hears.fault.never_falls; rose = λ e. absurd (let bad : Done ≡ LinkFault = e in cc) };
     shortage = record { never_falls = hears.shortage.never_falls; rose = λ e. absurd (let bad : Done ≡ OutOfMemory = e in cc) };
   };
@@ -237,7 +237,7 @@ pub failed_serves : {L D : Type 0} (traffic : Traffic L) (medium : Medium D) (bo
     → Hears traffic link recv.Failed buf link' → ServesQueries traffic medium book LinkFault (λ t. t ≡ []) link link' disk disk
 failed_serves traffic medium book link link' disk buf hears = record {
   talk = record {
-    talk = ([], refl, hears.talk);
+    talk = record { items = []; are = refl; adds = hears.talk };
     fault = record { never_falls = hears.fault.never_falls; rose = λ e. hears.fault.rose refl };
     shortage = record { never_falls = hears.shortage.never_falls; rose = λ e. absurd (let bad : LinkFault ≡ OutOfMemory = e in cc) };
   };
@@ -256,7 +256,7 @@ pub short_serves : {L D : Type 0} (traffic : Traffic L) (medium : Medium D) (boo
     → Hears traffic link recv.OutOfMemory buf link' → ServesQueries traffic medium book OutOfMemory (λ t. t ≡ []) link link' disk disk
 short_serves traffic medium book link link' disk buf hears = record {
   talk = record {
-    talk = ([], refl, hears.talk);
+    talk = record { items = []; are = refl; adds = hears.talk };
     fault = record { never_falls = hears.fault.never_falls; rose = λ e. absurd (let bad : OutOfMemory ≡ LinkFault = e in cc) };
     shortage = record { never_falls = hears.shortage.never_falls; rose = λ e. hears.shortage.rose refl };
   };

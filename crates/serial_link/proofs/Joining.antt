@@ -23,7 +23,11 @@ cause_as one f = record { never_falls = one.never_falls; rose = λ g. one.rose (
 pub talks_then : {L : Type 0} {traffic : Traffic L} {a b c : L} {P Q : List TalkItem → Type 0} {F G S T : Type 0} (R : List TalkItem → Type 0)
     → Talks traffic a P F S b → Talks traffic b Q G T c → ((s t : List TalkItem) → P s → Q t → R (s ++ t)) → Talks traffic a R G T c
 talks_then R one two h = record {
-  talk = (one.talk.0 ++ two.talk.0, h one.talk.0 two.talk.0 one.talk.1 two.talk.1, adds_joins one.talk.2 two.talk.2);
+  talk = record {
+    items = one.talk.items ++ two.talk.items;
+    are = h one.talk.items two.talk.items one.talk.are two.talk.are;
+    adds = adds_joins one.talk.adds two.talk.adds;
+  };
   fault = cause_later one.fault two.fault;
   shortage = cause_later one.shortage two.shortage;
 }
@@ -32,7 +36,11 @@ talks_then R one two h = record {
 pub talks_as : {L : Type 0} {traffic : Traffic L} {a b : L} {P : List TalkItem → Type 0} {F G S T : Type 0} (R : List TalkItem → Type 0)
     → Talks traffic a P F S b → (G → F) → (T → S) → ((t : List TalkItem) → P t → R t) → Talks traffic a R G T b
 talks_as R one f s h = record {
-  talk = (one.talk.0, h one.talk.0 one.talk.1, one.talk.2);
+  talk = record {
+    items = one.talk.items;
+    are = h one.talk.items one.talk.are;
+    adds = one.talk.adds;
+  };
   fault = cause_as one.fault f;
   shortage = cause_as one.shortage s;
 }

@@ -9,7 +9,11 @@ use Rattle.console_server.proofs.serving.answer_bytes.Goals as goal
 
 pub loop-byte-init : goal.loop-byte-init
 loop-byte-init g c = record {
-  sofar = ([], adds_none g.L.Link.traffic c.args.link.now, answers_none c.args.console.now c.args.count.now);
+  sofar = record {
+    items = [];
+    are = answers_none c.args.console.now c.args.count.now;
+    adds = adds_none g.L.Link.traffic c.args.link.now;
+  };
   heard = refl;
   said = omega arith;
   faults = refl;
@@ -24,19 +28,19 @@ returns-in-LinkFault-clause-talk g c =
     let n = c.loop-byte.byte-index in
     let b = get_or bytes n 0 in
     let reply = c.hear-reply.result in
-    let part = answers_part (map Heard (take n bytes)) (map Heard (drop (n + 1) bytes)) i.0 said.0 (Heard b) reply.bytes.items
-    c.args.console.now c.loop-byte.console c.hear-reply.new.self c.args.count.now c.loop-byte.count i.2
-    (hears_steps b reply c.loop-byte.console c.hear-reply.new.self c.hear-reply.ensures) said.1 in
+    let part = answers_part (map Heard (take n bytes)) (map Heard (drop (n + 1) bytes)) i.items said.items (Heard b) reply.bytes.items
+    c.args.console.now c.loop-byte.console c.hear-reply.new.self c.args.count.now c.loop-byte.count i.are
+    (hears_steps b reply c.loop-byte.console c.hear-reply.new.self c.hear-reply.ensures) said.are in
     record {
-      talk = (
-        i.0 ++ said.0,
-        record {
+      talk = record {
+        items = i.items ++ said.items;
+        are = record {
           only = part.0;
-          replies = λ k stands. subst (λ (l : List TalkItem). IsAnsweredInPart k c.hear-reply.new.self l (i.0 ++ said.0)) (heard_whole bytes n c.loop-byte-test.true) (part.1 k stands);
+          replies = λ k stands. subst (λ (l : List TalkItem). IsAnsweredInPart k c.hear-reply.new.self l (i.items ++ said.items)) (heard_whole bytes n c.loop-byte-test.true) (part.1 k stands);
           counted = tt;
-        },
-        adds_joins i.1 said.2,
-      );
+        };
+        adds = adds_joins i.adds said.adds;
+      };
       fault = search rules;
       shortage = search rules;
     }
@@ -49,19 +53,19 @@ returns-in-OutOfMemory-clause-talk g c =
     let n = c.loop-byte.byte-index in
     let b = get_or bytes n 0 in
     let reply = c.hear-reply.result in
-    let part = answers_part (map Heard (take n bytes)) (map Heard (drop (n + 1) bytes)) i.0 said.0 (Heard b) reply.bytes.items
-    c.args.console.now c.loop-byte.console c.hear-reply.new.self c.args.count.now c.loop-byte.count i.2
-    (hears_steps b reply c.loop-byte.console c.hear-reply.new.self c.hear-reply.ensures) said.1 in
+    let part = answers_part (map Heard (take n bytes)) (map Heard (drop (n + 1) bytes)) i.items said.items (Heard b) reply.bytes.items
+    c.args.console.now c.loop-byte.console c.hear-reply.new.self c.args.count.now c.loop-byte.count i.are
+    (hears_steps b reply c.loop-byte.console c.hear-reply.new.self c.hear-reply.ensures) said.are in
     record {
-      talk = (
-        i.0 ++ said.0,
-        record {
+      talk = record {
+        items = i.items ++ said.items;
+        are = record {
           only = part.0;
-          replies = λ k stands. subst (λ (l : List TalkItem). IsAnsweredInPart k c.hear-reply.new.self l (i.0 ++ said.0)) (heard_whole bytes n c.loop-byte-test.true) (part.1 k stands);
+          replies = λ k stands. subst (λ (l : List TalkItem). IsAnsweredInPart k c.hear-reply.new.self l (i.items ++ said.items)) (heard_whole bytes n c.loop-byte-test.true) (part.1 k stands);
           counted = tt;
-        },
-        adds_joins i.1 said.2,
-      );
+        };
+        adds = adds_joins i.adds said.adds;
+      };
       fault = search rules;
       shortage = search rules;
     }
@@ -77,14 +81,14 @@ loop-byte-preserved g c =
     let came = map Heard (take n bytes) in
     let steps = hears_steps b reply c.loop-byte.console c.hear-reply.new.self c.hear-reply.ensures in
     record {
-      sofar = (
-        i.sofar.0 ++ said.0,
-        adds_joins i.sofar.1 said.2,
-        subst (λ (l : List TalkItem). AnswersAll end.Done l c.args.console.now c.hear-reply.new.self c.args.count.now c.say.new.count (i.sofar.0 ++ said.0))
+      sofar = record {
+        items = i.sofar.items ++ said.items;
+        are = subst (λ (l : List TalkItem). AnswersAll end.Done l c.args.console.now c.hear-reply.new.self c.args.count.now c.say.new.count (i.sofar.items ++ said.items))
             (sym (heard_more bytes n c.loop-byte-test.true))
-            (answers_more came i.sofar.0 said.0 (Heard b) reply.bytes.items c.args.console.now c.loop-byte.console c.hear-reply.new.self c.args.count.now c.loop-byte.count c.say.new.count
-            i.sofar.2 steps said.1),
-      );
+            (answers_more came i.sofar.items said.items (Heard b) reply.bytes.items c.args.console.now c.loop-byte.console c.hear-reply.new.self c.args.count.now c.loop-byte.count c.say.new.count
+            i.sofar.are steps said.are);
+        adds = adds_joins i.sofar.adds said.adds;
+      };
       heard = c.in-Done.ensures.heard ∙ i.heard;
       said = omega (arith, c.in-Done.ensures.said, i.said);
       faults = c.in-Done.ensures.still.faults (λ wrong. cc) ∙ i.faults;

@@ -9,7 +9,11 @@ returns-clause-talk g c =
     let steps = waits_steps reply c.args.console.now c.tick-reply.new.self c.tick-reply.ensures in
     let said = c.say.ensures.talk.talk in
     record {
-      talk = (said.0, answers_one c.say.result said.0 Quiet reply.bytes.items c.args.console.now c.tick-reply.new.self c.args.count.now c.say.new.count steps said.1, said.2);
+      talk = record {
+        items = said.items;
+        are = answers_one c.say.result said.items Quiet reply.bytes.items c.args.console.now c.tick-reply.new.self c.args.count.now c.say.new.count steps said.are;
+        adds = said.adds;
+      };
       fault = search rules;
       shortage = search rules;
     }

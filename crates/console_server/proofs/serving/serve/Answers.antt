@@ -5,7 +5,11 @@ use Rattle.console_server.proofs.serving.serve.Goals as goal
 
 pub loop-init : goal.loop-init
 loop-init g c = record {
-  sofar = ([], adds_none g.L.Link.traffic c.args.link.now, serves_none c.args.console.now c.args.count.now);
+  sofar = record {
+    items = [];
+    are = serves_none c.args.console.now c.args.count.now;
+    adds = adds_none g.L.Link.traffic c.args.link.now;
+  };
   within = omega arith;
   heard = omega (arith, c.requires.heard);
   said = omega (arith, c.requires.said);
@@ -18,11 +22,11 @@ returns-in-LinkFault-clause-talk g c =
     let i = c.loop.invariant.sofar in
     let t = c.in-LinkFault.ensures.talk.talk in
     record {
-      talk = (
-        i.0 ++ t.0,
-        serves_cut c.loop.counter c.args.turns i.0 t.0 c.args.console.now c.loop.console c.take_turn.new.console c.args.count.now c.loop.count c.loop-test.true i.2 t.1,
-        adds_joins i.1 t.2,
-      );
+      talk = record {
+        items = i.items ++ t.items;
+        are = serves_cut c.loop.counter c.args.turns i.items t.items c.args.console.now c.loop.console c.take_turn.new.console c.args.count.now c.loop.count c.loop-test.true i.are t.are;
+        adds = adds_joins i.adds t.adds;
+      };
       fault = search rules;
       shortage = search rules;
     }
@@ -32,11 +36,11 @@ returns-in-OutOfMemory-clause-talk g c =
     let i = c.loop.invariant.sofar in
     let t = c.in-OutOfMemory.ensures.talk.talk in
     record {
-      talk = (
-        i.0 ++ t.0,
-        serves_cut c.loop.counter c.args.turns i.0 t.0 c.args.console.now c.loop.console c.take_turn.new.console c.args.count.now c.loop.count c.loop-test.true i.2 t.1,
-        adds_joins i.1 t.2,
-      );
+      talk = record {
+        items = i.items ++ t.items;
+        are = serves_cut c.loop.counter c.args.turns i.items t.items c.args.console.now c.loop.console c.take_turn.new.console c.args.count.now c.loop.count c.loop-test.true i.are t.are;
+        adds = adds_joins i.adds t.adds;
+      };
       fault = search rules;
       shortage = search rules;
     }
@@ -47,11 +51,11 @@ loop-preserved g c =
     let e = c.in-Done.ensures in
     let t = e.talk.talk in
     record {
-      sofar = (
-        i.sofar.0 ++ t.0,
-        adds_joins i.sofar.1 t.2,
-        serves_more c.loop.counter i.sofar.0 t.0 c.args.console.now c.loop.console c.take_turn.new.console c.args.count.now c.loop.count c.take_turn.new.count i.sofar.2 t.1,
-      );
+      sofar = record {
+        items = i.sofar.items ++ t.items;
+        are = serves_more c.loop.counter i.sofar.items t.items c.args.console.now c.loop.console c.take_turn.new.console c.args.count.now c.loop.count c.take_turn.new.count i.sofar.are t.are;
+        adds = adds_joins i.sofar.adds t.adds;
+      };
       within = omega (arith, c.loop-test.true);
       heard = omega (arith, e.heard, i.heard);
       said = omega (arith, e.said, i.said);

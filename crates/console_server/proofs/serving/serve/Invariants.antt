@@ -1,6 +1,5 @@
-use Rattle.std.proofs.Common.{◌≡◌, ◌≤◌, ◌*◌, List}
-use Rattle.serial_link.specs.declared.talk.TalkItem.{TalkItem}
-use Rattle.serial_link.specs.Talk.{Adds}
+use Rattle.std.proofs.Common.{◌≡◌, ◌≤◌, ◌*◌}
+use Rattle.serial_link.specs.Link.{TalkOf}
 use Rattle.console_server.specs.Serving.{ServesTurns}
 use Rattle.console_server.specs.declared.serving.ServeEnd.TheVariants as end
 use Rattle.console_server.proofs.serving.serve.Given as goal
@@ -8,7 +7,7 @@ use Rattle.console_server.proofs.serving.serve.Given as goal
 -- the turns so far were served, no fault and no shortage came, and the counts are as small as that
 abbrev pub invariant-loop : goal.invariant-loop
 invariant-loop g l = record {
-  sofar : (s : List TalkItem) × Adds g.L.Link.traffic l.fn.link s l.link × ServesTurns end.Done l.counter l.fn.console l.console l.fn.count l.count s;
+  sofar : TalkOf g.L.Link.traffic l.fn.link (ServesTurns end.Done l.counter l.fn.console l.console l.fn.count l.count) l.link;
   within : l.counter ≤ l.turns;
   heard : l.count.heard ≤ 256 * l.counter;
   said : l.count.said ≤ 4099 * 256 * l.counter;

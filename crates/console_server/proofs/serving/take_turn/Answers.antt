@@ -17,13 +17,13 @@ returns-in-Got-clause-talk g c =
     let room = c.recv.auto.buf in
     let t = c.answer_bytes.ensures.talk.talk in
     record {
-      talk = (
-        map Heard bs ++ t.0,
-        turn_by c.answer_bytes.result (map Heard bs) t.0 c.args.console.now c.answer_bytes.new.console c.args.count.now _ c.answer_bytes.new.count
+      talk = record {
+        items = map Heard bs ++ t.items;
+        are = turn_by c.answer_bytes.result (map Heard bs) t.items c.args.console.now c.answer_bytes.new.console c.args.count.now _ c.answer_bytes.new.count
             (heard_items bs) (heard_said bs) (omega (arith, bytes, waits, e.within.0)) (omega (arith, bytes, waits, e.within.1, room))
-            (omega (arith, bytes, c.answer_bytes.ensures.heard)) refl t.1,
-        adds_joins e.talk t.2,
-      );
+            (omega (arith, bytes, c.answer_bytes.ensures.heard)) refl t.are;
+        adds = adds_joins e.talk t.adds;
+      };
       fault = search rules;
       shortage = search rules;
     }
@@ -32,12 +32,12 @@ pub returns-in-Quiet-clause-talk : goal.returns-in-Quiet-clause-talk
 returns-in-Quiet-clause-talk g c =
     let t = c.answer_wait.ensures.talk.talk in
     record {
-      talk = (
-        Quiet ∷ t.0,
-        turn_by c.answer_wait.result (Quiet ∷ []) t.0 c.args.console.now c.answer_wait.new.console c.args.count.now c.args.count.now c.answer_wait.new.count
-            refl refl (omega arith) (omega arith) (omega (arith, c.answer_wait.ensures.heard)) refl t.1,
-        adds_joins c.in-Quiet.ensures.talk t.2,
-      );
+      talk = record {
+        items = Quiet ∷ t.items;
+        are = turn_by c.answer_wait.result (Quiet ∷ []) t.items c.args.console.now c.answer_wait.new.console c.args.count.now c.args.count.now c.answer_wait.new.count
+            refl refl (omega arith) (omega arith) (omega (arith, c.answer_wait.ensures.heard)) refl t.are;
+        adds = adds_joins c.in-Quiet.ensures.talk t.adds;
+      };
       fault = search rules;
       shortage = search rules;
     }

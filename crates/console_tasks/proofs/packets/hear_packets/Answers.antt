@@ -38,20 +38,20 @@ loop-heard-init g c =
     let t = c.in_ok-say_command.ensures.talk in
     let n = c.args.count in
     let m : c.from.result ≡ n = search rules in
-    let said : On (Exchanges (looping n)) (Exchanges (packets n)) (ack ∷ []) t.0 =
-    subst (λ x. On (Exchanges (command (said_line (LoopFor x)) ∷ packets n)) (Exchanges (packets n)) (ack ∷ []) t.0) m
-    (command_on (said_line (LoopFor c.from.result)) (packets n) c.in_ok-say_command.field-0 t.0 t.1) in
-    let on = on_then (start_on (looping n) c.in_ok-start.field-0 s.0 s.1) said in
+    let said : On (Exchanges (looping n)) (Exchanges (packets n)) (ack ∷ []) t.items =
+    subst (λ x. On (Exchanges (command (said_line (LoopFor x)) ∷ packets n)) (Exchanges (packets n)) (ack ∷ []) t.items) m
+    (command_on (said_line (LoopFor c.from.result)) (packets n) c.in_ok-say_command.field-0 t.items t.are) in
+    let on = on_then (start_on (looping n) c.in_ok-start.field-0 s.items s.are) said in
     let none : [] ≡ c.args.into.now.items = sym c.requires.empty in
     let zero_left : n ≡ n - 0 = omega arith in
     record {
-      sofar = (
-        s.0 ++ t.0,
-        adds_joins s.2 t.2,
-        subst (λ (x : List LoopPacket). On (TaskTalk (looping n)) (Exchanges (packets (n - 0))) (ack ∷ map packet_bytes x)
-            (s.0 ++ t.0)) none
-            (subst (λ x. On (TaskTalk (looping n)) (Exchanges (packets x)) (ack ∷ []) (s.0 ++ t.0)) zero_left on),
-      );
+      sofar = record {
+        items = s.items ++ t.items;
+        are = subst (λ (x : List LoopPacket). On (TaskTalk (looping n)) (Exchanges (packets (n - 0))) (ack ∷ map packet_bytes x)
+            (s.items ++ t.items)) none
+            (subst (λ x. On (TaskTalk (looping n)) (Exchanges (packets x)) (ack ∷ []) (s.items ++ t.items)) zero_left on);
+        adds = adds_joins s.adds t.adds;
+      };
       room = search rules;
       faults = omega (arith, c.in_ok-start.ensures.fault.never_falls, c.in_ok-say_command.ensures.fault.never_falls);
       shortages = omega (arith, c.in_ok-start.ensures.shortage.never_falls, c.in_ok-say_command.ensures.shortage.never_falls);
@@ -66,12 +66,12 @@ returns-in_err-hear_packet g c =
     let end = c.in_err-hear_packet.field-0.0 in
     let r = c.from_residual-in_err-hear_packet.result in
     let e : r ≡ Err end = search rules in
-    let t = i.sofar.0 ++ k.talk.0 in
-    let part : Fails (TaskTalk (looping n)) end t = fails_on i.sofar.2 end k.talk.0
-    (subst (λ (xs : List Exchange). Fails (Exchanges xs) end k.talk.0) (sym (packets_left n j c.loop-heard-test.true))
-    (k.talk.1 (packets (n - (j + 1))))) in
+    let t = i.sofar.items ++ k.talk.items in
+    let part : Fails (TaskTalk (looping n)) end t = fails_on i.sofar.are end k.talk.items
+    (subst (λ (xs : List Exchange). Fails (Exchanges xs) end k.talk.items) (sym (packets_left n j c.loop-heard-test.true))
+    (k.talk.are (packets (n - (j + 1))))) in
     fails_as (TaskTalk (looping n)) _ r _ end e refl (record {
-      talk = (t, part, adds_joins i.sofar.1 k.talk.2);
+      talk = record { items = t; are = part; adds = adds_joins i.sofar.adds k.talk.adds };
       fault = cause_since i.faults k.fault (λ f. f);
       shortage = cause_since i.shortages k.shortage (λ f. f);
     })
@@ -84,19 +84,19 @@ loop-heard-preserved g c =
     let j = c.loop-heard._heard in
     let read = c.in_ok-hear_packet.field-0 in
     let before = c.loop-heard.into.items in
-    let t = i.sofar.0 ++ k.talk.0 in
+    let t = i.sofar.items ++ k.talk.items in
     let on = on_then (subst (λ (xs : List Exchange). On (TaskTalk (looping n)) (Exchanges xs)
-    (ack ∷ map packet_bytes before) i.sofar.0) (packets_left n j c.loop-heard-test.true) i.sofar.2)
-    (packet_on (packets (n - (j + 1))) read k.talk.0 k.talk.1) in
+    (ack ∷ map packet_bytes before) i.sofar.items) (packets_left n j c.loop-heard-test.true) i.sofar.are)
+    (packet_on (packets (n - (j + 1))) read k.talk.items k.talk.are) in
     let now : map packet_bytes before ++ packet_bytes read ∷ [] ≡ map packet_bytes c.push.new.self.items =
     map_one before read ∙ ap (λ (x : List LoopPacket). map packet_bytes x) (sym c.push.ensures.items) in
     record {
-      sofar = (
-        t,
-        adds_joins i.sofar.1 k.talk.2,
-        subst
-            (λ (x : List (List ℕ)). On (TaskTalk (looping n)) (Exchanges (packets (n - (j + 1)))) (ack ∷ x) t) now on,
-      );
+      sofar = record {
+        items = t;
+        are = subst
+            (λ (x : List (List ℕ)). On (TaskTalk (looping n)) (Exchanges (packets (n - (j + 1)))) (ack ∷ x) t) now on;
+        adds = adds_joins i.sofar.adds k.talk.adds;
+      };
       room = omega (arith, c.push.ensures.len, i.room);
       faults = omega (arith, i.faults, k.fault.never_falls);
       shortages = omega (arith, i.shortages, k.shortage.never_falls);
@@ -110,9 +110,9 @@ returns g c =
     let i = c.loop-heard.invariant in
     let n = c.args.count in
     let on = all_on n c.loop-heard._heard
-    (ack ∷ map packet_bytes c.loop-heard.into.items) i.sofar.0 c.loop-heard.auto._heard-end c.loop-heard-test.false i.sofar.2 in
+    (ack ∷ map packet_bytes c.loop-heard.into.items) i.sofar.items c.loop-heard.auto._heard-end c.loop-heard-test.false i.sofar.are in
     record {
-      talk = (i.sofar.0, on_end on, i.sofar.1);
+      talk = record { items = i.sofar.items; are = on_end on; adds = i.sofar.adds };
       fault = record { never_falls = i.faults; rose = λ e. absurd (no_error (Ok tt) task_end.LinkFault tt (λ k. k) e) };
       shortage = record { never_falls = i.shortages; rose = λ e. absurd (no_error (Ok tt) task_end.OutOfMemory tt (λ k. k) e) };
     }

@@ -13,15 +13,15 @@ use Rattle.dmpaft_driver.proofs.one_turn.turn.Goals as goal
 
 pub returns-in-Failed-clause-turns : goal.returns-in-Failed-clause-turns
 returns-in-Failed-clause-turns g c = λ start after s h.
-    let (talk, says, adds) = c.in-Failed.ensures.talk in
-    let (rest, whole) = says in
+    let talk = c.in-Failed.ensures.talk in
+    let (rest, whole) = talk.are in
     let tells = c.in-Say.ensures.tells start after s h in
     let allows = c.in-Say.ensures.allows start after s h in
     let k = c.args.keeper.now in
     record {
-      said = talk;
+      said = talk.items;
       answers = [];
-      adds = adds;
+      adds = talk.adds;
       handed = keeps_same g.K.Keeper.ledger after s k;
       still = λ none. refl;
       newest = last_same g.K.Keeper.ledger after s k;
@@ -32,23 +32,23 @@ returns-in-Failed-clause-turns g c = λ start after s h.
           inl refl,
           refl,
           not_keeping_said after c.args.pump.now.stage (subst (λ (y : List ℕ). 0 < length y) allows.0 allows.1),
-          stays_saying after s tells.0 c.as_slice.result.now talk rest tells.1 (c.as_slice.ensures.value ∙ tells.2) whole,
-          says_saying after s tells.0 c.as_slice.result.now talk rest (subst (λ (y : List ℕ). 0 < length y) (sym c.as_slice.ensures.value) allows.1) tells.1 (c.as_slice.ensures.value ∙ tells.2) whole,
+          stays_saying after s tells.0 c.as_slice.result.now talk.items rest tells.1 (c.as_slice.ensures.value ∙ tells.2) whole,
+          says_saying after s tells.0 c.as_slice.result.now talk.items rest (subst (λ (y : List ℕ). 0 < length y) (sym c.as_slice.ensures.value) allows.1) tells.1 (c.as_slice.ensures.value ∙ tells.2) whole,
         ),
       );
     }
 
 pub returns-in-OutOfMemory-clause-turns : goal.returns-in-OutOfMemory-clause-turns
 returns-in-OutOfMemory-clause-turns g c = λ start after s h.
-    let (talk, says, adds) = c.in-OutOfMemory.ensures.talk in
-    let (rest, whole) = says in
+    let talk = c.in-OutOfMemory.ensures.talk in
+    let (rest, whole) = talk.are in
     let tells = c.in-Say.ensures.tells start after s h in
     let allows = c.in-Say.ensures.allows start after s h in
     let k = c.args.keeper.now in
     record {
-      said = talk;
+      said = talk.items;
       answers = [];
-      adds = adds;
+      adds = talk.adds;
       handed = keeps_same g.K.Keeper.ledger after s k;
       still = λ none. refl;
       newest = last_same g.K.Keeper.ledger after s k;
@@ -59,8 +59,8 @@ returns-in-OutOfMemory-clause-turns g c = λ start after s h.
           inr refl,
           refl,
           not_keeping_said after c.args.pump.now.stage (subst (λ (y : List ℕ). 0 < length y) allows.0 allows.1),
-          stays_saying after s tells.0 c.as_slice.result.now talk rest tells.1 (c.as_slice.ensures.value ∙ tells.2) whole,
-          says_saying after s tells.0 c.as_slice.result.now talk rest (subst (λ (y : List ℕ). 0 < length y) (sym c.as_slice.ensures.value) allows.1) tells.1 (c.as_slice.ensures.value ∙ tells.2) whole,
+          stays_saying after s tells.0 c.as_slice.result.now talk.items rest tells.1 (c.as_slice.ensures.value ∙ tells.2) whole,
+          says_saying after s tells.0 c.as_slice.result.now talk.items rest (subst (λ (y : List ℕ). 0 < length y) (sym c.as_slice.ensures.value) allows.1) tells.1 (c.as_slice.ensures.value ∙ tells.2) whole,
         ),
       );
     }
@@ -71,14 +71,14 @@ returns-in-Listen-clause-turns g c = λ start after s h.
     let allows = c.in-Listen.ensures.allows start after s h in
     let k = c.args.keeper.now in
     record {
-      said = hears.0;
+      said = hears.items;
       answers = [];
-      adds = hears.1;
+      adds = hears.adds;
       handed = keeps_same g.K.Keeper.ledger after s k;
       still = λ none. refl;
       newest = last_same g.K.Keeper.ledger after s k;
       few = omega arith;
-      turns = listened start after s hears.0 c.args.pump.now c.listen.new.pump h (not_keeping_heard c.args.pump.now.stage c.args.pump.now.count (omega (arith, allows.0, allows.1))) c.listen.result hears.2;
+      turns = listened start after s hears.items c.args.pump.now c.listen.new.pump h (not_keeping_heard c.args.pump.now.stage c.args.pump.now.count (omega (arith, allows.0, allows.1))) c.listen.result hears.are;
     }
 
 pub returns-in-Keep-clause-turns : goal.returns-in-Keep-clause-turns
@@ -114,20 +114,20 @@ returns-in-Ended-clause-turns g c = λ start after s h.
 
 pub returns-in-Done-clause-turns : goal.returns-in-Done-clause-turns
 returns-in-Done-clause-turns g c = λ start after s h.
-    let (talk, whole, adds) = c.in-Done.ensures.talk in
+    let talk = c.in-Done.ensures.talk in
     let allows = c.in-Say.ensures.allows start after s h in
     let words : c.as_slice.result.now ≡ said_at after c.args.pump.now.stage = c.as_slice.ensures.value ∙ allows.0 in
     let k = c.args.keeper.now in
     record {
-      said = talk;
+      said = talk.items;
       answers = [];
-      adds = adds;
+      adds = talk.adds;
       handed = keeps_same g.K.Keeper.ledger after s k;
       still = λ none. refl;
       newest = last_same g.K.Keeper.ledger after s k;
       few = omega arith;
       turns = (
-        subst (λ (y : List TalkItem). PumpShows start after (pump_from after s y []) c.said.new.self) (sym (whole ∙ ap message words)) (c.said.ensures.shows start after s h),
-        inl (refl, inl (c.as_slice.result.now, some_words c.as_slice.result.now (subst (λ (y : List ℕ). 0 < length y) (sym c.as_slice.ensures.value) allows.1), inl whole)),
+        subst (λ (y : List TalkItem). PumpShows start after (pump_from after s y []) c.said.new.self) (sym (talk.are ∙ ap message words)) (c.said.ensures.shows start after s h),
+        inl (refl, inl (c.as_slice.result.now, some_words c.as_slice.result.now (subst (λ (y : List ℕ). 0 < length y) (sym c.as_slice.ensures.value) allows.1), inl talk.are)),
       );
     }

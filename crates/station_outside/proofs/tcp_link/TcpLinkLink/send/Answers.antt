@@ -5,7 +5,11 @@ use Rattle.station_outside.proofs.tcp_link.TcpLinkLink.send.Goals as goal
 
 pub returns-in-Ok : goal.returns-in-Ok
 returns-in-Ok g c = record {
-  talk = (message c.args.bytes.now, refl, adds_said (λ link. link.faults) (λ link. link.quiets) c.args.self.now _ c.args.bytes.now refl);
+  talk = record {
+    items = message c.args.bytes.now;
+    are = refl;
+    adds = adds_said (λ link. link.faults) (λ link. link.quiets) c.args.self.now _ c.args.bytes.now refl;
+  };
   fault = search rules;
   shortage = search rules;
   still = search rules;
