@@ -24,15 +24,15 @@ pub puts : {K : Type 0} (outlet : Outlet K) (old new : Numbered K) (piece text :
     → new.pen ≡ pen_by answer (pen_after old.pen piece) → PutsPiece outlet old piece answer new
 puts outlet old new piece text Done same digit free is emits pen =
     let goes_free : is_stuck new.pen ≡ false = ap is_stuck pen ∙ pen_free old.pen piece free in
-    let whole : emits.call.0 ≡ numbered_lines old.digit old.pen piece = emits.call.1 ∙ is in
+    let whole : emits.call.written ≡ numbered_lines old.digit old.pen piece = emits.call.writes ∙ is in
     record {
       written = piece;
       writes = refl;
       wrote = record {
         same = same;
         digit = digit;
-        text = emits.call.0;
-        wrote = emits.call.2;
+        text = emits.call.written;
+        wrote = emits.call.wrote;
         spells = subst (λ (t : List ℕ). PenSpells old.digit old.pen piece new.pen t) (sym whole)
             (subst (λ (p : Pen). PenSpells old.digit old.pen piece p (numbered_lines old.digit old.pen piece)) (sym pen)
             (spells_whole old.digit old.pen piece free));
@@ -46,17 +46,17 @@ puts outlet old new piece text Done same digit free is emits pen =
       stuck = goes_free;
     }
 puts outlet old new piece text Failed same digit free is emits pen =
-    let c = cut old.digit old.pen piece emits.call.0 emits.call.1.0 (emits.call.1.1 ∙ is) in
+    let c = cut old.digit old.pen piece emits.call.written emits.call.writes.0 (emits.call.writes.1 ∙ is) in
     record {
       written = c.written;
       writes = c.front;
       wrote = record {
         same = same;
         digit = digit;
-        text = emits.call.0;
-        wrote = emits.call.2;
-        spells = subst (λ (p : Pen). PenSpells old.digit old.pen c.written p emits.call.0) (sym pen)
-            (spells_cut old.digit old.pen piece emits.call.0 c free);
+        text = emits.call.written;
+        wrote = emits.call.wrote;
+        spells = subst (λ (p : Pen). PenSpells old.digit old.pen c.written p emits.call.written) (sym pen)
+            (spells_cut old.digit old.pen piece emits.call.written c free);
         counts = record {
           stays = λ yes. absurd (let no : true ≡ false = sym yes ∙ free in cc);
           never_falls = emits.cause.never_falls;
@@ -91,7 +91,7 @@ emits_all outlet old new bytes free goes_free wrote =
     record {
       done = λ _. tt;
       failed = λ e. absurd (let no : Done ≡ Failed = e in cc);
-      call = (bytes, refl, wrote);
+      call = record { written = bytes; writes = refl; wrote = wrote };
       cause = record {
         never_falls = omega (arith, same);
         rose = λ e. absurd (let no : Done ≡ Failed = e in cc);
@@ -106,7 +106,7 @@ pub emits_front : {K : Type 0} (outlet : Outlet K) (old new : Numbered K) (bytes
 emits_front outlet old new bytes written front stuck wrote = record {
   done = λ e. absurd (let no : Failed ≡ Done = e in cc);
   failed = λ _. writes_nothing None bytes;
-  call = (written, front, wrote);
+  call = record { written = written; writes = front; wrote = wrote };
   cause = cause_stuck (is_stuck old.pen) (is_stuck new.pen) stuck;
   still = λ no. absurd (no refl);
 }

@@ -4,7 +4,7 @@ use Rattle.causes.specs.Cause.{Cause}
 use Rattle.causes.specs.Lists.{IsFrontOf}
 use Rattle.causes.proofs.Writing.{writes_nothing}
 use Rattle.station_io.specs.declared.sink.Put.TheVariants as put
-use Rattle.station_io.specs.Sink.{Emits}
+use Rattle.station_io.specs.Sink.{Emits, WroteBy}
 use Rattle.serial_link.specs.declared.talk.TalkItem.{TalkItem}
 use Rattle.serial_link.specs.declared.link.Sent.TheVariants as sent
 use Rattle.serial_link.specs.Traffic.{Traffic}
@@ -18,7 +18,7 @@ use Rattle.query_service.specs.declared.link_sink.Refusal.{Refusal}
 use Rattle.query_service.specs.declared.link_sink.Refusal.TheVariants.{LinkFault, OutOfMemory}
 use Rattle.query_service.specs.declared.link_sink.LinkSink.{LinkSink}
 use Rattle.query_service.specs.Refused.{Refuses, refused}
-use Rattle.query_service.specs.SaidOver.{SaysOver, saying_outlet, says_none}
+use Rattle.query_service.specs.SaidOver.{saying_outlet, says_none}
 use Rattle.query_service.specs.Talk.{TalkOnlySays, said_joins}
 
 message_bytes : (bytes : List ℕ) → said (message bytes) ≡ bytes
@@ -69,10 +69,11 @@ module _ {L : Type 0} (traffic : Traffic L) (old new : LinkSink L) (bytes : List
     done = λ _. tt;
     failed = λ e. absurd (let bad : put.Done ≡ put.Failed = e in cc);
     call =
-        let talk = speaks.talk in (
-          bytes,
-          refl,
-          record {
+        let talk = speaks.talk in
+        record {
+          written = bytes;
+          writes = refl;
+          wrote = record {
             same = same;
             talk = talk.items;
             said_is = ap said talk.are ∙ message_bytes bytes;
@@ -83,8 +84,8 @@ module _ {L : Type 0} (traffic : Traffic L) (old new : LinkSink L) (bytes : List
               faults = speaks.still.faults (λ e. absurd (let bad : sent.Done ≡ sent.Failed = e in cc));
               shortages = speaks.still.shortages (λ e. absurd (let bad : sent.Done ≡ sent.OutOfMemory = e in cc));
             });
-          },
-        );
+          };
+        };
     cause = record {
       never_falls = let e : refused new.refusal ≡ refused old.refusal = ap refused is in omega (arith, e);
       rose = λ e. absurd (let bad : put.Done ≡ put.Failed = e in cc);
@@ -96,19 +97,19 @@ module _ {L : Type 0} (traffic : Traffic L) (old new : LinkSink L) (bytes : List
   front_said : (t rest : List TalkItem) → t ++ rest ≡ message bytes → Adds traffic old.link.now t new.link.now
       → Refuses old.refusal new.refusal (traffic.faults old.link.now) (traffic.faults new.link.now)
       (traffic.shortages old.link.now) (traffic.shortages new.link.now)
-      → (written : List ℕ) × IsFrontOf written bytes × SaysOver traffic old written new
-  front_said t rest whole adds refuses = (
-    said t,
-    front_bytes t rest bytes whole,
-    record {
+      → WroteBy (saying_outlet traffic) old bytes put.Failed new
+  front_said t rest whole adds refuses = record {
+    written = said t;
+    writes = front_bytes t rest bytes whole;
+    wrote = record {
       same = same;
       talk = t;
       said_is = refl;
       only = front_only t rest bytes whole;
       adds = adds;
       refuses = refuses;
-    },
-  )
+    };
+  }
 
   pub fails : Speaks traffic old.link.now bytes sent.Failed new.link.now → new.refusal ≡ Some LinkFault
       → Emits (saying_outlet traffic) old bytes put.Failed new
@@ -155,7 +156,7 @@ pub stays_refused : {L : Type 0} (traffic : Traffic L) (s : LinkSink L) (bytes :
 stays_refused traffic s bytes r some = record {
   done = λ e. absurd (let bad : put.Failed ≡ put.Done = e in cc);
   failed = λ _. writes_nothing None bytes;
-  call = ([], (bytes, refl), says_none traffic s);
+  call = record { written = []; writes = (bytes, refl); wrote = says_none traffic s };
   cause = again_refused s.refusal r some;
   still = λ apart. absurd (apart refl);
 }

@@ -56,16 +56,16 @@ pub put_done : {K : Type 0} (outlet : Outlet K) (old new : K) (text : List ℕ) 
     → IsWritten outlet old new text
 put_done outlet old new text emits = record {
   appended = emits.done refl;
-  wrote = subst (λ (t : List ℕ). outlet.wrote old t new) emits.call.1 emits.call.2;
+  wrote = subst (λ (t : List ℕ). outlet.wrote old t new) emits.call.writes emits.call.wrote;
 }
 
 pub put_failed : {K : Type 0} (outlet : Outlet K) (old new : K) (text : List ℕ) → Emits outlet old text Failed new
     → IsFrontWritten outlet old new text
 put_failed outlet old new text emits = record {
   part = emits.failed refl;
-  written = emits.call.0;
-  front = emits.call.1;
-  wrote = emits.call.2;
+  written = emits.call.written;
+  front = emits.call.writes;
+  wrote = emits.call.wrote;
 }
 
 -- a report of the disk's rows, by its end

@@ -12,7 +12,7 @@ pub refused : (old : Bucket) (bytes : List ℕ) (faults : ℕ) → Cause old.fau
 refused old bytes faults cause = record {
   done = λ e. absurd (let no : Failed ≡ Done = e in cc);
   failed = λ _. writes_nothing (Some old.bytes) bytes;
-  call = ([], (bytes, refl), sym (append-nil old.bytes));
+  call = record { written = []; writes = (bytes, refl); wrote = sym (append-nil old.bytes) };
   cause = cause;
   still = λ no. absurd (no refl);
 }

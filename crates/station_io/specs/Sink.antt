@@ -22,11 +22,18 @@ abbrev pub SinkWrites : Put → List ℕ → List ℕ → Type 0
 SinkWrites Done bytes written = written ≡ bytes
 SinkWrites Failed bytes written = IsFrontOf written bytes
 
+-- By a write of these bytes that gave this answer, a sink became another: so much was written, all of the bytes or a
+-- prefix of them.
+pub record WroteBy {S : Type 0} (outlet : Outlet S) (old : S) (bytes : List ℕ) (answer : Put) (new : S) : Type 0 where
+  pub written : List ℕ
+  pub writes : SinkWrites answer bytes written
+  pub wrote : outlet.wrote old written new
+
 -- One write of these bytes gave this answer: all of them were taken, or it failed after a prefix of them. This is
 -- said of the bytes, where they are told, and of the call. Only a write that failed is counted.
 pub record Emits {S : Type 0} (outlet : Outlet S) (old : S) (bytes : List ℕ) (answer : Put) (new : S) : Type 0 where
   pub done : answer ≡ Done → Appends (outlet.taken old) (outlet.taken new) bytes
   pub failed : answer ≡ Failed → WritesPart (outlet.taken old) (outlet.taken new) bytes
-  pub call : (written : List ℕ) × SinkWrites answer bytes written × outlet.wrote old written new
+  pub call : WroteBy outlet old bytes answer new
   pub cause : Cause (outlet.faults old) (outlet.faults new) (answer ≡ Failed)
   pub still : answer ≢ Failed → outlet.faults new ≡ outlet.faults old
