@@ -35,8 +35,8 @@ use Rattle.schedule_file.specs.declared.fates.Fates as code
 use Rattle.schedule_file.specs.Fates.{Fates}
 use Rattle.station_sim.specs.Line.{Line, waited}
 use Rattle.schedule_file.specs.Lists.{fates_of, entry_of, late_in, records_left_in, mids_in}
-use Rattle.station_sim.specs.Standing.{SimStandsFor}
-use Rattle.station_sim.specs.Talk.{ConsoleTalk, started}
+use Rattle.station_sim.specs.Standing.{LineBehind, SimStandsFor}
+use Rattle.station_sim.specs.Talk.{started}
 use Rattle.station_sim.specs.Telling.{sim_traffic}
 use Rattle.station_replay.specs.Keeping.{Archive}
 use Rattle.station_replay.specs.Round.{Attempted, Ending, finished, tried_of}
@@ -155,10 +155,10 @@ module _ (fates : code.Fates) (stop : Option Stop) (s0 s2 : Session) (l0 l1 l2 l
   abbrev batches_given : List Tried → Handed
   batches_given ts = all_batches (last_row_stamp s.archive.rows) ts
 
-  went : (v : Line) × ConsoleTalk (fates_of fates) (all_said sv.tries) (started s.line) v × SimStandsFor l2 v
+  went : LineBehind (fates_of fates) (all_said sv.tries) (started s.line) l2
   went =
-      let q = sv.adds.went.line (started s.line) (c.starts s.line may.line) in
-      (q.0, subst (λ (g : Fates). ConsoleTalk g (all_said sv.tries) (started s.line) q.0) c.fates_are q.1, q.2)
+      subst (λ (g : Fates). LineBehind g (all_said sv.tries) (started s.line) l2) c.fates_are
+      (sv.adds.went.line (started s.line) (c.starts s.line may.line))
 
   fit : Fit (session_settings s0).most (length s.archive.rows) (batches_given sv.tries)
   fit = subst (λ (m : ℕ). Fit m (length s.archive.rows) (batches_given sv.tries)) may.session.most sv.stores.fit
@@ -179,8 +179,8 @@ module _ (fates : code.Fates) (stop : Option Stop) (s0 s2 : Session) (l0 l1 l2 l
   not_stale is = let z = c.answers.stale.0 is in let y : true ≡ false = sym z ∙ may.session.fresh in cc
 
   -- a round with an unseen delivery
-  broken : (which : Unseen) → went.0.unseen ≡ Some which → IsBroken (session_settings s0) (fates_of fates) stop s (Item.Unsaid (s.rounds + 1) which)
-  broken which un = record { tried = sv.tries; end = end; line = went.0; attempts = sv.attempts; talks = went.1; fits = fit; not_past = passes; ends = by end refl; which = which; unseen = un; is = refl }
+  broken : (which : Unseen) → went.line.unseen ≡ Some which → IsBroken (session_settings s0) (fates_of fates) stop s (Item.Unsaid (s.rounds + 1) which)
+  broken which un = record { tried = sv.tries; end = end; line = went.line; attempts = sv.attempts; talks = went.talks; fits = fit; not_past = passes; ends = by end refl; which = which; unseen = un; is = refl }
     where
       known : (e : RoundEnd) → end ≡ e → IsKnown e → IsKnown end ⊎ (end ≡ round_end.Flood)
       known e is k = inl (subst IsKnown (sym is) k)
@@ -224,9 +224,9 @@ module _ (fates : code.Fates) (stop : Option Stop) (s0 s2 : Session) (l0 l1 l2 l
       }
 
   -- the line as the round leaves it
-  finished_line : SimStandsFor l3 (finished (records_left_in fates.mids.items) went.0)
+  finished_line : SimStandsFor l3 (finished (records_left_in fates.mids.items) went.line)
   finished_line =
-      subst (λ x. SimStandsFor l3 (waited (records_left_in x went.0.messages) went.0)) (ap (λ x. x.items) sv.adds.went.mids ∙ c.mids_are) (c.finishes went.0 went.2)
+      subst (λ x. SimStandsFor l3 (waited (records_left_in x went.line.messages) went.line)) (ap (λ x. x.items) sv.adds.went.mids ∙ c.mids_are) (c.finishes went.line went.stands)
 
   started_rows : StandsOn stopping_medium (book_of s0) d1 s.archive.rows
   started_rows = stands_stays (book_of s0) d0 d1 s.archive.rows may.session.stands c.stays
@@ -235,12 +235,12 @@ module _ (fates : code.Fates) (stop : Option Stop) (s0 s2 : Session) (l0 l1 l2 l
   begun_changes = c.stays.at ∙ may.disk.rests.changes_are
 
   -- a round without unseen delivery, its disk and its session being as it leaves them
-  played_out : (y : AreRound (session_settings s0) (fates_of fates) stop s.archive (started s.line) sv.tries end went.0) → RoundStopsAt stop end (kept_count (batches_given sv.tries)) → went.0.unseen ≡ None → AtRest openings (left_by_round (session_settings s0) stop s sv.tries) d3 → stopping_limits d3 ≡ stopping_limits d0
+  played_out : (y : AreRound (session_settings s0) (fates_of fates) stop s.archive (started s.line) sv.tries end went.line) → RoundStopsAt stop end (kept_count (batches_given sv.tries)) → went.line.unseen ≡ None → AtRest openings (left_by_round (session_settings s0) stop s sv.tries) d3 → stopping_limits d3 ≡ stopping_limits d0
       → (is_stop y.ending ≡ false → SessionGoesOn (session_settings s0) (left_by_round (session_settings s0) stop s sv.tries).rows s2 d3)
       → IsPlayedOut (session_settings s0) (fates_of fates) (records_left_in fates.mids.items) stop openings s (round_host s0 l0 d0) (record { end = end; report = report; harmed = harmed; unseen = unseen }) (round_host s2 l3 d3)
   played_out y at un rest limits goes =
-      let fin = finished (records_left_in fates.mids.items) went.0 in
-      let r : Rounded = record { number = s.rounds + 1; tried = y.tried; end = y.ending; before = s.archive.rows; kept = s.archive.rows ++ stored_rows (session_settings s0) (kept_records (batches_given sv.tries)); rows = (left_by_round (session_settings s0) stop s sv.tries).rows; harmed = went.0.harmed; written = s.written } in
+      let fin = finished (records_left_in fates.mids.items) went.line in
+      let r : Rounded = record { number = s.rounds + 1; tried = y.tried; end = y.ending; before = s.archive.rows; kept = s.archive.rows ++ stored_rows (session_settings s0) (kept_records (batches_given sv.tries)); rows = (left_by_round (session_settings s0) stop s sv.tries).rows; harmed = went.line.harmed; written = s.written } in
       let arc = archive_after (is_stop y.ending) s (left_by_round (session_settings s0) stop s sv.tries) fin in
       let kept_rows = kept_read (batches_given sv.tries) (all_read (last_row_stamp s.archive.rows) sv.tries) in
       let count = same_count (session_settings s0) (kept_records (batches_given sv.tries)) kept_rows in
@@ -248,13 +248,13 @@ module _ (fates : code.Fates) (stop : Option Stop) (s0 s2 : Session) (l0 l1 l2 l
       record {
         round = r;
         next = after_round (is_stop y.ending) s (left_by_round (session_settings s0) stop s sv.tries) fin;
-        is_round = record { made = sv.tries; end = end; line = went.0; attempts = sv.attempts; fits = fit; stops = at; ends = y.ends; made_are = y.made; told = y.told; seen = un; is = refl; next = refl };
+        is_round = record { made = sv.tries; end = end; line = went.line; attempts = sv.attempts; fits = fit; stops = at; ends = y.ends; made_are = y.made; told = y.told; seen = un; is = refl; next = refl };
         tells = record {
           attempts = sv.made ∙ ap length (sym y.made) ∙ tried_count y.tried;
           pages = sv.tally.pages ∙ ap page_count (sym y.made);
           skipped = sv.tally.skipped ∙ ap skip_count (sym y.made);
           acked_are = omega (arith, sv.kept, c.before, may.session.stands.stands_for.held_is, count, long);
-          harmed = c.harmed_is went.0 went.2;
+          harmed = c.harmed_is went.line went.stands;
           ends = y.ends;
         };
         said = c.said_after ∙ same_Some _ _ sv.adds.told ∙ ap (λ x. x ++ all_said sv.tries) c.said_before ∙ ap (λ x. l0.talk.items ++ all_said x) (sym y.made);
@@ -265,12 +265,12 @@ module _ (fates : code.Fates) (stop : Option Stop) (s0 s2 : Session) (l0 l1 l2 l
       }
 
   -- a round that met no disk fault
-  went_on : went.0.unseen ≡ None → end ≢ round_end.DiskFault → IsKnown end → AreFew records s.archive.rows (batches_given sv.tries)
+  went_on : went.line.unseen ≡ None → end ≢ round_end.DiskFault → IsKnown end → AreFew records s.archive.rows (batches_given sv.tries)
       → IsPlayedOut (session_settings s0) (fates_of fates) (records_left_in fates.mids.items) stop openings s (round_host s0 l0 d0) (record { end = end; report = report; harmed = harmed; unseen = unseen }) (round_host s2 l3 d3)
   went_on un none known few =
       let sure : last_answer (batches_given sv.tries) ≢ stored.DiskFault = λ z. none (answers_fault end (sym sv.answered ∙ z)) in
       let q = round_goes stopping_medium (session_settings s0) s.archive sv.tries end stop (stopping_state_of d1).pick d1 d2 (book_of s0) (book_of s2) report.marks.items (stopping_state_of d1) (stopping_state_of d2) none sure c.is_a_stop begun_changes sv.stores (λ failed h. h.state) (has_room few) in
-      let y = session_law (session_settings s0) (fates_of fates) stop s.archive (started s.line) went.0 sv.tries end sv.attempts fit went.1 known q.0 in
+      let y = session_law (session_settings s0) (fates_of fates) stop s.archive (started s.line) went.line sv.tries end sv.attempts fit went.talks known q.0 in
       let off = c.went_on q.1.goes in
       let on2 = sv.stores.stands sure started_rows in
       let rows_are = rows_after (session_settings s0) stop 0 s.archive (batches_given sv.tries) sure in
@@ -320,7 +320,7 @@ module _ (fates : code.Fates) (stop : Option Stop) (s0 s2 : Session) (l0 l1 l2 l
       })
 
   -- a round that a stop ended
-  stopped_at : (k : Stop) → stop ≡ Some k → went.0.unseen ≡ None → end ≡ round_end.DiskFault → AreFew records s.archive.rows (batches_given sv.tries)
+  stopped_at : (k : Stop) → stop ≡ Some k → went.line.unseen ≡ None → end ≡ round_end.DiskFault → AreFew records s.archive.rows (batches_given sv.tries)
       → IsPlayedOut (session_settings s0) (fates_of fates) (records_left_in fates.mids.items) stop openings s (round_host s0 l0 d0) (record { end = end; report = report; harmed = harmed; unseen = unseen }) (round_host s2 l3 d3)
   stopped_at k stop_is un is few =
       let fault : last_answer (batches_given sv.tries) ≡ stored.DiskFault = sv.answered ∙ ap answer_by is in
@@ -338,7 +338,7 @@ module _ (fates : code.Fates) (stop : Option Stop) (s0 s2 : Session) (l0 l1 l2 l
       let q = round_stops stopping_medium (session_settings s0) s.archive sv.tries k d1 d2 (book_of s0) (book_of s2) report.marks.items (stopping_state_of d1) (stopping_state_of d2) again.image fault begun_changes sv.stores started_rows (λ failed h. h.state) room again.left again.restart in
       let stops_at : RoundStopsAt stop end (kept_count (batches_given sv.tries))
       = subst (λ (z : Option Stop). RoundStopsAt z end (kept_count (batches_given sv.tries))) (sym stop_is) (subst (λ (e : RoundEnd). RoundStopsAt (Some k) e (kept_count (batches_given sv.tries))) (sym is) q.0) in
-      let y = session_law (session_settings s0) (fates_of fates) stop s.archive (started s.line) went.0 sv.tries end sv.attempts fit went.1 (subst IsKnown (sym is) tt) stops_at in
+      let y = session_law (session_settings s0) (fates_of fates) stop s.archive (started s.line) went.line sv.tries end sv.attempts fit went.talks (subst IsKnown (sym is) tt) stops_at in
       let left_is : left_by_round (session_settings s0) stop s sv.tries ≡ archive_left_after (session_settings s0) (Some k) 0 s.archive (batches_given sv.tries) = ap (λ (z : Option Stop). archive_left_after (session_settings s0) z 0 s.archive (batches_given sv.tries)) stop_is in
       let ends : RoundEndsAs (Some k) round_end.DiskFault y.ending = subst (λ (e : RoundEnd). RoundEndsAs (Some k) e y.ending) is (subst (λ (z : Option Stop). RoundEndsAs z end y.ending) stop_is y.ends) in
       let keeps = calls_keep (changes_for (session_settings s0) sv.stores.failed s.archive.rows (batches_given sv.tries)) (stopping_state_of d1) (stopping_state_of d2) sv.stores.went_on.state in
@@ -372,11 +372,11 @@ module _ (fates : code.Fates) (stop : Option Stop) (s0 s2 : Session) (l0 l1 l2 l
       (λ still. absurd (let z : is_stop (Ending.Stopped k.change) ≡ false = ap is_stop (sym ends) ∙ still in cc))
 
   -- a round of whichever end
-  plays_out : went.0.unseen ≡ None → IsPlayedOut (session_settings s0) (fates_of fates) (records_left_in fates.mids.items) stop openings s (round_host s0 l0 d0) (record { end = end; report = report; harmed = harmed; unseen = unseen }) (round_host s2 l3 d3)
+  plays_out : went.line.unseen ≡ None → IsPlayedOut (session_settings s0) (fates_of fates) (records_left_in fates.mids.items) stop openings s (round_host s0 l0 d0) (record { end = end; report = report; harmed = harmed; unseen = unseen }) (round_host s2 l3 d3)
   plays_out un = by end refl
     where
       counted : (end ≢ round_end.Flood) × AreFew records s.archive.rows (batches_given sv.tries)
-      counted = may.counted went.0 sv.tries end sv.attempts fit went.1 not_link c.memory not_stale un
+      counted = may.counted went.line sv.tries end sv.attempts fit went.talks not_link c.memory not_stale un
 
       go : end ≢ round_end.DiskFault → IsPlayedOut (session_settings s0) (fates_of fates) (records_left_in fates.mids.items) stop openings s (round_host s0 l0 d0) (record { end = end; report = report; harmed = harmed; unseen = unseen }) (round_host s2 l3 d3)
       go none = went_on un none (known_end end not_link counted.0 not_stale c.memory) counted.1
@@ -398,9 +398,9 @@ module _ (fates : code.Fates) (stop : Option Stop) (s0 s2 : Session) (l0 l1 l2 l
       by round_end.OutOfMemory e = absurd (c.memory e)
 
   pub plays_own : PlaysBy unseen (session_settings s0) (fates_of fates) (records_left_in fates.mids.items) stop openings s (round_host s0 l0 d0) (record { end = end; report = report; harmed = harmed; unseen = unseen }) (round_host s2 l3 d3)
-  plays_own = subst (λ (o : Option Unseen). PlaysBy o (session_settings s0) (fates_of fates) (records_left_in fates.mids.items) stop openings s (round_host s0 l0 d0) (record { end = end; report = report; harmed = harmed; unseen = unseen }) (round_host s2 l3 d3)) (sym (c.unseen_is went.0 went.2)) (by went.0.unseen refl)
+  plays_own = subst (λ (o : Option Unseen). PlaysBy o (session_settings s0) (fates_of fates) (records_left_in fates.mids.items) stop openings s (round_host s0 l0 d0) (record { end = end; report = report; harmed = harmed; unseen = unseen }) (round_host s2 l3 d3)) (sym (c.unseen_is went.line went.stands)) (by went.line.unseen refl)
     where
-      by : (o : Option Unseen) → went.0.unseen ≡ o → PlaysBy o (session_settings s0) (fates_of fates) (records_left_in fates.mids.items) stop openings s (round_host s0 l0 d0) (record { end = end; report = report; harmed = harmed; unseen = unseen }) (round_host s2 l3 d3)
+      by : (o : Option Unseen) → went.line.unseen ≡ o → PlaysBy o (session_settings s0) (fates_of fates) (records_left_in fates.mids.items) stop openings s (round_host s0 l0 d0) (record { end = end; report = report; harmed = harmed; unseen = unseen }) (round_host s2 l3 d3)
       by None un = plays_out un
       by (Some which) un = broken which un
 

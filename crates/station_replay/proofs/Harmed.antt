@@ -194,9 +194,9 @@ pub round_law : {D : Type 0} (medium : Medium D) (rows : List Row) (end : RoundE
     AnswersRound sim_traffic medium end old new report.attempts → SimStandsFor old.link w → IsCalm w →
     (v : Line) × SimStandsFor new.link v × (v.unseen ≡ None → HarmTells (DiskFailed medium old new) (LinkShort old new) (fates_of old.link.fates) w round.tries end v)
 round_law medium rows end old new report w round answers stands calm =
-    let v = round.adds.went.line w stands in (
-      v.0,
-      v.2,
-      λ un. round_over (fates_of old.link.fates) (fates_sound old.link.fates) (DiskFailed medium old new) (LinkShort old new) _ (length rows) (last_row_stamp rows) round.tries end w v.0 round.attempts round.stores.fit
-          answers.disk_fault.rose (λ some short. answers.shortage.rose (short, (omega (arith, some, round.made)))) (λ fault. absurd (let z : Rose 0 0 = answers.fault.rose fault in omega (arith, z))) stands.sound calm v.1 un,
+    let behind = round.adds.went.line w stands in (
+      behind.line,
+      behind.stands,
+      λ un. round_over (fates_of old.link.fates) (fates_sound old.link.fates) (DiskFailed medium old new) (LinkShort old new) _ (length rows) (last_row_stamp rows) round.tries end w behind.line round.attempts round.stores.fit
+          answers.disk_fault.rose (λ some short. answers.shortage.rose (short, (omega (arith, some, round.made)))) (λ fault. absurd (let z : Rose 0 0 = answers.fault.rose fault in omega (arith, z))) stands.sound calm behind.talks un,
     )
