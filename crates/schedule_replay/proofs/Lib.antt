@@ -1,12 +1,12 @@
 pub mod Ahead
-pub mod Looping
 pub mod NewDisk
 pub mod NewLine
 pub mod Parts
-pub mod Reading
+pub mod ReadsAtRest
 pub mod RoundLaws
 pub mod RunLaws
 pub mod Sinks
 pub mod StepLaws
+pub mod StepsSoFar
 pub mod Told
 pub mod Turned

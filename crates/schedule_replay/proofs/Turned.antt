@@ -38,7 +38,7 @@ use Rattle.schedule_replay.specs.Telling.{Telling}
 use Rattle.schedule_replay.specs.Told.{TellsFront, TellsRun}
 use Rattle.schedule_replay.specs.Turns.{BreaksRun, CutsRun, EndsRun, IsOneTurn, RunMoves, RunTurnsTo}
 use Rattle.schedule_replay.proofs.Ahead.{is_opened}
-use Rattle.schedule_replay.proofs.Looping.{IsReady, begun_too, few_rounds, has_run_room, may_take_next, ready, round_broken, round_cut, round_more, so_far_more, step_cut, steps_more, steps_parts, steps_split}
+use Rattle.schedule_replay.proofs.StepsSoFar.{IsReady, begun_too, few_rounds, has_run_room, may_take_next, ready, round_broken, round_cut, round_more, so_far_more, step_cut, steps_more, steps_parts, steps_split}
 use Rattle.schedule_replay.proofs.RoundLaws.{can_open, may_play, opened_rounds, opened_rows}
 use Rattle.schedule_replay.proofs.RunLaws.{closed_by, open_by, rest_more}
 

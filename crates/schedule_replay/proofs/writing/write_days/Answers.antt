@@ -1,6 +1,6 @@
 use Rattle.weather_reports.specs.Report.{all_day_lines}
 use Rattle.schedule_replay.proofs.Parts.{report_done, report_failed}
-use Rattle.schedule_replay.proofs.Reading.{report_reads, rows_readable}
+use Rattle.schedule_replay.proofs.ReadsAtRest.{report_reads, rows_readable}
 use Rattle.schedule_replay.proofs.writing.write_days.Goals as goal
 
 pub returns-in-Done-clause-disk : goal.returns-in-Done-clause-disk

@@ -7,7 +7,7 @@ use Rattle.schedule_replay.specs.Standing.{round_step}
 use Rattle.schedule_steps.specs.Steps.{steps_for}
 use Rattle.schedule_replay.specs.declared.turns.ReplayRun.{ReplayRun}
 use Rattle.schedule_replay.specs.Turns.{CutsRun}
-use Rattle.schedule_replay.proofs.Looping.{ready}
+use Rattle.schedule_replay.proofs.StepsSoFar.{ready}
 use Rattle.schedule_replay.proofs.RoundLaws.{moments_left}
 use Rattle.schedule_replay.proofs.StepLaws.{wait_cut}
 use Rattle.round_play.proofs.TurnPlayed.{one_call_behind, still_then}

@@ -3,7 +3,7 @@ use Rattle.station_replay.specs.Replay.{Item, opening_if_closed, start}
 use Rattle.station_replay.specs.Schedule.{IsSchedule, ReplayStep}
 use Rattle.schedule_steps.specs.Steps.{steps_for}
 use Rattle.schedule_replay.specs.Turns.{CutsRun, EndsRun}
-use Rattle.schedule_replay.proofs.Looping.{all_done, end_cut, steps_all}
+use Rattle.schedule_replay.proofs.StepsSoFar.{all_done, end_cut, steps_all}
 use Rattle.schedule_replay.proofs.RunLaws.{ready_readable, told_front}
 use Rattle.schedule_replay.proofs.Turned.{cut_to, goes_on_ahead, opens_at_end, recovered_left, recovered_moves, stands_open, without_session}
 use Rattle.schedule_replay.proofs.turns.ReplayRun.close.Goals as goal

@@ -1,6 +1,6 @@
 use Rattle.std.proofs.Common.{inl, refl, arith}
 use Rattle.schedule_replay.proofs.Ahead.{few_to_open}
-use Rattle.schedule_replay.proofs.Looping.{so_far_first}
+use Rattle.schedule_replay.proofs.StepsSoFar.{so_far_first}
 use Rattle.schedule_replay.proofs.turns.ReplayRun.new.Goals as goal
 
 pub returns : goal.returns

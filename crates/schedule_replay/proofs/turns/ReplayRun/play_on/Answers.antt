@@ -13,7 +13,7 @@ use Rattle.schedule_replay.specs.Standing.{HasSaid, HoldsAt, LineAt, round_step}
 use Rattle.schedule_steps.specs.Steps.{steps_for}
 use Rattle.schedule_replay.specs.Turns.{BreaksRun, CutsRun}
 use Rattle.schedule_replay.proofs.Ahead.{few_to_open}
-use Rattle.schedule_replay.proofs.Looping.{few_rounds, ready}
+use Rattle.schedule_replay.proofs.StepsSoFar.{few_rounds, ready}
 use Rattle.schedule_replay.proofs.RoundLaws.{opened_rounds}
 use Rattle.round_play.proofs.TurnPlayed.{then_still}
 use Rattle.schedule_replay.proofs.Turned.{cut_else, cut_to, ends_moves, goes_on_moves, left_none, left_playing, none_plays, round_cut_off, round_taken, stands_some, taken_on, taken_out, turn_broken}

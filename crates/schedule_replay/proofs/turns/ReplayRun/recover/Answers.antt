@@ -3,7 +3,7 @@ use Rattle.station_replay.specs.Replay.{opening_if_closed}
 use Rattle.round_play.specs.declared.playing.Playing.{Playing}
 use Rattle.schedule_replay.specs.Left.{left_to_open}
 use Rattle.schedule_replay.specs.Replaying.{StandsAt}
-use Rattle.schedule_replay.proofs.Looping.{ready}
+use Rattle.schedule_replay.proofs.StepsSoFar.{ready}
 use Rattle.schedule_replay.proofs.Turned.{cut_to, left_open, may_open_now, opening_cut_off, stands_closed}
 use Rattle.schedule_replay.proofs.turns.ReplayRun.recover.Goals as goal
 

@@ -4,7 +4,7 @@ use Rattle.round_play.specs.declared.playing.Playing.{Playing}
 use Rattle.schedule_steps.specs.Accepted.{IsInRange}
 use Rattle.schedule_replay.specs.Replaying.{StandsAt}
 use Rattle.schedule_steps.specs.Steps.{steps_for}
-use Rattle.schedule_replay.proofs.Looping.{in_range_at, ready}
+use Rattle.schedule_replay.proofs.StepsSoFar.{in_range_at, ready}
 use Rattle.schedule_replay.proofs.Turned.{cut_to, left_behind, left_none, may_run, stands, stands_between, turn_cut, turn_taken}
 use Rattle.schedule_replay.proofs.turns.ReplayRun.take.Goals as goal
 
