@@ -8,6 +8,6 @@ pub mod Back
 pub mod Written
 pub mod Unmeasured
 pub mod Bounds
-pub mod Holding
+pub mod HeldValues
 pub mod Names
-pub mod Stamping
+pub mod MovedStamps

@@ -1,6 +1,6 @@
 pub mod Near
 pub mod YearSpan
-pub mod Joining
+pub mod JoinedDays
 pub mod Months
 pub mod Prints
 pub mod Spans

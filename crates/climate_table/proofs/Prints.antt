@@ -2,7 +2,7 @@
 use Rattle.std.proofs.Common.{◌≡◌, ℕ, List, ◌++◌, sym, ap, ◌∙◌, subst, append_assoc}
 use Rattle.std.specs.declared.option.Option.{Option}
 use Rattle.causes.specs.Written.{Leaves, WritesPart}
-use Rattle.causes.proofs.Writing.{leaves_less, part_of_all, part_of_front}
+use Rattle.causes.proofs.WritesInTurn.{leaves_less, part_of_all, part_of_front}
 use Rattle.weather_reports.specs.Reported.{text_of_lines}
 use Rattle.weather_reports.proofs.Lines.{text_join}
 

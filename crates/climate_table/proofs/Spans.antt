@@ -12,9 +12,9 @@ use Rattle.daily_summary.specs.declared.summary.DaySummary.{DaySummary}
 use Rattle.weather_book.specs.declared.book.Book.{Book}
 use Rattle.weather_book.specs.Book.{BookStandsFor}
 use Rattle.packed_rows.specs.Days.{Ascend, days_of}
-use Rattle.weather_book.proofs.Standing.{some_rows}
+use Rattle.weather_book.proofs.RowsOfBook.{some_rows}
 use Rattle.weather_reports.specs.Months.{is_of_month}
-use Rattle.weather_reports.proofs.Ascending.{later_number}
+use Rattle.weather_reports.proofs.AscendingDays.{later_number}
 use Rattle.climate_table.specs.declared.climate_summary.ClimateSummary.{ClimateSummary}
 use Rattle.climate_table.specs.declared.span.Span.{Span}
 use Rattle.climate_table.specs.Climate.{IsOfDays, climate_of}

@@ -1,5 +1,5 @@
 pub mod AnswerLaws
-pub mod Answering
+pub mod ShownAnswers
 pub mod CaughtUp
 pub mod ClimateLaws
 pub mod CopyLaws
@@ -11,6 +11,6 @@ pub mod ReportLaws
 pub mod Rounds
 pub mod SoftLaws
 pub mod StationLaws
-pub mod Taking
+pub mod TakenEntries
 pub mod TaskEnds
 pub mod TaskLaws

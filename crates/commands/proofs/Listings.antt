@@ -7,7 +7,7 @@ use Rattle.crc_ccitt.specs.Check.{check}
 use Rattle.run_output.specs.declared.status.Status.TheVariants.{Done}
 use Rattle.run_output.specs.Output.{Output, led_by}
 use Rattle.run_output.specs.Streams.{OutputIsLeft}
-use Rattle.run_output.proofs.Printing.{pending_grows, pending_is_left}
+use Rattle.run_output.proofs.PrintedPieces.{pending_grows, pending_is_left}
 use Rattle.commands.specs.PageText.{page_text}
 use Rattle.commands.specs.Listing.{bad_page, listing_from}
 use Rattle.commands.specs.Style.{RowStyle}

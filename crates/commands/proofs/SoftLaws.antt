@@ -27,7 +27,7 @@ use Rattle.run_output.proofs.Causes.{Causes, then_causes}
 use Rattle.run_output.proofs.GoodFiles.{IsHindrance, good-reads, good-settles, good_behind, settles-stay}
 use Rattle.run_output.proofs.Statuses.{has_status}
 use Rattle.commands.proofs.PageLaws.{IsDoneOrHindered}
-use Rattle.commands.proofs.Taking.{behind_one}
+use Rattle.commands.proofs.TakenEntries.{behind_one}
 use Rattle.commands.specs.SoftRun.{BeginsWithEntries, HasEntries, IsBadBehind, IsEntryFile, corrected_row_lines, prints_soft, streams_soft}
 
 -- what comes behind the rows ends as done or at a bad entry

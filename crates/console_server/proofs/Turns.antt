@@ -11,7 +11,7 @@ use Rattle.console_model.specs.declared.reply.Reply.{Reply}
 use Rattle.serial_link.specs.Talk.{message}
 use Rattle.serial_link.specs.declared.talk.TalkItem.{TalkItem}
 use Rattle.serial_link.specs.declared.talk.TalkItem.TheVariants.{Heard, Quiet}
-use Rattle.serial_link.proofs.Growing.{count_quiets-append}
+use Rattle.serial_link.proofs.GrownTalk.{count_quiets-append}
 use Rattle.wake_retry.specs.Bounds.{said}
 use Rattle.wake_retry.specs.Parts.{heard, count_met}
 use Rattle.wake_retry.proofs.Endings.{heard_both}

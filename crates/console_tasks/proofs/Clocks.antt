@@ -5,7 +5,7 @@ use Rattle.station_base.specs.declared.clock.ClockTime.{ClockTime}
 use Rattle.station_base.specs.ClockTime.{can_be_shown, is_civil_second, clock_bytes, time_shown}
 use Rattle.console_tasks.specs.declared.end.TaskEnd.TheVariants as task_end
 use Rattle.console_tasks.specs.Clock.{judge_clock}
-use Rattle.console_tasks.proofs.Comparing.{take_this, take_that}
+use Rattle.console_tasks.proofs.WrittenAndRead.{take_this, take_that}
 
 -- the bytes of the time that six bytes show
 clock_again : (bytes : List ℕ) → length bytes ≡ 6 → clock_bytes (time_shown bytes) ≡ bytes

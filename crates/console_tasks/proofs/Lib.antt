@@ -1,10 +1,10 @@
 pub mod Onward
 pub mod Troubles
-pub mod Replying
-pub mod Finishing
-pub mod Reading
-pub mod Comparing
-pub mod Packing
+pub mod ExchangeReplies
+pub mod FinishedTasks
+pub mod MemoryAndClock
+pub mod WrittenAndRead
+pub mod HeardPackets
 pub mod Clocks
 pub mod Endings
 pub mod Done

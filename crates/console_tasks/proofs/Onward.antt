@@ -9,7 +9,7 @@ use Rattle.wake_retry.specs.Parts.{heard, Still, Awaits, FallsShort, Wakes, IsCu
 use Rattle.wake_retry.specs.Settling.{IsCutSettling}
 use Rattle.wake_retry.specs.Waking.{IsCutWake}
 use Rattle.wake_retry.specs.Asking.{Answered}
-use Rattle.wake_retry.proofs.Running.{silence, short_silence, heard_silence}
+use Rattle.wake_retry.proofs.ListeningSoFar.{silence, short_silence, heard_silence}
 use Rattle.wake_retry.proofs.Onward.{silent_wakes, some_first}
 use Rattle.wake_retry.specs.Parts.{answer_waits, wake_tries, settled_waits}
 use Rattle.console_tasks.specs.declared.end.TaskEnd.{TaskEnd}

@@ -4,7 +4,7 @@ use Rattle.std.specs.declared.result.Result.{Result}
 use Rattle.serial_link.specs.declared.talk.TalkItem.{TalkItem}
 use Rattle.serial_link.specs.Traffic.{Traffic}
 use Rattle.serial_link.specs.Link.{Talks}
-use Rattle.serial_link.proofs.Joining.{talks_as}
+use Rattle.serial_link.proofs.JoinedCalls.{talks_as}
 use Rattle.console_tasks.specs.declared.end.TaskEnd.{TaskEnd}
 use Rattle.console_tasks.specs.declared.end.TaskEnd.TheVariants as task_end
 use Rattle.console_tasks.specs.Exchange.{end_by}

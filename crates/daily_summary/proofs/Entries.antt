@@ -21,7 +21,7 @@ use Rattle.daily_summary.specs.Bounds.{IsSumOf}
 use Rattle.daily_summary.specs.WellFormed.{BytesAreBlank, IsEntry}
 use Rattle.std.specs.Option.{IsSomeAnd}
 use Rattle.std.specs.Prelude.{IfSome}
-use Rattle.daily_summary.proofs.Joining.{same_sum}
+use Rattle.daily_summary.proofs.JoinedSums.{same_sum}
 
 -- one part of the bytes, and what stands behind it
 part_at : (n p q : ℕ) (b : List ℕ) → p + n ≡ q → q ≤ length b → AreBytes b → drop p b ≡ little_bytes n (number_at n p b) ++ drop q b

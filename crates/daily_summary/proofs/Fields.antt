@@ -15,7 +15,7 @@ use Rattle.daily_summary.specs.Bounds.{IsSum, IsSumOf, IsInBounds}
 use Rattle.daily_summary.specs.Joined.{merged, value_count, sum_of_value}
 use Rattle.daily_summary.specs.Readings.{readings}
 use Rattle.daily_summary.specs.Summary.{field_sum, summary_of}
-use Rattle.daily_summary.proofs.Joining.{field-append, field_more}
+use Rattle.daily_summary.proofs.JoinedSums.{field-append, field_more}
 
 -- the sum of a field
 pub field_is : (rows : List Row) (field : ℕ) → field < 37 → get_or (summary_of rows).fields field None ≡ field_sum (readings field rows)

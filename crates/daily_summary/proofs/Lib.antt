@@ -1,5 +1,5 @@
-pub mod Joining
-pub mod Summing
+pub mod JoinedSums
+pub mod SumBounds
 pub mod Fields
 pub mod Pieces
 pub mod Entries

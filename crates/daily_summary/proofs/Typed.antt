@@ -19,7 +19,7 @@ use Rattle.daily_summary.specs.Parts.{IsTyped, AreTyped}
 use Rattle.daily_summary.specs.Readings.{Reading, field_value, with_reading, readings, least_reading, greatest, readings_total, weighted, time}
 use Rattle.daily_summary.specs.Summary.{field_sum, summary_of}
 use Rattle.daily_summary.proofs.Fields.{field_is, printable_at}
-use Rattle.daily_summary.proofs.Summing.{abs_add, near, near_times, fits_below, least_period}
+use Rattle.daily_summary.proofs.SumBounds.{abs_add, near, near_times, fits_below, least_period}
 
 -- a reading of a row that was measured
 record IsRead (r : Reading) : Type 0 where

@@ -14,9 +14,9 @@ use Rattle.dmpaft_driver.specs.Attempt.{End}
 use Rattle.dmpaft_pump.specs.Pump.{saying, AttemptPart, Settling, Waking, Calling, Heading, Asking, Resettling, Acking, GivingUp, Next, Goes, Keeps, Empty, Floods, AttemptState, Hearing, Keeping, Over, Astray, words, quiets, most, onward, next_after_part, words_said, begun, state_at, pump_from}
 use Rattle.dmpaft_driver.specs.Exact.{attempt_end, AllDone, RefusesGiven, Sound, Complete}
 use Rattle.dmpaft_pump.proofs.Hears.{HearsFrom, hears_some}
-use Rattle.dmpaft_pump.proofs.Walking.{no_astray, over_is, said_out, Within, Passed, passes, said_in, heard_in}
+use Rattle.dmpaft_pump.proofs.PumpSteps.{no_astray, over_is, said_out, Within, Passed, passes, said_in, heard_in}
 use Rattle.dmpaft_driver.proofs.Rest.{Likeness, Rest, RestAt, Listens, onward_pages, pages_onward, out}
-use Rattle.dmpaft_driver.proofs.Unrolling.{into}
+use Rattle.dmpaft_driver.proofs.FirstParts.{into}
 
 -- the place is that of the pump
 abbrev pub Exact : Likeness

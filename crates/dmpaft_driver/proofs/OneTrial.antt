@@ -11,7 +11,7 @@ use Rattle.dmpaft_driver.specs.Attempt.{Attempt, End}
 use Rattle.dmpaft_driver.specs.Exact.{attempt_end}
 use Rattle.dmpaft_pump.specs.Pump.{Over}
 use Rattle.dmpaft_driver.specs.Trial.{AttemptGoesOn, BeginsAttempt, TalkIsTried}
-use Rattle.dmpaft_driver.proofs.Acknowledging.{one_attempt}
+use Rattle.dmpaft_driver.proofs.AcknowledgedPages.{one_attempt}
 use Rattle.dmpaft_driver.proofs.Exactly.{complete, whole_is, flooded_is, failed_is}
 use Rattle.dmpaft_driver.proofs.Stuck.{stuck}
 

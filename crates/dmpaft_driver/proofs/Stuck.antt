@@ -11,7 +11,7 @@ use Rattle.dmpaft_driver.specs.Attempt.{Attempt, End}
 use Rattle.dmpaft_driver.specs.Exact.{attempt_end, AllDone, RefusesGiven, Stuck}
 use Rattle.dmpaft_pump.specs.Pump.{AttemptState, Saying, Hearing, Keeping, Over, Astray, Settling, begun, attempt_step, answer_taken, ungiven, onward, pump_from}
 use Rattle.dmpaft_driver.proofs.Exactly.{complete, kept_done}
-use Rattle.dmpaft_pump.proofs.Walking.{no_astray, astray_stays}
+use Rattle.dmpaft_pump.proofs.PumpSteps.{no_astray, astray_stays}
 
 -- a pump's end for each end of an attempt
 pump_end_for : (e : End) → (x : PumpEnd) × (attempt_end x ≡ e)

@@ -21,7 +21,7 @@ use Rattle.dmpaft_driver.specs.Standing.{place_of_part, taken_in, HasTaken}
 use Rattle.dmpaft_driver.proofs.Exactly.{Exact, kept_done, told_is, some_quiets, some_bytes, less_left}
 use Rattle.dmpaft_pump.proofs.Hears.{HearsFrom, hears_awaits}
 use Rattle.dmpaft_driver.proofs.Rest.{Rest, RestAt, Listens, onward_pages, out, taken_out}
-use Rattle.dmpaft_pump.proofs.Walking.{astray_stays, Within, Passed, passes, said_out}
+use Rattle.dmpaft_pump.proofs.PumpSteps.{astray_stays, Within, Passed, passes, said_out}
 
 -- the place of the header and the pages taken, at what comes next
 abbrev place_at : Next → ℕ

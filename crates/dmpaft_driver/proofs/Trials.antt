@@ -22,15 +22,15 @@ use Rattle.dmpaft_pump.specs.Shown.{PumpShows, ShowsAt, room_of, room_at}
 use Rattle.dmpaft_driver.specs.Standing.{place_of_part, taken_in}
 use Rattle.dmpaft_driver.specs.Trial.{AttemptGoesOn, TalkIsTried}
 use Rattle.dmpaft_driver.specs.Trying.{is_last, Differs, SpellsMessage, MightEnd, TrialStopsAt, later}
-use Rattle.dmpaft_driver.proofs.Cutting.{mild_saying, fine_shown}
-use Rattle.dmpaft_driver.proofs.Dumping.{goes_on}
+use Rattle.dmpaft_driver.proofs.CutTurns.{mild_saying, fine_shown}
+use Rattle.dmpaft_driver.proofs.DumpTurns.{goes_on}
 use Rattle.dmpaft_driver.proofs.Exactly.{sound}
-use Rattle.dmpaft_driver.proofs.Finishing.{Fine, Mild, finishes}
-use Rattle.dmpaft_driver.proofs.Joining.{said_front}
-use Rattle.dmpaft_pump.proofs.Judging.{not_equal}
+use Rattle.dmpaft_driver.proofs.SilentEnds.{Fine, Mild, finishes}
+use Rattle.dmpaft_driver.proofs.JoinedTalks.{said_front}
+use Rattle.dmpaft_pump.proofs.PageJudgements.{not_equal}
 use Rattle.dmpaft_pump.proofs.Steps.{rest_same}
 use Rattle.dmpaft_driver.proofs.Stuck.{stuck}
-use Rattle.dmpaft_pump.proofs.Walking.{said_is, no_astray, astray_stays}
+use Rattle.dmpaft_pump.proofs.PumpSteps.{said_is, no_astray, astray_stays}
 
 message_cons : (b : ℕ) (bs : List ℕ) → message (b ∷ bs) ≡ Said b (is_last bs) ∷ message bs
 message_cons b [] = refl

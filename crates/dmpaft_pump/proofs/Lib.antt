@@ -1,10 +1,10 @@
-pub mod Judging
+pub mod PageJudgements
 pub mod Rows
-pub mod Keeping
-pub mod Rising
+pub mod HandedBatches
+pub mod RisingBatches
 pub mod Hears
-pub mod Walking
+pub mod PumpSteps
 pub mod Replies
 pub mod LastBatch
-pub mod Pumping
+pub mod PagesSoFar
 pub mod Steps

@@ -11,7 +11,7 @@ use Rattle.dmpaft_pump.specs.Header.{IsHeader, IsNoHeader}
 use Rattle.crc_ccitt.specs.Check.{is_good}
 use Rattle.dmpaft_pump.specs.Reply.{Reply, Header, NoHeader, placed, paged, numbered_reply, checked_reply, acknowledged_reply, sized, reply_of}
 use Rattle.crc_ccitt.proofs.Good.{good_when, good_check, not_good}
-use Rattle.dmpaft_pump.proofs.Judging.{not_equal}
+use Rattle.dmpaft_pump.proofs.PageJudgements.{not_equal}
 
 -- the bytes are what they are read as
 abbrev pub Replies : List ℕ → Reply → Type 0

@@ -19,11 +19,11 @@ use Rattle.dmpaft_pump.specs.Pump.{AttemptPart, AttemptState, Saying, Hearing, K
 use Rattle.dmpaft_pump.specs.Phases.{part_of_phase, most_bytes_of, words_of_phase}
 use Rattle.dmpaft_pump.specs.Shown.{PumpCounts, all_kept, IsSaying, ShowsAt}
 use Rattle.dmpaft_pump.specs.Stages.{told_stage}
-use Rattle.dmpaft_pump.proofs.Judging.{not_equal}
-use Rattle.dmpaft_pump.proofs.Keeping.{kept_answered, answered_snoc, add_some, last_joins}
-use Rattle.dmpaft_pump.proofs.Pumping.{batches_more, newest_more}
+use Rattle.dmpaft_pump.proofs.PageJudgements.{not_equal}
+use Rattle.dmpaft_pump.proofs.HandedBatches.{kept_answered, answered_snoc, add_some, last_joins}
+use Rattle.dmpaft_pump.proofs.PagesSoFar.{batches_more, newest_more}
 use Rattle.dmpaft_pump.proofs.Rows.{last_any}
-use Rattle.dmpaft_pump.proofs.Walking.{said_in}
+use Rattle.dmpaft_pump.proofs.PumpSteps.{said_in}
 
 pub words_same : (a : Option CivilMinute) (place : ℕ) (taken : List (List ℕ)) (q : Phase) → words a (part_of_phase place taken q) ≡ words_of_phase a q
 words_same a place taken phase.Settling = refl

@@ -2,7 +2,7 @@
 use Rattle.std.proofs.Common.{ℕ, ◌≡◌, Bool, true, false, List, [], ◌++◌, None, refl, sym, ap, subst, ◌∙◌, arith, append-nil, append_assoc}
 use Rattle.causes.specs.Cause.{Cause}
 use Rattle.causes.specs.Lists.{IsFrontOf}
-use Rattle.causes.proofs.Writing.{writes_nothing}
+use Rattle.causes.proofs.WritesInTurn.{writes_nothing}
 use Rattle.station_io.specs.declared.sink.Put.{Put}
 use Rattle.station_io.specs.declared.sink.Put.TheVariants.{Done, Failed}
 use Rattle.station_io.specs.Sink.{Outlet, Emits}

@@ -12,7 +12,7 @@ use Rattle.schedule_file.specs.Fates.{Fates}
 use Rattle.station_sim.specs.Delivery.{delivered}
 use Rattle.station_sim.specs.Line.{Line, flies, hears, message_counted, says_byte, due_all}
 use Rattle.station_sim.specs.Sound.{IsSound, AreSound}
-use Rattle.station_sim.proofs.Sounding.{sound_talk}
+use Rattle.station_sim.proofs.SoundLines.{sound_talk}
 use Rattle.station_sim.specs.Calm.{pending, FewWaits, AreMild, IsCalm, IsBrief, count_bytes}
 use Rattle.serial_link.specs.declared.talk.TalkItem.{TalkItem}
 use Rattle.station_sim.specs.Talk.{line_step, console_talk}
@@ -24,18 +24,18 @@ use Rattle.wake_retry.specs.Parts.{settled_waits}
 use Rattle.station_sim.specs.Joining.{and_then_some, talks_part}
 use Rattle.station_sim.proofs.OneByOne.{tick_begins}
 use Rattle.line_laws.proofs.Flight.{flight_law}
-use Rattle.line_laws.proofs.Listening.{bytes_of, EndsInByte}
+use Rattle.line_laws.proofs.HushedConsole.{bytes_of, EndsInByte}
 use Rattle.line_laws.proofs.Asked.{at_state}
 use Rattle.line_laws.proofs.Delivery.{delivered_length}
-use Rattle.line_laws.proofs.Settling.{Still-listens}
+use Rattle.line_laws.proofs.SettledConsole.{Still-listens}
 use Rattle.line_laws.proofs.Plainly.{begun_joins, dumps_joins}
-use Rattle.line_laws.proofs.Framing.{hearing_is, waiting_is}
+use Rattle.line_laws.proofs.FrameStage.{hearing_is, waiting_is}
 use Rattle.line_laws.proofs.Floods.{no_flood}
 use Rattle.line_laws.proofs.Messages.{gives_up}
 use Rattle.line_laws.proofs.Places.{pending_at_most}
 use Rattle.line_laws.proofs.Pages.{pages_dry, pages_law, goes_unseen, tame_calm}
-use Rattle.line_laws.proofs.Waking.{sound_history, wake_no_flood, own_plan, own_sent, near_itself, Awaiting, Strayed, wakes_law, asks_law, due_framed}
-use Rattle.line_laws.proofs.Heading.{Begins, heads_law, short_frame, at_console}
+use Rattle.line_laws.proofs.WakeLaws.{sound_history, wake_no_flood, own_plan, own_sent, near_itself, Awaiting, Strayed, wakes_law, asks_law, due_framed}
+use Rattle.line_laws.proofs.HeaderLaws.{Begins, heads_law, short_frame, at_console}
 
 -- while nothing is said no message and no dump begins
 pub listens_begun : (f : Fates) (t : List TalkItem) (w v : Line) → OnlyListens t → console_talk f t w ≡ Some v → (v.begun ≡ w.begun) × (v.dumps ≡ w.dumps)

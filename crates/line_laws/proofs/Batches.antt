@@ -16,22 +16,22 @@ use Rattle.console_model.specs.Valid.{EachFollows}
 use Rattle.serial_link.specs.declared.talk.TalkItem.{TalkItem}
 use Rattle.dmpaft_driver.specs.Attempt.{Attempt, End}
 use Rattle.dmpaft_pump.specs.Batch.{rising, batches, records_in}
-use Rattle.dmpaft_pump.proofs.Rising.{batches_rise}
-use Rattle.dmpaft_driver.proofs.Bounding.{frame_long}
+use Rattle.dmpaft_pump.proofs.RisingBatches.{batches_rise}
+use Rattle.dmpaft_driver.proofs.AttemptBounds.{frame_long}
 use Rattle.schedule_file.specs.Fates.{Fates}
 use Rattle.station_sim.specs.Line.{Line}
 use Rattle.station_sim.specs.Talk.{ConsoleTalk}
 use Rattle.station_sim.specs.Calm.{IsCalm}
 use Rattle.station_sim.specs.Sound.{AreRecords, IsSound, AreSound}
-use Rattle.station_sim.proofs.Sounding.{records_front}
+use Rattle.station_sim.proofs.SoundLines.{records_front}
 use Rattle.line_laws.specs.Host.{ArePages}
 use Rattle.line_laws.specs.Gathers.{IsStamp, newer_held, AttemptGives}
 use Rattle.causes.specs.Lists.{IsFrontOf}
 use Rattle.line_laws.proofs.Attempts.{attempt_law}
 use Rattle.line_laws.proofs.Headers.{plan_small}
 use Rattle.line_laws.proofs.Levels.{level, level_of, Ascend, newer_level, all_ascend}
-use Rattle.line_laws.proofs.Gathering.{pages_from, listed, climbing, above, UpTo, Follows, newer_is, picture_law, whole_picture}
-use Rattle.line_laws.proofs.Splitting.{parts}
+use Rattle.line_laws.proofs.GatheredRecords.{pages_from, listed, climbing, above, UpTo, Follows, newer_is, picture_law, whole_picture}
+use Rattle.line_laws.proofs.HistoryParts.{parts}
 use Rattle.line_laws.proofs.Slots.{pages_seen, placed, shown_drop, good_pages, good_drop, rising_is}
 
 -- the newer records by their levels

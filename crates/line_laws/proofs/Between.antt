@@ -13,9 +13,9 @@ use Rattle.schedule_file.specs.Fates.{Fates}
 use Rattle.station_sim.specs.Delivery.{delivered, late}
 use Rattle.station_sim.specs.Line.{Line, happens, joins, reply_joins, waited}
 use Rattle.station_sim.specs.Calm.{IsCalm, IsBrief, FewWaits, EndsInByte, AreMild, pending}
-use Rattle.station_sim.proofs.Calming.{closed_late, few_late}
-use Rattle.station_sim.proofs.Sounding.{console_joins}
-use Rattle.line_laws.proofs.Listening.{below_three}
+use Rattle.station_sim.proofs.CalmLines.{closed_late, few_late}
+use Rattle.station_sim.proofs.SoundLines.{console_joins}
+use Rattle.line_laws.proofs.HushedConsole.{below_three}
 use Rattle.line_laws.proofs.Asked.{at_state}
 use Rattle.line_laws.proofs.Places.{count_is}
 use Rattle.line_laws.proofs.Plainly.{few_joined, closed_join, begun_joins}

@@ -19,9 +19,9 @@ use Rattle.station_sim.specs.Calm.{FewWaits}
 use Rattle.wake_retry.specs.Parts.{StillFrom, heard, IsFull, IsShort, Awaits, answer_waits}
 use Rattle.serial_link.specs.declared.talk.TalkItem.TheVariants.{Said, Heard, Quiet}
 use Rattle.station_sim.specs.Joining.{and_then_some}
-use Rattle.line_laws.proofs.Listening.{bytes_of}
+use Rattle.line_laws.proofs.HushedConsole.{bytes_of}
 use Rattle.line_laws.proofs.Asked.{at_state}
-use Rattle.line_laws.proofs.Framing.{hearing_is, waiting_is, waiting_in, quiets}
+use Rattle.line_laws.proofs.FrameStage.{hearing_is, waiting_is, waiting_in, quiets}
 use Rattle.line_laws.proofs.Messages.{unharmed}
 
 -- A. the number of harmed deliveries only rises

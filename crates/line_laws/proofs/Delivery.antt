@@ -22,7 +22,7 @@ use Rattle.schedule_file.specs.declared.fate.Fate.TheVariants.{Lost, Cut, Droppe
 use Rattle.station_sim.specs.declared.unseen.Unseen.{Unseen}
 use Rattle.station_sim.specs.Line.{is_harmed, passes, earlier}
 use Rattle.line_laws.specs.Host.{HasSequence}
-use Rattle.line_laws.proofs.Listening.{bytes_of}
+use Rattle.line_laws.proofs.HushedConsole.{bytes_of}
 
 masked_length : (ms bs : List ℕ) → length (masked ms bs) ≡ length bs
 masked_length [] bs = refl

@@ -15,13 +15,13 @@ use Rattle.station_sim.specs.Calm.{IsCalm, IsBrief, pending}
 use Rattle.serial_link.specs.declared.talk.TalkItem.TheVariants.{Said, Heard, Quiet}
 use Rattle.line_laws.specs.Host.{OnlyListens}
 use Rattle.station_sim.specs.Joining.{and_then_some}
-use Rattle.station_sim.proofs.Sounding.{console_joins}
-use Rattle.line_laws.proofs.Listening.{bytes_of}
+use Rattle.station_sim.proofs.SoundLines.{console_joins}
+use Rattle.line_laws.proofs.HushedConsole.{bytes_of}
 use Rattle.line_laws.proofs.Asked.{at_state}
 use Rattle.line_laws.proofs.Places.{count_is}
 use Rattle.line_laws.proofs.Delivery.{delivered_length, bytes_of_late}
 use Rattle.line_laws.proofs.Plainly.{bytes_join}
-use Rattle.line_laws.proofs.Framing.{hearing_is, waiting_is}
+use Rattle.line_laws.proofs.FrameStage.{hearing_is, waiting_is}
 
 abbrev pub IsNoLoop : ConsoleState → Type 0
 IsNoLoop Asleep = Unit {0}

@@ -21,13 +21,13 @@ use Rattle.dmpaft_driver.specs.Attempt.{last_said, AskFloods, TakesPage, Misses,
 use Rattle.dmpaft_pump.specs.Page.{is_page_for, has_sequence, next_said}
 use Rattle.dmpaft_pump.specs.Pump.{most_askings}
 use Rattle.station_sim.specs.Joining.{and_then_some, talks_part}
-use Rattle.line_laws.proofs.Listening.{bytes_of, listens}
+use Rattle.line_laws.proofs.HushedConsole.{bytes_of, listens}
 use Rattle.line_laws.proofs.Places.{InFlight, AskedFor, asking, said, After, count_is, near_brief, pending_at_most}
-use Rattle.line_laws.proofs.Settling.{near_settles, Still-listens}
+use Rattle.line_laws.proofs.SettledConsole.{near_settles, Still-listens}
 use Rattle.line_laws.proofs.Plainly.{Tame, hears_unseen, happens_unseen, earlier_none}
 use Rattle.line_laws.proofs.Floods.{no_flood}
 use Rattle.line_laws.proofs.Messages.{gives_up}
-use Rattle.line_laws.proofs.Framing.{hearing_is, waiting_is}
+use Rattle.line_laws.proofs.FrameStage.{hearing_is, waiting_is}
 
 -- what was unseen stays so
 pub goes_unseen : (f : Fates) (t : List TalkItem) (w v : Line) → console_talk f t w ≡ Some v → v.unseen ≡ None → w.unseen ≡ None

@@ -19,9 +19,9 @@ use Rattle.station_sim.specs.Talk.{console_talk}
 use Rattle.serial_link.specs.declared.talk.TalkItem.TheVariants.{Said}
 use Rattle.wake_retry.specs.Parts.{heard}
 use Rattle.dmpaft_pump.specs.Pump.{most_askings}
-use Rattle.station_sim.proofs.Calming.{closed_late, few_late}
+use Rattle.station_sim.proofs.CalmLines.{closed_late, few_late}
 use Rattle.line_laws.specs.Host.{OnlyListens, Near, NearAt, HostIsReady, HasSequence}
-use Rattle.line_laws.proofs.Listening.{bytes_of, EndsInByte, closed_empty, happens-nothing, listens}
+use Rattle.line_laws.proofs.HushedConsole.{bytes_of, EndsInByte, closed_empty, happens-nothing, listens}
 use Rattle.line_laws.proofs.Asked.{wider, Answer, Hearing, hears_one, near_due_all, rests_due_all}
 use Rattle.line_laws.proofs.Asked.Answer.{a_page, a_wake, nothing}
 use Rattle.line_laws.proofs.Delivery.{delivered_length, bytes_of_late, unharmed_page, page_sequence, near_same}

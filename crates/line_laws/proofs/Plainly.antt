@@ -25,10 +25,10 @@ use Rattle.station_sim.specs.declared.part.Part.TheVariants.{Byte, Wait}
 use Rattle.station_sim.specs.declared.unseen.Unseen.{Unseen}
 use Rattle.station_sim.specs.Line.{Line, happens, joins, reply_joins, unanswered, hears, completes, pages, is_page, is_harmed, earlier, begins_with_ack, from_console}
 use Rattle.station_sim.specs.Calm.{FewWaits, AreMild}
-use Rattle.station_sim.proofs.Calming.{closed_late, few_late}
-use Rattle.station_sim.proofs.Sounding.{console_joins}
+use Rattle.station_sim.proofs.CalmLines.{closed_late, few_late}
+use Rattle.station_sim.proofs.SoundLines.{console_joins}
 use Rattle.line_laws.specs.Host.{Near, NearAt}
-use Rattle.line_laws.proofs.Listening.{bytes_of, EndsInByte}
+use Rattle.line_laws.proofs.HushedConsole.{bytes_of, EndsInByte}
 use Rattle.line_laws.proofs.Asked.{at_state, wider}
 use Rattle.line_laws.proofs.Delivery.{delivered_length, bytes_of_late, page_length}
 

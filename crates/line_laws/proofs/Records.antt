@@ -44,11 +44,11 @@ use Rattle.causes.specs.Lists.{IsFrontOf}
 use Rattle.line_laws.specs.Records.{BegunIn, Sums, Now}
 use Rattle.line_laws.proofs.Asked.{at_state}
 use Rattle.station_sim.specs.Joining.{and_then_some}
-use Rattle.line_laws.proofs.Framing.{hearing_is, waiting_is}
+use Rattle.line_laws.proofs.FrameStage.{hearing_is, waiting_is}
 use Rattle.line_laws.proofs.Plainly.{begun_joins}
 use Rattle.line_laws.proofs.Messages.{harm_cases, seen_host}
 use Rattle.station_sim.specs.Falling.{FallDue}
-use Rattle.station_sim.proofs.Sounding.{console_joins}
+use Rattle.station_sim.proofs.SoundLines.{console_joins}
 
 abbrev pub is_clearing : Ordered → Bool
 is_clearing command.Test = false

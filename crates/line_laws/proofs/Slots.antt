@@ -19,7 +19,7 @@ use Rattle.station_sim.specs.Sound.{AreRecords}
 use Rattle.line_laws.specs.Host.{ArePages}
 use Rattle.line_laws.proofs.Delivery.{slot_long}
 use Rattle.line_laws.proofs.Levels.{level, level_of, level_is, exceeds_level}
-use Rattle.line_laws.proofs.Gathering.{seen_at, seen_from, pages_from, climbing}
+use Rattle.line_laws.proofs.GatheredRecords.{seen_at, seen_from, pages_from, climbing}
 
 -- slot j of so many, one behind the other
 slot_among : (slot : ℕ → List ℕ) → ((n : ℕ) → length (slot n) ≡ record_size) → (long : (n : ℕ) → length (slots_before slot n) ≡ record_size * n) → (n j : ℕ) → j < n → (rest : List ℕ) →

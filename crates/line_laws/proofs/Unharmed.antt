@@ -26,20 +26,20 @@ use Rattle.station_sim.specs.Talk.{line_step, console_talk}
 use Rattle.station_sim.specs.Calm.{FewWaits, ConsoleRests, AreMild}
 use Rattle.wake_retry.specs.Parts.{Still, heard, Wakes, Awaits, ends_awake, answer_waits, wake_tries}
 use Rattle.serial_link.specs.declared.talk.TalkItem.TheVariants.{Said, Heard, Quiet}
-use Rattle.station_sim.proofs.Calming.{closed_late, few_late}
+use Rattle.station_sim.proofs.CalmLines.{closed_late, few_late}
 use Rattle.line_laws.specs.Host.{OnlyListens, Near}
 use Rattle.line_laws.specs.Unharmed.{Awake, Waiting, InDump, feeds_for}
 use Rattle.console_model.specs.Valid.{IsTidy}
 use Rattle.serial_link.specs.Talk.{message}
 use Rattle.station_sim.specs.Joining.{and_then_some, talks_part}
-use Rattle.line_laws.proofs.Listening.{listens, bytes_of, EndsInByte, closed_empty}
+use Rattle.line_laws.proofs.HushedConsole.{listens, bytes_of, EndsInByte, closed_empty}
 use Rattle.line_laws.proofs.Asked.{at_state}
 use Rattle.line_laws.proofs.Places.{no_length}
 use Rattle.line_laws.proofs.Pages.{awaits_listens}
 use Rattle.line_laws.proofs.Delivery.{bytes_of_late, page_length}
-use Rattle.line_laws.proofs.Settling.{near_settles}
-use Rattle.line_laws.proofs.Framing.{hearing_is, waiting_is, frame_listens, quiets, full_quiets}
-use Rattle.line_laws.proofs.Waking.{call_goes, due_framed}
+use Rattle.line_laws.proofs.SettledConsole.{near_settles}
+use Rattle.line_laws.proofs.FrameStage.{hearing_is, waiting_is, frame_listens, quiets, full_quiets}
+use Rattle.line_laws.proofs.WakeLaws.{call_goes, due_framed}
 use Rattle.line_laws.proofs.Clean.{sends_harmed, goes_harmed, sent_whole, reply_whole, steady_full, steady_still, waits_of, waits_late, awaits_full}
 
 CommandAfter : Store → List (List ℕ) → ℕ → Console → Type 0

@@ -113,7 +113,7 @@ pub fn a_page_without_harm()
 {}
 
 /// The records of a round fall due in the order in which they are listed.
-#[tactic(auto, using(crate::proofs::Falling::fates_fall))]
+#[tactic(auto, using(crate::proofs::FallsInOrder::fates_fall))]
 pub fn records_fall_due_in_order()
     ensures { (f : lists.Fates) → FallDue (fates_of f) (records_left_in f.mids.items) }
 {}

@@ -17,7 +17,7 @@ use Rattle.schedule_steps.specs.Steps.{steps_for}
 use Rattle.schedule_replay.specs.Told.{TellsRun}
 use Rattle.made_run.specs.CountsRun.{CountsRun}
 use Rattle.made_run.specs.Made.{made_steps}
-use Rattle.made_run.proofs.Falling.{made_accepted}
+use Rattle.made_run.proofs.MadeSchedules.{made_accepted}
 use Rattle.made_run.proofs.Unseen.{none_unseen}
 
 -- a count that stands at 0 did not rise

@@ -1,6 +1,6 @@
 pub mod Counted
-pub mod Falling
-pub mod Holding
+pub mod MadeSchedules
+pub mod DrawnValues
 pub mod Replies
 pub mod Seen
 pub mod Stepwise

@@ -26,7 +26,7 @@ use Rattle.station_sim.specs.Talk.{console_talk, started, line_step}
 use Rattle.station_session.specs.Attempts.{all_said}
 use Rattle.station_replay.specs.Replay.{IsBroken, Item, Stage}
 use Rattle.schedule_file.specs.declared.schedule.step.Stop.{Stop}
-use Rattle.line_laws.proofs.Framing.{hearing_is, waiting_is}
+use Rattle.line_laws.proofs.FrameStage.{hearing_is, waiting_is}
 use Rattle.made_run.proofs.Replies.{Fair, IsFair, fair_hear, fair_tick}
 
 -- a message comes whole, or not at all

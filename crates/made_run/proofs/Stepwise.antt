@@ -10,10 +10,10 @@ use Rattle.archive_record.specs.declared.record_read.RecordRead.TheVariants.{Row
 use Rattle.schedule_file.specs.declared.schedule.step.Step as code_step
 use Rattle.schedule_file.specs.declared.schedule.step.Step.TheVariants as code
 use Rattle.schedule_file.specs.Steps.{ScheduleStep, DueStep, step_seen, steps_seen}
-use Rattle.archive_record.proofs.Stamping.{same_minute}
+use Rattle.archive_record.proofs.MovedStamps.{same_minute}
 use Rattle.draws.specs.Draws.{drawn, next_draw}
 use Rattle.made_run.specs.Made.{after_rounds, due_after, due_step, due_values, first_due, is_round, plain_round, rounds_behind, steps_from}
-use Rattle.made_run.proofs.Falling.{due_numbered}
+use Rattle.made_run.proofs.MadeSchedules.{due_numbered}
 
 pub first_read : stamp_of_text (codes "2024-01-01 00:05") ≡ Some first_due
 unfolding stamp_of_text stamp_text

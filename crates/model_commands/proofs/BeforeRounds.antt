@@ -7,7 +7,7 @@ use Rattle.settings_file.specs.StationSettings.{StationSettings}
 use Rattle.schedule_file.specs.Fates.{Fates}
 use Rattle.station_sim.specs.Line.{Line, due_all, happens}
 use Rattle.station_sim.specs.Talk.{idles}
-use Rattle.station_sim.proofs.Sounding.{console_joins}
+use Rattle.station_sim.proofs.SoundLines.{console_joins}
 use Rattle.station_replay.specs.Replay.{Item, Opens, Runs, Stage, stops_opening}
 use Rattle.schedule_file.specs.declared.schedule.step.Stop.{Stop}
 use Rattle.station_replay.specs.Schedule.{ReplayStep}

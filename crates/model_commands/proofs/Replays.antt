@@ -2,7 +2,7 @@
 use Rattle.std.proofs.Common.{◌≡◌, ◌⊎◌, ℕ, List, [], true, false, refl, inl, inr, arith}
 use Rattle.std.specs.declared.option.Option.{Option}
 use Rattle.std.specs.declared.result.Result.{Result}
-use Rattle.causes.proofs.Writing.{writes_nothing}
+use Rattle.causes.proofs.WritesInTurn.{writes_nothing}
 use Rattle.eeprom_map.specs.Memory.{new_memory}
 use Rattle.loop_packet.specs.Blank.{PacketIsBlank}
 use Rattle.loop_packet.specs.declared.packet.LoopPacket.{LoopPacket}

@@ -10,7 +10,7 @@ use Rattle.std.specs.List.{list_all}
 use Rattle.std.specs.Str.Parse.{AllDigits, digits_value}
 use Rattle.std.specs.Prelude.{Some, nat_lt, nat_le, ◌&&◌}
 use Rattle.numerals.specs.Numeral.{number_in, is_short_numeral, WritesNumber}
-use Rattle.numerals.proofs.Passing.{only_if_some}
+use Rattle.numerals.proofs.PassedTests.{only_if_some}
 
 -- digits that are so, and so many, are a numeral
 pub is_numeral_of_digits : (base : ℕ) (digits : List ℕ) → AllDigits base digits → list_all (λ digit. is_digit digit base) digits ≡ true

@@ -1,3 +1,3 @@
 pub mod Digits
 pub mod PairByPair
-pub mod Passing
+pub mod PassedTests

@@ -1,5 +1,5 @@
-pub mod Answering
-pub mod Handing
+pub mod AnsweredBatches
+pub mod HandedOver
 pub mod OneTalk
 pub mod OneTried
 pub mod OneRound

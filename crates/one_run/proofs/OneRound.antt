@@ -9,7 +9,7 @@ use Rattle.dmpaft_driver.specs.Gathered.{keeper_answer}
 use Rattle.dmpaft_pump.specs.Keeper.{Handed, join, kept_all, last_kept}
 use Rattle.dmpaft_pump.specs.declared.outcome.DumpEnd.{DumpEnd}
 use Rattle.dmpaft_pump.specs.declared.outcome.DumpEnd.TheVariants as dump_end
-use Rattle.dmpaft_pump.proofs.Keeping.{join_none, kept_in_all}
+use Rattle.dmpaft_pump.proofs.HandedBatches.{join_none, kept_in_all}
 use Rattle.station_session.specs.declared.round_end.RoundEnd.{RoundEnd}
 use Rattle.station_session.specs.declared.round_end.RoundEnd.TheVariants as round_end
 use Rattle.station_session.specs.Attempts.{Attempts, EndsBefore, IsTried, Tried, all_batches, all_said, batches_in, end_after, most_attempts, page_count, skip_count, stamp_after}
@@ -25,7 +25,7 @@ use Rattle.station_replay.specs.Session.{IsKnown, NotPast}
 use Rattle.station_replay.proofs.Bridge.{not_past_less}
 use Rattle.station_replay.proofs.Rounds.{IsPlain}
 use Rattle.one_run.specs.SameTried.{SameTried}
-use Rattle.one_run.proofs.Answering.{MayFail, are_answered}
+use Rattle.one_run.proofs.AnsweredBatches.{MayFail, are_answered}
 use Rattle.one_run.proofs.OneTalk.{CutShort}
 use Rattle.one_run.proofs.OneTried.{Tries, fault_end, plain_by, tries_meet}
 

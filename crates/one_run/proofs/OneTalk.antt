@@ -15,11 +15,11 @@ use Rattle.station_sim.specs.Talk.{ConsoleTalk, console_talk, hearing, line_step
 use Rattle.dmpaft_pump.specs.Pump as pump
 use Rattle.dmpaft_pump.specs.Pump.{AttemptState, Saying, Hearing, Keeping, Over, Astray, answered_by, batch_of, begun, answer_taken, is_said, onward, pump_from, said_if, attempt_step, ungiven, unless_given}
 use Rattle.dmpaft_pump.specs.declared.pump_end.PumpEnd.{PumpEnd}
-use Rattle.dmpaft_driver.proofs.Cutting.{begun_not_over}
-use Rattle.dmpaft_pump.proofs.Walking.{no_astray, said_is}
+use Rattle.dmpaft_driver.proofs.CutTurns.{begun_not_over}
+use Rattle.dmpaft_pump.proofs.PumpSteps.{no_astray, said_is}
 use Rattle.schedule_file.specs.declared.schedule.step.Stop.{Stop}
-use Rattle.one_run.proofs.Answering.{AreAnswered, answers_meet, done_too, one_answer}
-use Rattle.one_run.proofs.Handing.{gives_all, over_by}
+use Rattle.one_run.proofs.AnsweredBatches.{AreAnswered, answers_meet, done_too, one_answer}
+use Rattle.one_run.proofs.HandedOver.{gives_all, over_by}
 
 -- a pump that stands so takes this talk and these answers to its end
 abbrev pub Ends : Option CivilMinute → AttemptState → List TalkItem → List Stored → Type 0

@@ -27,8 +27,8 @@ use Rattle.station_session.proofs.Ends.{last_in}
 use Rattle.station_replay.specs.Keeping.{Archive}
 use Rattle.one_run.specs.SameTried.{SameTried, TriesOver}
 use Rattle.schedule_file.specs.declared.schedule.step.Stop.{Stop}
-use Rattle.one_run.proofs.Answering.{AreAnswered, are_answered}
-use Rattle.one_run.proofs.Handing.{gives_all, handed_all}
+use Rattle.one_run.proofs.AnsweredBatches.{AreAnswered, are_answered}
+use Rattle.one_run.proofs.HandedOver.{gives_all, handed_all}
 use Rattle.one_run.proofs.OneTalk.{Alike, CutShort, Leads, alike_from, same_line}
 use Rattle.station_replay.proofs.Rounds.{IsPlain, plain_ended}
 use Rattle.station_replay.proofs.Rounds as rounds

@@ -1,6 +1,6 @@
 pub mod RowLaws
 pub mod TailLaws
-pub mod Packing
+pub mod PackedBatches
 pub mod DayLaws
 pub mod DayRows
 pub mod Versions

@@ -6,8 +6,8 @@ use Rattle.disk_model.specs.Medium.{Medium}
 use Rattle.gated_log.specs.Calls.{Looked}
 use Rattle.serial_link.specs.Traffic.{Traffic}
 use Rattle.serial_link.specs.declared.talk.TalkItem.{TalkItem}
-use Rattle.serial_link.proofs.Growing.{adds_none}
-use Rattle.serial_link.proofs.Joining.{talks_as, talks_then}
+use Rattle.serial_link.proofs.GrownTalk.{adds_none}
+use Rattle.serial_link.proofs.JoinedCalls.{talks_as, talks_then}
 use Rattle.std.specs.Prelude.{◌+◌, ◌*◌}
 use Rattle.gated_log.specs.Layout.{slot_size}
 use Rattle.packed_rows.specs.Rows.{slot_total}

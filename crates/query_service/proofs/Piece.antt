@@ -2,7 +2,7 @@
 use Rattle.std.proofs.Common.{ℕ, ◌≡◌, List, [], ◌∷◌, ◌++◌, Option, Some, None, refl, sym, ap, subst, ◌∙◌, arith}
 use Rattle.causes.specs.Cause.{Cause}
 use Rattle.causes.specs.Lists.{IsFrontOf}
-use Rattle.causes.proofs.Writing.{writes_nothing}
+use Rattle.causes.proofs.WritesInTurn.{writes_nothing}
 use Rattle.station_io.specs.declared.sink.Put.TheVariants as put
 use Rattle.station_io.specs.Sink.{Emits, WroteBy}
 use Rattle.serial_link.specs.declared.talk.TalkItem.{TalkItem}
@@ -10,7 +10,7 @@ use Rattle.serial_link.specs.declared.link.Sent.TheVariants as sent
 use Rattle.serial_link.specs.Traffic.{Traffic}
 use Rattle.serial_link.specs.Talk.{Adds, count_quiets, message}
 use Rattle.serial_link.specs.Link.{Speaks}
-use Rattle.serial_link.proofs.Growing.{count_quiets-append, message_waits}
+use Rattle.serial_link.proofs.GrownTalk.{count_quiets-append, message_waits}
 use Rattle.wake_retry.specs.Bounds.{said}
 use Rattle.wake_retry.specs.Parts.{heard}
 use Rattle.wake_retry.proofs.Endings.{heard-append}

@@ -10,7 +10,7 @@ use Rattle.serial_link.specs.Traffic.{Traffic}
 use Rattle.serial_link.specs.declared.link.Recv.TheVariants as recv
 use Rattle.serial_link.specs.declared.talk.TalkItem.{TalkItem}
 use Rattle.serial_link.specs.declared.talk.TalkItem.TheVariants.{Heard, Quiet}
-use Rattle.serial_link.proofs.Growing.{count_quiets-append, heard_waits}
+use Rattle.serial_link.proofs.GrownTalk.{count_quiets-append, heard_waits}
 use Rattle.station_base.specs.declared.row.Row.{Row}
 use Rattle.wake_retry.specs.Bounds.{said}
 use Rattle.wake_retry.specs.Parts.{heard, count_met}

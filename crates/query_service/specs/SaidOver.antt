@@ -5,7 +5,7 @@ use Rattle.station_io.specs.Sink.{Outlet}
 use Rattle.serial_link.specs.declared.talk.TalkItem.{TalkItem}
 use Rattle.serial_link.specs.Traffic.{Traffic}
 use Rattle.serial_link.specs.Talk.{Adds}
-use Rattle.serial_link.proofs.Growing.{adds_none, adds_joins}
+use Rattle.serial_link.proofs.GrownTalk.{adds_none, adds_joins}
 use Rattle.wake_retry.specs.Bounds.{said}
 use Rattle.query_service.specs.declared.link_sink.LinkSink.{LinkSink}
 use Rattle.query_service.specs.Talk.{TalkOnlySays, only_none, only_joins, said_joins}

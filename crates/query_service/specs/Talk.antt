@@ -4,7 +4,7 @@ use Rattle.std.proofs.Common.{refl, ap, ◌∙◌, arith}
 use Rattle.serial_link.specs.Talk.{count_quiets}
 use Rattle.serial_link.specs.declared.talk.TalkItem.{TalkItem}
 use Rattle.serial_link.specs.declared.talk.TalkItem.TheVariants.{Said, Heard, Quiet}
-use Rattle.serial_link.proofs.Growing.{count_quiets-append}
+use Rattle.serial_link.proofs.GrownTalk.{count_quiets-append}
 use Rattle.wake_retry.specs.Bounds.{said}
 use Rattle.wake_retry.specs.Parts.{heard}
 use Rattle.wake_retry.proofs.Endings.{heard-append}

@@ -1,8 +1,8 @@
-pub mod Beginning
-pub mod Changing
+pub mod RecoveryCalls
+pub mod RecoveryChanges
 pub mod Heads
 pub mod Opened
-pub mod Reopening
+pub mod StoppedRecovery
 pub mod Restarted
 pub mod RoundPlayed
 pub mod TurnPlayed

@@ -12,7 +12,7 @@ use Rattle.disk_model.specs.TimeLaws.{le_or_gt}
 use Rattle.disk_model.specs.declared.disk.Disked.TheVariants.{Done}
 use Rattle.disk_model.specs.declared.mem_disk.MemDisk.{MemDisk}
 use Rattle.disk_model.specs.declared.stopping.Stopping.{Stopping}
-use Rattle.gated_log.proofs.Starting.{still_durable}
+use Rattle.gated_log.proofs.RecoveryFinds.{still_durable}
 use Rattle.gated_log.proofs.Versions.{has_closed}
 use Rattle.gated_log.specs.Calls.{RecoveryCalls, up_to, recovery_changes}
 use Rattle.gated_log.specs.Log.{empty_archive}
@@ -33,9 +33,9 @@ use Rattle.station_replay.specs.Replay.{archive_made_ready, stops_opening}
 use Rattle.station_replay.specs.Stopped.{DiskRests}
 use Rattle.round_play.specs.Opening.{IsOpened, stopping_limits}
 use Rattle.round_play.specs.Resting.{AtRest, HasLeft}
-use Rattle.round_play.proofs.Beginning.{Starts, is_armed, went_well}
-use Rattle.round_play.proofs.Changing.{limits_stay}
-use Rattle.round_play.proofs.Reopening.{Passed, synced_once, made_anew}
+use Rattle.round_play.proofs.RecoveryCalls.{Starts, is_armed, went_well}
+use Rattle.round_play.proofs.RecoveryChanges.{limits_stay}
+use Rattle.round_play.proofs.StoppedRecovery.{Passed, synced_once, made_anew}
 
 -- a book stands on a disk after calls that change nothing
 pub stands_stays : (book : Book) (d e : Stopping MemDisk) (rows : List Row) → StandsOn stopping_medium book d rows → Stays stopping_medium d e

@@ -27,10 +27,10 @@ use Rattle.station_replay.specs.Stopped.{DiskRests}
 use Rattle.station_replay.proofs.Room.{picked_between}
 use Rattle.round_play.specs.Opening.{stopping_limits}
 use Rattle.round_play.specs.Resting.{AtRest, HasLeft}
-use Rattle.round_play.proofs.Beginning.{Starts, went_wrong, few, same_platter}
-use Rattle.round_play.proofs.Changing.{limits_stay}
+use Rattle.round_play.proofs.RecoveryCalls.{Starts, went_wrong, few, same_platter}
+use Rattle.round_play.proofs.RecoveryChanges.{limits_stay}
 use Rattle.round_play.proofs.Opened.{left_by}
-use Rattle.round_play.proofs.Reopening.{Halted, length_within}
+use Rattle.round_play.proofs.StoppedRecovery.{Halted, length_within}
 
 -- of one length a restart picks that
 same_picked : (pick size : ℕ) → picked_length pick size size ≡ size

@@ -46,8 +46,8 @@ use Rattle.schedule_file.specs.declared.schedule.step.Stop.{Stop}
 use Rattle.station_replay.specs.Session.{AreRound, RoundEndsAs, IsKnown, NotPast, RoundStopsAt, archive_left_after}
 use Rattle.station_replay.specs.Stopped.{DiskHasRoom, IsStop, armed_by}
 use Rattle.station_replay.proofs.Bridge.{session_law}
-use Rattle.station_replay.proofs.Passing.{calls_keep, chain_takes, round_passes}
-use Rattle.station_replay.proofs.Leaving.{all_read, kept_read, rows_after, total_few}
+use Rattle.station_replay.proofs.PassedStops.{calls_keep, chain_takes, round_passes}
+use Rattle.station_replay.proofs.RowsOfRounds.{all_read, kept_read, rows_after, total_few}
 use Rattle.station_replay.proofs.Stops.{chain_stopped, has_armed, has_length, round_goes, round_stops, round_sure, slots_is, changes_after, total_grows}
 use Rattle.round_play.proofs.Opened.{left_by, stands_stays, synced_seen}
 use Rattle.round_play.specs.Opening.{stopping_limits}

@@ -26,7 +26,7 @@ impl NarrowSink {
 impl Sink for NarrowSink {
     ghost outlet = { untold_outlet (λ sink. sink.faults) };
 
-    #[tactic(auto, using(causes::proofs::Writing::writes_nothing, station_outside::proofs::SinkWrites::some_written))]
+    #[tactic(auto, using(causes::proofs::WritesInTurn::writes_nothing, station_outside::proofs::SinkWrites::some_written))]
     fn put(&mut self, bytes: &[u8]) -> Put {
         let (front, rest) = bytes.split_at(bytes.len().min(self.room));
         self.room -= front.len();

@@ -2,6 +2,6 @@ pub mod Behind
 pub mod CallCauses
 pub mod Causes
 pub mod GoodFiles
-pub mod Printing
+pub mod PrintedPieces
 pub mod RunCauses
 pub mod Statuses

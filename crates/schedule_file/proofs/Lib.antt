@@ -1,7 +1,7 @@
-pub mod Cutting
-pub mod Spelling
-pub mod Naming
-pub mod Telling
+pub mod CutTexts
+pub mod MinuteWords
+pub mod NamedValues
+pub mod RecordFaults
 pub mod Lines
 pub mod Kept
 pub mod Limits

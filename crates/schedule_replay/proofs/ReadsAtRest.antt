@@ -11,7 +11,7 @@ use Rattle.disk_model.specs.declared.stopping.Stopping.{Stopping}
 use Rattle.gated_log.specs.Calls.{Looked, any_failed, reads_within}
 use Rattle.gated_log.proofs.CallsMade.{fit, no_changes}
 use Rattle.gated_log.proofs.Chains.{gate_place}
-use Rattle.gated_log.proofs.Starting.{still_durable}
+use Rattle.gated_log.proofs.RecoveryFinds.{still_durable}
 use Rattle.gated_log.specs.declared.version.Version.TheVariants.{Second}
 use Rattle.station_base.specs.declared.row.Row.{Row}
 use Rattle.settings_file.specs.StationSettings.{StationSettings}
@@ -27,7 +27,7 @@ use Rattle.station_session.specs.declared.session.Session.{Session}
 use Rattle.station_session.specs.Session.{book_of}
 use Rattle.station_replay.specs.Keeping.{Archive}
 use Rattle.round_play.specs.Resting.{AtRest, SessionGoesOn, HasLeft}
-use Rattle.round_play.proofs.Changing.{by_changes, fails_by_changes}
+use Rattle.round_play.proofs.RecoveryChanges.{by_changes, fails_by_changes}
 use Rattle.round_play.proofs.Opened.{stands_stays, synced_seen}
 use Rattle.schedule_replay.specs.Writing.{IsOnlyRead, IsReadable}
 

@@ -22,7 +22,7 @@ use Rattle.station_replay.specs.Schedule.{ReplayStep}
 use Rattle.schedule_file.specs.Lists.{no_fates}
 use Rattle.station_replay.specs.Round.{tried_of}
 use Rattle.station_session.specs.Attempts.{all_said}
-use Rattle.station_replay.proofs.Leaving.{total_few}
+use Rattle.station_replay.proofs.RowsOfRounds.{total_few}
 use Rattle.station_replay.proofs.Stops.{slots_is}
 use Rattle.round_play.specs.declared.playing.Played.{Played}
 use Rattle.schedule_replay.specs.declared.run.Run.{Run}

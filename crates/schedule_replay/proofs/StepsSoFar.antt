@@ -21,9 +21,9 @@ use Rattle.schedule_file.specs.declared.schedule.step.Stop.{Stop}
 use Rattle.station_replay.specs.Schedule.{IsSchedule, ReplayStep, records}
 use Rattle.station_replay.specs.Stopped.{IsStop}
 use Rattle.station_replay.specs.Round.{tried_of}
-use Rattle.station_replay.proofs.Leaving.{total_few}
+use Rattle.station_replay.proofs.RowsOfRounds.{total_few}
 use Rattle.station_replay.proofs.Roomy.{room_law, round_in_run}
-use Rattle.station_replay.proofs.Running.{begun_law, schedules_law}
+use Rattle.station_replay.proofs.WholeRun.{begun_law, schedules_law}
 use Rattle.station_replay.proofs.Stops.{slots_is}
 use Rattle.schedule_replay.specs.declared.run.Run.{Run}
 use Rattle.schedule_steps.specs.Accepted.{AreAccepted, IsInRange}

@@ -2,7 +2,7 @@
 use Rattle.std.specs.Prelude.{◌≡◌, ℕ, List, [], ◌∷◌, ◌++◌}
 use Rattle.std.proofs.Common.{refl, sym, ap, subst, ◌∙◌, append-nil, append_assoc}
 use Rattle.causes.specs.Written.{Leaves}
-use Rattle.causes.proofs.Writing.{Appends-nil, leaves_all, leaves_less, leaves_none, part_of_all, part_of_front, writes_nothing}
+use Rattle.causes.proofs.WritesInTurn.{Appends-nil, leaves_all, leaves_less, leaves_none, part_of_all, part_of_front, writes_nothing}
 use Rattle.station_io.specs.Sink.{Outlet}
 use Rattle.station_replay.specs.Replay.{Item}
 use Rattle.station_replay.specs.Texts.{text, item_text}

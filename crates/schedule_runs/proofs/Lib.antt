@@ -1,5 +1,5 @@
-pub mod Hearing
-pub mod Keeping
-pub mod Attempting
-pub mod Rounding
-pub mod Running
+pub mod SomeTalk
+pub mod KeeperAnswers
+pub mod SomeAttempt
+pub mod SomeRound
+pub mod SomeRun

@@ -1,7 +1,7 @@
-pub mod Accepting
-pub mod Falling
+pub mod AcceptedSchedules
+pub mod DueMinutes
 pub mod ReadForms
-pub mod Rising
+pub mod RisingRecords
 pub mod RunRecords
 pub mod SameValues
-pub mod Stamping
+pub mod NextStamps

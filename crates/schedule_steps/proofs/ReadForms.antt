@@ -6,7 +6,7 @@ use Rattle.std.specs.Str.{bytes_eq}
 use Rattle.std.proofs.lemmas.Bool.{and_parts, leb-true}
 use Rattle.numerals.specs.Numeral.{decimal_within}
 use Rattle.numerals.specs.Then.{◌>>=◌}
-use Rattle.numerals.proofs.Passing.{only_if_some}
+use Rattle.numerals.proofs.PassedTests.{only_if_some}
 use Rattle.schedule_file.specs.declared.fate.Fate.{Fate}
 use Rattle.schedule_file.specs.declared.schedule.form.Form.{Form}
 use Rattle.schedule_file.specs.declared.schedule.form.Form.TheVariants.{Due, Run, Idle, Open, Round, Host, Reply, Late, Mid, Stop}

@@ -5,7 +5,7 @@ use Rattle.station_base.specs.CivilMinute.{CivilMinute, minute_of, last_minute}
 use Rattle.archive_record.specs.Reading.{stamp_in}
 use Rattle.archive_record.specs.MovedOn.{moved_on}
 use Rattle.schedule_steps.specs.Runs.{next_record, run_records, IsRun}
-use Rattle.schedule_steps.proofs.Stamping.{moved_to}
+use Rattle.schedule_steps.proofs.NextStamps.{moved_to}
 
 -- a stamp behind which so many records of the period have stamps
 IsFirst : ℕ → ℕ → Option CivilMinute → Type 0

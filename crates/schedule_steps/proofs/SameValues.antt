@@ -16,9 +16,9 @@ use Rattle.archive_record.specs.Table.{places, field_places}
 use Rattle.archive_record.proofs.Once.{raw_stays}
 use Rattle.archive_record.proofs.Rows.{row_parts, parts_row, reads_this_row}
 use Rattle.archive_record.specs.MovedOn.{minute_numbered, with_stamp}
-use Rattle.archive_record.proofs.Stamping.{row_of, record_given, revision_given, stamp_given}
+use Rattle.archive_record.proofs.MovedStamps.{row_of, record_given, revision_given, stamp_given}
 use Rattle.schedule_steps.specs.Runs.{next_record, run_records, IsRun, ReadsLater}
-use Rattle.schedule_steps.proofs.Stamping.{IsMoved, moved_to}
+use Rattle.schedule_steps.proofs.NextStamps.{IsMoved, moved_to}
 use Rattle.schedule_steps.proofs.RunRecords.{run_on, two_more}
 
 -- behind its stamp the record has the bytes that it had

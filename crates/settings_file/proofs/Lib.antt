@@ -1,6 +1,6 @@
 pub mod Lists
 pub mod Documents
-pub mod Walking
+pub mod TableWalk
 pub mod Changes
 pub mod NothingNamed
 pub mod ChangesWalk

@@ -1,7 +1,7 @@
-pub mod Coming
+pub mod OneEntryMore
 pub mod Ends
 pub mod Intervals
-pub mod Summing
-pub mod Standing
-pub mod Taking
+pub mod RunningSums
+pub mod EntriesSoFar
+pub mod ClosedIntervals
 pub mod Within

@@ -84,7 +84,7 @@ impl Spread {
     }
 
     /// The mean, rounded towards the lesser number, if there is a number.
-    #[tactic(auto, using(crate::proofs::Summing::mean_none, crate::proofs::Summing::mean_some))]
+    #[tactic(auto, using(crate::proofs::RunningSums::mean_none, crate::proofs::RunningSums::mean_some))]
     pub fn mean(self) -> Option<i32>
         requires { IsSmall self }
         ensures mean { (numbers : List ℤ) → IsSpreadOf numbers self → result ≡ mean_of numbers }
@@ -105,7 +105,7 @@ impl Spread {
     }
 
     /// The least, if there is a number.
-    #[tactic(auto, using(crate::proofs::Summing::least_none, crate::proofs::Summing::least_some))]
+    #[tactic(auto, using(crate::proofs::RunningSums::least_none, crate::proofs::RunningSums::least_some))]
     pub fn least(self) -> Option<i32>
         requires { IsSmall self }
         ensures least { (numbers : List ℤ) → IsSpreadOf numbers self → result ≡ least_of numbers }
@@ -118,7 +118,7 @@ impl Spread {
     }
 
     /// The greatest, if there is a number.
-    #[tactic(auto, using(crate::proofs::Summing::greatest_none, crate::proofs::Summing::greatest_some))]
+    #[tactic(auto, using(crate::proofs::RunningSums::greatest_none, crate::proofs::RunningSums::greatest_some))]
     pub fn greatest(self) -> Option<i32>
         requires { IsSmall self }
         ensures greatest { (numbers : List ℤ) → IsSpreadOf numbers self → result ≡ greatest_of numbers }

@@ -26,7 +26,7 @@ pub fn two_digits(number: u8) -> [u8; 2]
 }
 
 /// The four decimal digits of a number below 10,000.
-#[tactic(auto, using(crate::proofs::Spelling::four_digits))]
+#[tactic(auto, using(crate::proofs::DigitPairs::four_digits))]
 pub fn four_digits(number: u16) -> [u8; 4]
     requires { number < 10_000 }
     ensures { result ≡ digits 4 number }

@@ -51,7 +51,7 @@ impl MemSink {
 impl Sink for MemSink {
     ghost outlet = { bucket_outlet };
 
-    #[tactic(auto, using(causes::proofs::Writing::writes_nothing))]
+    #[tactic(auto, using(causes::proofs::WritesInTurn::writes_nothing))]
     /// A piece that does not fit is a counted fault, and nothing of it is taken.
     fn put(&mut self, bytes: &[u8]) -> Put
         ensures emits { Emits bucket_outlet self.old bytes.now result self.new }

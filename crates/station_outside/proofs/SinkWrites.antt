@@ -1,6 +1,6 @@
 -- Writes of a sink that tells nothing of what it holds.
 use Rattle.std.proofs.Common.{ℕ, ◌≢◌, List, [], None, refl, arith}
-use Rattle.causes.proofs.Writing.{writes_nothing}
+use Rattle.causes.proofs.WritesInTurn.{writes_nothing}
 use Rattle.station_io.specs.declared.sink.Put.{Put}
 use Rattle.station_io.specs.declared.sink.Put.TheVariants.{Done, Failed}
 use Rattle.station_io.specs.Sink.{Emits, WroteBy}

@@ -25,7 +25,7 @@ impl<'a, R> StdSink<'a, R> {
 impl<R: Print> Sink for StdSink<'_, R> {
     ghost outlet = { untold_outlet (λ sink. sink.faults) };
 
-    #[tactic(auto, using(causes::proofs::Writing::writes_nothing, crate::proofs::SinkWrites::some_written))]
+    #[tactic(auto, using(causes::proofs::WritesInTurn::writes_nothing, crate::proofs::SinkWrites::some_written))]
     fn put(&mut self, bytes: &[u8]) -> Put {
         let answer = write_whole(&mut io::writer(self.runtime), bytes);
         if answer == Put::Failed {

@@ -16,7 +16,7 @@ use Rattle.dmpaft_driver.specs.OneAttempt.{Acknowledges}
 use Rattle.dmpaft_driver.specs.Outcome.{Ended, IsCutAfter}
 use Rattle.dmpaft_pump.specs.declared.outcome.DumpEnd.{DumpEnd}
 use Rattle.dmpaft_pump.specs.declared.outcome.DumpEnd.TheVariants as dump_end
-use Rattle.dmpaft_driver.proofs.Acknowledging.{attempt_some, acknowledged_are_kept, taken_are_acknowledged}
+use Rattle.dmpaft_driver.proofs.AcknowledgedPages.{attempt_some, acknowledged_are_kept, taken_are_acknowledged}
 use Rattle.dmpaft_driver.proofs.OneTalk.{attempt_goes}
 use Rattle.station_session.specs.Attempts.{Tried, IsTried, but_last, kept_batches}
 use Rattle.station_session.specs.Batches.{kept_records}
@@ -29,11 +29,11 @@ use Rattle.station_sim.specs.Talk.{started}
 use Rattle.station_replay.specs.Acknowledged.{rows_after_attempts, rows_with_pages, KeepsAcknowledged, AreAcknowledged, AreJustAcknowledged, KeepsJustAcknowledged, TakesOneMore}
 use Rattle.schedule_file.specs.declared.schedule.step.Stop.{Stop}
 use Rattle.station_replay.specs.Keeping.{Archive}
-use Rattle.station_replay.proofs.Trying.{Keeping, Tries}
+use Rattle.station_replay.proofs.RoundAttempts.{Keeping, Tries}
 use Rattle.station_replay.proofs.Bridge.{followed}
 use Rattle.station_replay.specs.Round.{Ending, Attempted}
 use Rattle.station_replay.specs.Replay.{Rounded, Stage, IsRound}
-use Rattle.station_replay.proofs.Giving.{and_rows, Parted, keeps_part}
+use Rattle.station_replay.proofs.GivenBatches.{and_rows, Parted, keeps_part}
 use Rattle.station_replay.proofs.Rounds.{IsPlain, front_same, front_join}
 
 front_is : (xs ys : List Row) → xs ≡ ys → IsFrontOf xs ys

@@ -9,10 +9,10 @@ use Rattle.dmpaft_driver.specs.Attempt.{Attempt, End}
 use Rattle.dmpaft_driver.specs.Gathered.{keeper_answer}
 use Rattle.dmpaft_pump.specs.Keeper.{Refusal, Handed, join}
 use Rattle.dmpaft_pump.specs.Batch.{batches, records_in}
-use Rattle.dmpaft_pump.proofs.Keeping.{join_none}
+use Rattle.dmpaft_pump.proofs.HandedBatches.{join_none}
 use Rattle.dmpaft_pump.specs.declared.outcome.DumpEnd.{DumpEnd}
 use Rattle.dmpaft_pump.specs.declared.outcome.DumpEnd.TheVariants as dump_end
-use Rattle.dmpaft_driver.proofs.Bounding.{frame_long}
+use Rattle.dmpaft_driver.proofs.AttemptBounds.{frame_long}
 use Rattle.station_session.specs.declared.round_end.RoundEnd.{RoundEnd}
 use Rattle.station_session.specs.declared.round_end.RoundEnd.TheVariants as round_end
 use Rattle.station_session.specs.Attempts.{Tried, IsTried, Attempts, EndsBefore, end_after, batches_in, stamp_after, all_batches, all_said, most_attempts}
@@ -35,11 +35,11 @@ use Rattle.station_sim.specs.Joining.{talks_part}
 use Rattle.station_sim.specs.Line.{Line}
 use Rattle.station_sim.specs.Sound.{IsSound, AreSound}
 use Rattle.station_sim.specs.Talk.{console_talk}
-use Rattle.station_sim.proofs.Sounding.{sound_talk}
+use Rattle.station_sim.proofs.SoundLines.{sound_talk}
 use Rattle.station_replay.specs.Harm.{DiskFailed, LinkShort, EndsUnharmed, IsSpared, EachOver, EachHarmed, HarmTells}
 use Rattle.line_laws.proofs.Attempts.{attempt_law}
 use Rattle.line_laws.proofs.Clean.{goes_harmed}
-use Rattle.line_laws.proofs.Completing.{clean_law}
+use Rattle.line_laws.proofs.WholeAttempts.{clean_law}
 use Rattle.line_laws.proofs.Headers.{frame_good}
 use Rattle.line_laws.proofs.Pages.{goes_unseen}
 use Rattle.station_replay.proofs.Rounds.{IsPlain, end_of, plain_ended}

@@ -24,12 +24,12 @@ use Rattle.console_model.specs.Console.ConsoleState.{Command}
 use Rattle.console_model.specs.Due.{due_by, in_the_way, unexceeded}
 use Rattle.console_model.specs.Spelling.{plan_after, time_in}
 use Rattle.console_model.specs.Valid.{EachFollows}
-use Rattle.console_model.proofs.Following.{rises_all}
-use Rattle.console_model.proofs.Reaching.{holds_none, no_history}
+use Rattle.console_model.proofs.RecordsBehind.{rises_all}
+use Rattle.console_model.proofs.ValidConsoles.{holds_none, no_history}
 use Rattle.station_sim.specs.Calm.{IsCalm, IsBrief, pending}
 use Rattle.station_sim.specs.Line.{due_all}
 use Rattle.station_sim.specs.Sound.{AreRecords, IsSound}
-use Rattle.station_sim.proofs.Sounding.{well_due_all, is_well, is_sound}
+use Rattle.station_sim.proofs.SoundLines.{well_due_all, is_well, is_sound}
 use Rattle.line_laws.specs.Gathers.{newer_held}
 use Rattle.station_replay.specs.Minutes.{zeros, time_word, minute_record, minute_records, new_line, filled_line}
 use Rattle.station_replay.specs.Schedule.{ReplayStep, IsSchedule}

@@ -13,8 +13,8 @@ use Rattle.dmpaft_driver.specs.Gathered as outcome
 use Rattle.dmpaft_pump.specs.Keeper.{Handed, one_batch, kept_all, join, count}
 use Rattle.dmpaft_pump.specs.declared.outcome.DumpEnd.{DumpEnd}
 use Rattle.dmpaft_pump.specs.declared.outcome.DumpEnd.TheVariants as dump_end
-use Rattle.dmpaft_pump.proofs.Keeping.{join_none, one_size, count_join}
-use Rattle.dmpaft_driver.proofs.Bounding.{frame_long}
+use Rattle.dmpaft_pump.proofs.HandedBatches.{join_none, one_size, count_join}
+use Rattle.dmpaft_driver.proofs.AttemptBounds.{frame_long}
 use Rattle.packed_rows.specs.Rising.{last_row_stamp}
 use Rattle.station_session.specs.declared.round_end.RoundEnd.{RoundEnd}
 use Rattle.station_session.specs.declared.round_end.RoundEnd.TheVariants as round_end
@@ -37,9 +37,9 @@ use Rattle.station_replay.specs.Room.{AreFew}
 use Rattle.station_replay.specs.Round.{Attempted, IsAttempted}
 use Rattle.line_laws.proofs.Attempts.{attempt_dry}
 use Rattle.station_replay.proofs.Bridge.{attempted_by, went, said_one}
-use Rattle.station_replay.proofs.Counting.{few_of, stamp_of}
+use Rattle.station_replay.proofs.CountedRows.{few_of, stamp_of}
 use Rattle.line_laws.proofs.Pages.{goes_unseen}
-use Rattle.station_replay.proofs.Giving.{keeps_part}
+use Rattle.station_replay.proofs.GivenBatches.{keeps_part}
 use Rattle.station_replay.proofs.Room.{AllSome, batches_some}
 use Rattle.station_replay.proofs.Rounds.{IsPlain, plain_ended, one_law, gathered_join, batches_of, rows_length}
 
@@ -170,7 +170,7 @@ module _ (settings : StationSettings) (f : Fates) (ok : AreSound f) (left : ℕ 
       let o = went settings f None m a w p.0 t tried none parts.0 tt p.1 in
       let plain : IsPlain o.x.made.end = subst IsPlain (sym o.failed.1) tt in
       let u = goes_unseen f (all_said ts) p.0 v p.2 un in
-      let k = keeps_part settings None m a o.x.batches (Rattle.station_replay.proofs.Trying.Keeping.Goes o.count o.b) o.keeps in
+      let k = keeps_part settings None m a o.x.batches (Rattle.station_replay.proofs.RoundAttempts.Keeping.Goes o.count o.b) o.keeps in
       let one = one_law settings f ok left falls all up r more whole a.rows o.b.rows w p.0 o.x calm sound now (stamp_of settings r rises are d a.rows g) o.is_attempted plain u (records_in o.x.batches) k.0 ([], append-nil (records_in o.x.batches)) in
       let q = round_few (n + 1) o.count (d ++ dump_pairs o.x.dumps o.x.gained) o.b p.0 v ts end
       (subst (λ z. Attempts (n + 1) z ts end) o.stamp again)

@@ -26,7 +26,7 @@ use Rattle.dmpaft_pump.specs.Command.{dmpaft}
 use Rattle.dmpaft_pump.specs.Batch.{batches, records_in}
 use Rattle.dmpaft_pump.specs.Header.{IsHeader}
 use Rattle.dmpaft_pump.specs.Page.{is_page_for, has_sequence}
-use Rattle.dmpaft_driver.proofs.Bounding.{frame_long}
+use Rattle.dmpaft_driver.proofs.AttemptBounds.{frame_long}
 use Rattle.crc_ccitt.specs.Check.{is_good}
 use Rattle.console_ring.specs.History.{ring_size}
 use Rattle.dmpaft_pump.specs.Pump.{most_askings}
@@ -42,10 +42,10 @@ use Rattle.station_replay.specs.Minutes.{minute_records, filled_line}
 use Rattle.station_replay.specs.WholeAttempt.{WholeAttempt}
 use Rattle.line_laws.proofs.Asked.{at_state}
 use Rattle.line_laws.proofs.Batches.{attempt_gives}
-use Rattle.line_laws.proofs.Completing.{page_for, page_has}
+use Rattle.line_laws.proofs.WholeAttempts.{page_for, page_has}
 use Rattle.line_laws.proofs.Delivery.{page_length}
 use Rattle.station_replay.proofs.Example.{six, wake, sound_fates}
-use Rattle.line_laws.proofs.Heading.{heading, good_frame, whole_frame, frame_goes}
+use Rattle.line_laws.proofs.HeaderLaws.{heading, good_frame, whole_frame, frame_goes}
 use Rattle.line_laws.proofs.Headers.{frame_good, header_length, header_made, page_is_good, plan_small}
 use Rattle.station_replay.proofs.Minutes.{filled_console, filled_calm, filled_sound, are_records, minutes_kept}
 use Rattle.line_laws.proofs.Unharmed.{next_page}

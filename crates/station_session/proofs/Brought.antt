@@ -18,9 +18,9 @@ use Rattle.dmpaft_pump.specs.declared.outcome.DumpEnd.{DumpEnd}
 use Rattle.dmpaft_pump.specs.declared.outcome.Tally.{Tally}
 use Rattle.dmpaft_pump.specs.declared.pump.Pump.{Pump}
 use Rattle.dmpaft_pump.specs.declared.pump_end.PumpEnd.{PumpEnd}
-use Rattle.dmpaft_driver.proofs.Dumping.{over_shown, cut_shown, ended_as, ended_cut, cut_answer, answer_same, shown_no_astray, cut_front}
+use Rattle.dmpaft_driver.proofs.DumpTurns.{over_shown, cut_shown, ended_as, ended_cut, cut_answer, answer_same, shown_no_astray, cut_front}
 use Rattle.dmpaft_driver.proofs.Exactly.{sound}
-use Rattle.dmpaft_pump.proofs.Keeping.{kept_answered}
+use Rattle.dmpaft_pump.proofs.HandedBatches.{kept_answered}
 
 -- the attempt of this talk, the batches that it gave, and its part of the tally
 pub record Brought (start : Tally) (a : Option CivilMinute) (talk : List TalkItem) (end : DumpEnd) (given : Handed) (tally : Tally) : Type 0 where

@@ -10,8 +10,8 @@ use Rattle.causes.specs.declared.stored.Stored.{Stored}
 use Rattle.causes.specs.declared.stored.Stored.TheVariants.{Done}
 use Rattle.dmpaft_pump.specs.declared.outcome.DumpEnd.{DumpEnd}
 use Rattle.dmpaft_pump.specs.declared.outcome.DumpEnd.TheVariants as dump_end
-use Rattle.dmpaft_pump.proofs.Keeping.{join_none, kept_answered}
-use Rattle.dmpaft_pump.proofs.Rising.{rising_joins, batches_rise}
+use Rattle.dmpaft_pump.proofs.HandedBatches.{join_none, kept_answered}
+use Rattle.dmpaft_pump.proofs.RisingBatches.{rising_joins, batches_rise}
 use Rattle.dmpaft_pump.proofs.LastBatch.{newest_joins}
 use Rattle.station_session.specs.declared.round_end.RoundEnd.{RoundEnd}
 use Rattle.station_session.specs.Attempts.{Tried, Attempts, batches_in, stamp_after, all_batches, but_last, kept_batches}

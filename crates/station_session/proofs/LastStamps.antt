@@ -11,7 +11,7 @@ use Rattle.dmpaft_driver.specs.Gathered as gathered
 use Rattle.dmpaft_pump.specs.Pump.{AttemptState, Saying, Hearing, Keeping, Over, Astray}
 use Rattle.dmpaft_pump.specs.Shown.{all_kept, pump_answer}
 use Rattle.dmpaft_driver.specs.Standing.{place_of_part, taken_in, handed_over}
-use Rattle.dmpaft_pump.proofs.Keeping.{kept_answered}
+use Rattle.dmpaft_pump.proofs.HandedBatches.{kept_answered}
 use Rattle.dmpaft_pump.proofs.Rows.{rows_rise, within_self}
 use Rattle.station_session.specs.Attempts.{Tried, batches_in, stamp_after, all_batches}
 use Rattle.station_session.specs.Fits.{first_some}

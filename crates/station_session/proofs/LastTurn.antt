@@ -6,7 +6,7 @@ use Rattle.serial_link.specs.Talk.{Adds}
 use Rattle.station_base.specs.CivilMinute.{CivilMinute}
 use Rattle.std.specs.Prelude.{Option}
 use Rattle.serial_link.specs.declared.talk.TalkItem.{TalkItem}
-use Rattle.serial_link.proofs.Growing.{adds_joins}
+use Rattle.serial_link.proofs.GrownTalk.{adds_joins}
 use Rattle.station_base.specs.declared.row.Row.{Row}
 use Rattle.settings_file.specs.StationSettings.{StationSettings}
 use Rattle.weather_book.specs.Book.{IsSameBook, last_stamp_of}

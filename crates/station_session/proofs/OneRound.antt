@@ -13,10 +13,10 @@ use Rattle.dmpaft_pump.specs.declared.outcome.DumpEnd.{DumpEnd}
 use Rattle.dmpaft_pump.specs.declared.outcome.DumpEnd.TheVariants as dump_end
 use Rattle.dmpaft_pump.specs.declared.pump_end.PumpEnd.{PumpEnd}
 use Rattle.dmpaft_pump.specs.declared.pump_end.PumpEnd.TheVariants as pump_end
-use Rattle.dmpaft_driver.proofs.Acknowledging.{one_attempt}
-use Rattle.dmpaft_driver.proofs.Cutting.{begun_not_over}
+use Rattle.dmpaft_driver.proofs.AcknowledgedPages.{one_attempt}
+use Rattle.dmpaft_driver.proofs.CutTurns.{begun_not_over}
 use Rattle.dmpaft_driver.proofs.Exactly.{complete}
-use Rattle.dmpaft_pump.proofs.Walking.{no_astray, over_is}
+use Rattle.dmpaft_pump.proofs.PumpSteps.{no_astray, over_is}
 use Rattle.serial_link.specs.declared.talk.TalkItem.{TalkItem}
 use Rattle.station_base.specs.CivilMinute.{CivilMinute}
 use Rattle.station_session.specs.Attempts.{Attempts, EndsBefore, IsTried, Tried, all_said, batches_in, end_after, stamp_after}

@@ -7,7 +7,7 @@ use Rattle.causes.specs.declared.stored.Stored.TheVariants as stored
 use Rattle.disk_model.specs.Disk.{BeginsChanges, Faults}
 use Rattle.disk_model.specs.Medium.{Medium}
 use Rattle.serial_link.specs.Traffic.{Traffic}
-use Rattle.serial_link.proofs.Growing.{adds_joins}
+use Rattle.serial_link.proofs.GrownTalk.{adds_joins}
 use Rattle.serial_link.specs.declared.talk.TalkItem.{TalkItem}
 use Rattle.station_base.specs.CivilMinute.{CivilMinute}
 use Rattle.weather_book.specs.Book.{last_stamp_of, spare, len_of}
@@ -15,7 +15,7 @@ use Rattle.dmpaft_pump.specs.Keeper.{Handed, kept_all, join, count, last_kept}
 use Rattle.dmpaft_pump.specs.Pump.{AttemptState}
 use Rattle.dmpaft_pump.specs.Shown.{PumpShows}
 use Rattle.dmpaft_driver.specs.Standing.{gives}
-use Rattle.dmpaft_pump.proofs.Keeping.{one_size, last_joins, count_kept}
+use Rattle.dmpaft_pump.proofs.HandedBatches.{one_size, last_joins, count_kept}
 use Rattle.dmpaft_pump.specs.declared.outcome.DumpEnd.{DumpEnd}
 use Rattle.dmpaft_pump.specs.declared.outcome.DumpEnd.TheVariants as dump_end
 use Rattle.dmpaft_pump.specs.declared.outcome.Tally.{Tally}

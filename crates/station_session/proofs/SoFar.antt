@@ -23,13 +23,13 @@ use Rattle.dmpaft_pump.specs.declared.pump.Pump.{Pump}
 use Rattle.dmpaft_pump.specs.declared.pump_end.PumpEnd.{PumpEnd}
 use Rattle.dmpaft_pump.specs.declared.stage.Stage.{Stage}
 use Rattle.dmpaft_pump.specs.declared.stage.Stage.TheVariants as stage
-use Rattle.dmpaft_driver.proofs.Cutting.{begun_not_over}
-use Rattle.dmpaft_driver.proofs.Dumping.{cut_shown, kept_few, suits_at}
-use Rattle.dmpaft_pump.proofs.Keeping.{kept_answered, count_kept}
-use Rattle.dmpaft_pump.proofs.Pumping.{all_few}
+use Rattle.dmpaft_driver.proofs.CutTurns.{begun_not_over}
+use Rattle.dmpaft_driver.proofs.DumpTurns.{cut_shown, kept_few, suits_at}
+use Rattle.dmpaft_pump.proofs.HandedBatches.{kept_answered, count_kept}
+use Rattle.dmpaft_pump.proofs.PagesSoFar.{all_few}
 use Rattle.dmpaft_pump.proofs.Rows.{within_self}
 use Rattle.dmpaft_driver.proofs.Trials.{mild_runs}
-use Rattle.dmpaft_driver.proofs.Finishing.{Mild}
+use Rattle.dmpaft_driver.proofs.SilentEnds.{Mild}
 use Rattle.station_session.specs.declared.round.Round.{Round}
 use Rattle.station_session.specs.Attempts.{stamp_behind, all_batches}
 use Rattle.station_session.specs.Fits.{first_some, last_so_far}

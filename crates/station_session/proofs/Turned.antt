@@ -21,9 +21,9 @@ use Rattle.dmpaft_pump.specs.declared.outcome.Trouble.{Trouble}
 use Rattle.dmpaft_pump.specs.declared.pump.Pump.{Pump}
 use Rattle.dmpaft_pump.specs.declared.pump_end.PumpEnd.{PumpEnd}
 use Rattle.dmpaft_pump.specs.declared.pump_end.PumpEnd.TheVariants as pump_end
-use Rattle.dmpaft_driver.proofs.Dumping.{goes_on, handed_turn, none_given, shown_no_astray}
-use Rattle.dmpaft_driver.proofs.Finishing.{Mild}
-use Rattle.dmpaft_pump.proofs.Keeping.{join_assoc, join_none, kept_join}
+use Rattle.dmpaft_driver.proofs.DumpTurns.{goes_on, handed_turn, none_given, shown_no_astray}
+use Rattle.dmpaft_driver.proofs.SilentEnds.{Mild}
+use Rattle.dmpaft_pump.proofs.HandedBatches.{join_assoc, join_none, kept_join}
 use Rattle.dmpaft_driver.proofs.Trials.{all_done, mild_runs}
 use Rattle.station_session.specs.declared.report.Report.{Report}
 use Rattle.station_session.specs.declared.round.Round.{Round}

@@ -4,7 +4,7 @@ use Rattle.disk_model.specs.Disk.{BeginsChanges, Faults}
 use Rattle.serial_link.specs.Traffic.{Traffic}
 use Rattle.disk_model.specs.Medium.{Medium}
 use Rattle.causes.specs.Cause.{RoseBy}
-use Rattle.serial_link.proofs.Growing.{adds_none}
+use Rattle.serial_link.proofs.GrownTalk.{adds_none}
 use Rattle.wake_retry.specs.Parts.{settled_waits}
 use Rattle.station_base.specs.CivilMinute.{CivilMinute}
 use Rattle.station_base.specs.declared.row.Row.{Row}
@@ -34,7 +34,7 @@ use Rattle.station_session.specs.AttemptsMade.{MakesAttempts}
 use Rattle.station_session.proofs.StoredBatches.{stores_none, stores_all}
 use Rattle.station_session.proofs.BookAfter.{chain_most, chain_faults, chain_begun, chain_moved, chain_stale, chain_never_stale, chain_rose}
 use Rattle.station_session.proofs.Marked.{marked_for}
-use Rattle.station_session.proofs.Acknowledging.{acknowledged_are_marked}
+use Rattle.station_session.proofs.AcknowledgedMarks.{acknowledged_are_marked}
 use Rattle.station_session.proofs.Ends.{last_by, answer_at, gave_up_quiets, batch_count}
 
 answer_is : (end : RoundEnd) → (end ≡ round.Stale → ⊥) → answer_at end ≡ answer_by end

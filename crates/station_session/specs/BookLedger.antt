@@ -6,7 +6,7 @@ use Rattle.weather_book.specs.Book.{last_stamp_of, spare}
 use Rattle.dmpaft_pump.specs.declared.batch.TheConstants.{MOST_RECORDS}
 use Rattle.dmpaft_pump.specs.Ledger.{Ledger}
 use Rattle.disk_model.specs.Medium.{Medium}
-use Rattle.dmpaft_pump.proofs.Keeping.{count_join, count_kept}
+use Rattle.dmpaft_pump.proofs.HandedBatches.{count_join, count_kept}
 use Rattle.dmpaft_pump.specs.Keeper.{Handed, kept_all, join, count}
 use Rattle.station_session.specs.declared.book_keeper.BookKeeper.{BookKeeper}
 use Rattle.station_session.specs.Holding.{Holding, holding}

@@ -14,7 +14,7 @@ use Rattle.station_sim.specs.Joining.{and_then_some}
 use Rattle.station_sim.specs.Line.{Line, message_counted, flies, happens, hears, says_byte, sends_message}
 use Rattle.station_sim.specs.Talk.{ConsoleTalk, console_talk, hearing, line_step, waiting}
 use Rattle.station_sim.specs.UnseenTalk.{HasUnseen, IsAtItem, IsAtMessage, IsNextMessage, IsNextReply}
-use Rattle.station_sim.proofs.Seeing.{NamesReply, counted_names, first_is, first_stays, happens_names, here_or_later, hears_names, hears_none, hears_stays, none_named}
+use Rattle.station_sim.proofs.UnseenCounts.{NamesReply, counted_names, first_is, first_stays, happens_names, here_or_later, hears_names, hears_none, hears_stays, none_named}
 
 -- What an item of a talk makes of the first unseen delivery, so many of which are unseen in it.
 record Tells (At : Unseen → Type 0) (before after : Option Unseen) : Type 0 where

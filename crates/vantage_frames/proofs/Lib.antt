@@ -1,4 +1,4 @@
-pub mod Passing
+pub mod DifferentBytes
 pub mod Spans
 pub mod Lines
 pub mod Written

@@ -14,8 +14,8 @@ use Rattle.numerals.specs.Numeral.{number_in}
 use Rattle.vantage_frames.specs.Line.{IsLineOf, HasBehind, SaysPackets, SaysBytes, SaysPeriod}
 use Rattle.vantage_frames.specs.LineReading.{LineReadsAs, command_of, plain_command_of, numbered_command_of, packets_in, bytes_in, period_in, begins_with}
 use Rattle.numerals.specs.Then.{only_if}
-use Rattle.numerals.proofs.Passing.{passes}
-use Rattle.vantage_frames.proofs.Passing.{other_than, differs}
+use Rattle.numerals.proofs.PassedTests.{passes}
+use Rattle.vantage_frames.proofs.DifferentBytes.{other_than, differs}
 use Rattle.numerals.proofs.Digits.{number_in_writes, number_in-writes}
 use Rattle.vantage_frames.proofs.Spans.{bytes_in_spans, bytes_in-spelled}
 

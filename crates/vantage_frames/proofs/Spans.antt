@@ -12,7 +12,7 @@ use Rattle.numerals.specs.Numeral.{number_in, WritesNumber}
 use Rattle.vantage_frames.specs.Line.{SaysBytes}
 use Rattle.numerals.specs.Then.{only_if}
 use Rattle.vantage_frames.specs.LineReading.{bytes_in}
-use Rattle.numerals.proofs.Passing.{only_if_some, bind_some}
+use Rattle.numerals.proofs.PassedTests.{only_if_some, bind_some}
 use Rattle.numerals.proofs.Digits.{number_in_writes, number_in-writes}
 
 abbrev is_space : ℕ → Bool

@@ -12,13 +12,13 @@ use Rattle.daily_summary.specs.Summary.{rows_of_day, summary_of}
 use Rattle.weather_book.specs.declared.book.Book.{Book}
 use Rattle.weather_book.specs.Book.{BookStandsFor}
 use Rattle.packed_rows.specs.Days.{Ascend, days_of}
-use Rattle.weather_book.proofs.Standing.{some_rows}
+use Rattle.weather_book.proofs.RowsOfBook.{some_rows}
 use Rattle.weather_reports.specs.declared.month.Month.{Month}
 use Rattle.weather_reports.specs.Begun.{MonthGrows, MonthIsBegun, MonthIsInOrder, HasFewRows, begun_lines, months_after}
 use Rattle.weather_reports.specs.Line.{field_lines}
 use Rattle.weather_reports.specs.Months.{is_of_month, month_text, months_from}
 use Rattle.weather_reports.specs.Report.{month_lines, rows_of_days}
-use Rattle.weather_reports.proofs.Ascending.{later_number}
+use Rattle.weather_reports.proofs.AscendingDays.{later_number}
 use Rattle.weather_reports.proofs.MonthSpan.{month_span}
 
 -- its lines are those of its days

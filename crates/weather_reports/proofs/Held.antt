@@ -2,7 +2,7 @@
 use Rattle.std.proofs.Common.{ℕ, List, ◌++◌, ap, sym, ◌∙◌, subst, append_assoc}
 use Rattle.std.specs.declared.option.Option.{Option}
 use Rattle.causes.specs.Written.{Leaves, WritesPart}
-use Rattle.causes.proofs.Writing.{leaves_less, part_of_all, part_of_front}
+use Rattle.causes.proofs.WritesInTurn.{leaves_less, part_of_all, part_of_front}
 
 -- one more text is held back
 pub held_grows : (old now : Option (List ℕ)) (all held text rest : List ℕ) →

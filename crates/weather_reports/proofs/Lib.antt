@@ -6,6 +6,6 @@ pub mod Ends
 pub mod Pieces
 pub mod NextDay
 pub mod MonthSpan
-pub mod Ascending
+pub mod AscendingDays
 pub mod BegunMonths
-pub mod Recomputing
+pub mod RecomputedDays

@@ -5,7 +5,7 @@ use Rattle.std.specs.declared.option.Option.{Option}
 use Rattle.std.specs.Io.KnownBytes.{Appends}
 use Rattle.causes.specs.Lists.{IsFrontOf}
 use Rattle.causes.specs.Written.{Leaves, WritesPart}
-use Rattle.causes.proofs.Writing.{leaves_all, leaves_less, leaves_none, part_of_all, part_of_front}
+use Rattle.causes.proofs.WritesInTurn.{leaves_all, leaves_less, leaves_none, part_of_all, part_of_front}
 use Rattle.weather_reports.specs.Reported.{text_of_lines}
 use Rattle.weather_reports.proofs.Lines.{text_join}
 

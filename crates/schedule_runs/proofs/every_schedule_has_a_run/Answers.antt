@@ -1,4 +1,4 @@
-use Rattle.schedule_runs.proofs.Running.{run_law}
+use Rattle.schedule_runs.proofs.SomeRun.{run_law}
 use Rattle.schedule_runs.proofs.every_schedule_has_a_run.Goals as goal
 
 pub returns : goal.returns

@@ -6,17 +6,17 @@ use Rattle.weather_book.specs.Book.{len_of}
 use Rattle.packed_rows.specs.Rows.{RowsOf, rows_of, slot_total}
 use Rattle.weather_book.proofs.Pieces.{more_reads}
 use Rattle.weather_book.specs.Stands.{HasRows, StandsOn}
-use Rattle.weather_book.proofs.Standing.{to_read_stays}
+use Rattle.weather_book.proofs.RowsOfBook.{to_read_stays}
 use Rattle.archive_copy.specs.declared.end.CopyEnd.TheVariants.{FromDamaged, FromFault, NotPrefix, ToFault}
 use Rattle.archive_copy.specs.Adding.{HasSome, batch_count, next_rows, to_add}
 use Rattle.archive_copy.specs.Answers.{CanBeAddedTo, CanBeCopied}
 use Rattle.archive_copy.proofs.Ends.{adding_adds, adding_answers, adding_undamaged, adding_moves, done_count, from_answers, from_moves, no_from_fault, no_to_fault, to_answers, to_moves}
 use Rattle.archive_copy.specs.Calls.{is_from_fault, is_to_fault}
 use Rattle.archive_copy.proofs.Together.{calls_added, calls_looked, calls_none, calls_opening, reads_more, reads_recovery}
-use Rattle.weather_book.proofs.Standing.{slots_same}
+use Rattle.weather_book.proofs.RowsOfBook.{slots_same}
 use Rattle.archive_copy.proofs.Kept.{leaves_join}
 use Rattle.archive_copy.proofs.NextRows.{front_rest}
-use Rattle.archive_copy.proofs.Standing.{adds_none, can_be_read, crash_rows, leaves_stays, reads_rows, same_rows, same_some, stands_stays}
+use Rattle.archive_copy.proofs.BookAtRest.{adds_none, can_be_read, crash_rows, leaves_stays, reads_rows, same_rows, same_some, stands_stays}
 use Rattle.archive_copy.proofs.copying.copy.Goals as goal
 
 pub returns-in-Err-clause-answers : goal.returns-in-Err-clause-answers

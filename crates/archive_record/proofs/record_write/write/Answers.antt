@@ -2,7 +2,7 @@ use Rattle.std.proofs.Common.{◌≡◌, true, Some, is_some, slice_index, ◌�
 use Rattle.std.proofs.lemmas.Bool.{false≢true}
 use Rattle.archive_record.specs.Writing.{TellsRow}
 use Rattle.archive_record.proofs.Back.{told_can_all}
-use Rattle.archive_record.proofs.Holding.{can_hold_all-decides, can_tell-holds}
+use Rattle.archive_record.proofs.HeldValues.{can_hold_all-decides, can_tell-holds}
 use Rattle.archive_record.proofs.Rows.{reads_this_row, row_parts}
 use Rattle.archive_record.proofs.Written.{tells_made, tells_read, read_tells, tells_once}
 use Rattle.archive_record.proofs.record_write.write.Goals as goal

@@ -2,7 +2,7 @@ use Rattle.std.proofs.Common.{List, ℕ, ap, sym, ◌∙◌, ◌++◌, [], ◌�
 use Rattle.console_tasks.specs.Exchange.{ack_frame}
 use Rattle.station_base.specs.ClockTime.{clock_bytes}
 use Rattle.commands.specs.TaskText.{clock_line}
-use Rattle.commands.proofs.Answering.{clock_shown}
+use Rattle.commands.proofs.ShownAnswers.{clock_shown}
 use Rattle.commands.proofs.asking.read_clock.Goals as goal
 
 pub returns : goal.returns

@@ -1,7 +1,7 @@
 use Rattle.std.proofs.Common.{rules, List, ℕ, ap, sym, ◌∙◌, ◌++◌, [], ◌∷◌}
 use Rattle.console_tasks.specs.Exchange.{ack_frame}
 use Rattle.run_output.specs.MemoryText.{bytes_line}
-use Rattle.commands.proofs.Answering.{as_many, memory_shown}
+use Rattle.commands.proofs.ShownAnswers.{as_many, memory_shown}
 use Rattle.commands.proofs.asking.read_memory.Goals as goal
 
 pub returns : goal.returns

@@ -5,7 +5,7 @@ use Rattle.loop_packet.specs.Reading.{packet_bytes}
 use Rattle.loop_packet.specs.declared.packet.LoopPacket.{LoopPacket}
 use Rattle.vantage_frames.specs.Ack.{ack}
 use Rattle.commands.specs.TaskText.{packet_line}
-use Rattle.commands.proofs.Answering.{packets_shown}
+use Rattle.commands.proofs.ShownAnswers.{packets_shown}
 use Rattle.commands.proofs.asking.take_packets.Goals as goal
 
 pub returns : goal.returns

@@ -1,6 +1,6 @@
 use Rattle.std.proofs.Common.{refl, rules, ◌∙◌}
 use Rattle.std.specs.Slice.Iter.{chunks_rest}
-use Rattle.commands.proofs.Taking.{stands-closed, stands-joined, stands-written, streams-bad, streams-fault, streams-last, streams-none}
+use Rattle.commands.proofs.TakenEntries.{stands-closed, stands-joined, stands-written, streams-bad, streams-fault, streams-last, streams-none}
 use Rattle.commands.proofs.entries.print_rows.Goals as goal
 use Rattle.commands.proofs.entries.print_rows.Goals.{in-Joined, in-Closed+in_default}
 

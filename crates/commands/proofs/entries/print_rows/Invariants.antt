@@ -2,7 +2,7 @@ use Rattle.std.proofs.Common.{◌≡◌, ◌+◌, ◌≤◌}
 use Rattle.std.specs.Slice.Iter.{chunks_rest, chunks_size}
 use Rattle.arrayvec.specs.ArrayVec.{array_vec_len}
 use Rattle.run_output.specs.declared.text.TheConstants.{PAGE_ROOM, ROOM}
-use Rattle.commands.proofs.Taking.{StandsAt}
+use Rattle.commands.proofs.TakenEntries.{StandsAt}
 use Rattle.commands.proofs.entries.print_rows.Given as goal
 
 abbrev pub invariant-loop-entry : goal.invariant-loop-entry

@@ -1,5 +1,5 @@
 use Rattle.std.proofs.Common.{arith, refl, rules}
-use Rattle.run_output.proofs.Printing.{left_streams, part_streams, pending_shrinks}
+use Rattle.run_output.proofs.PrintedPieces.{left_streams, part_streams, pending_shrinks}
 use Rattle.commands.proofs.Listings.{left-good, left-bad, left-short, left-end}
 use Rattle.commands.proofs.pages.print_pages.Goals as goal
 

@@ -1,5 +1,5 @@
 use Rattle.std.proofs.Common.{refl, sym, ◌∙◌, rules}
-use Rattle.serial_link.proofs.Joining.{talks_as}
+use Rattle.serial_link.proofs.JoinedCalls.{talks_as}
 use Rattle.run_output.proofs.Behind.{ended, went_on}
 use Rattle.commands.proofs.queries.answer_requests.Goals as goal
 

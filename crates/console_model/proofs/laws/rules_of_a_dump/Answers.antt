@@ -1,4 +1,4 @@
-use Rattle.console_model.proofs.Dumping.{sends_next, sends_again, stopped, begins_line}
+use Rattle.console_model.proofs.DumpBytes.{sends_next, sends_again, stopped, begins_line}
 use Rattle.console_model.proofs.laws.rules_of_a_dump.Goals as goal
 
 pub returns : goal.returns

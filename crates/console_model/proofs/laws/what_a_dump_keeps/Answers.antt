@@ -1,4 +1,4 @@
-use Rattle.console_model.proofs.Lasting.{hear_lasts, tick_lasts, due_lasts}
+use Rattle.console_model.proofs.KeptByEvents.{hear_lasts, tick_lasts, due_lasts}
 use Rattle.console_model.proofs.laws.what_a_dump_keeps.Goals as goal
 
 pub returns : goal.returns

@@ -1,4 +1,4 @@
-use Rattle.console_model.proofs.Lasting.{tick_keeps, due_adds}
+use Rattle.console_model.proofs.KeptByEvents.{tick_keeps, due_adds}
 use Rattle.console_model.proofs.Plainly.{hear_keeps}
 use Rattle.console_model.proofs.laws.what_keeps_the_records.Goals as goal
 

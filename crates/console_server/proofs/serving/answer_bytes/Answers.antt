@@ -1,7 +1,7 @@
 use Rattle.std.proofs.Common.{◌+◌, List, [], ◌++◌, map, take, drop, get_or, sym, ◌∙◌, subst, refl, arith, rules}
 use Rattle.serial_link.specs.declared.talk.TalkItem.{TalkItem}
 use Rattle.serial_link.specs.declared.talk.TalkItem.TheVariants.{Heard}
-use Rattle.serial_link.proofs.Growing.{adds_none, adds_joins}
+use Rattle.serial_link.proofs.GrownTalk.{adds_none, adds_joins}
 use Rattle.console_server.specs.Serving.{AnswersAll, IsAnsweredInPart}
 use Rattle.console_server.specs.declared.serving.ServeEnd.TheVariants as end
 use Rattle.console_server.proofs.Turns.{answers_none, answers_more, answers_part, hears_steps, heard_more, heard_whole}

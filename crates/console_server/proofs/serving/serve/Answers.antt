@@ -1,5 +1,5 @@
 use Rattle.std.proofs.Common.{◌++◌, [], refl, ◌∙◌, arith, rules}
-use Rattle.serial_link.proofs.Growing.{adds_none, adds_joins}
+use Rattle.serial_link.proofs.GrownTalk.{adds_none, adds_joins}
 use Rattle.console_server.proofs.Turns.{serves_none, serves_more, serves_cut}
 use Rattle.console_server.proofs.serving.serve.Goals as goal
 

@@ -1,6 +1,6 @@
 use Rattle.std.proofs.Common.{◌≡◌, [], ◌∷◌, ◌++◌, length, map, take, refl, ap, ◌∙◌, arith, rules, length-take-le}
 use Rattle.serial_link.specs.declared.talk.TalkItem.TheVariants.{Heard, Quiet}
-use Rattle.serial_link.proofs.Growing.{adds_joins, heard_waits}
+use Rattle.serial_link.proofs.GrownTalk.{adds_joins, heard_waits}
 use Rattle.wake_retry.specs.Parts.{heard}
 use Rattle.console_server.proofs.Talks.{heard_items, heard_bytes, heard_said}
 use Rattle.console_server.proofs.Turns.{turn_by}

@@ -1,13 +1,13 @@
 use Rattle.std.proofs.Common.{◌≡◌, length, take, refl, sym, subst, arith, length-take, Err}
 use Rattle.wake_retry.specs.Parts.{FallsShort, IsCutOff, answer_waits}
 use Rattle.wake_retry.specs.Asking.{Answered}
-use Rattle.serial_link.proofs.Joining.{talks_as}
+use Rattle.serial_link.proofs.JoinedCalls.{talks_as}
 use Rattle.console_tasks.specs.declared.end.TaskEnd.TheVariants as task_end
 use Rattle.console_tasks.specs.Exchange.{is_refusal}
 use Rattle.console_tasks.specs.Parts.{ExchangeReplies}
 use Rattle.console_tasks.proofs.Troubles.{IsTrouble, short_trouble, talks_shown, want_no_fault}
 use Rattle.console_tasks.proofs.Onward.{asking_cut}
-use Rattle.console_tasks.proofs.Replying.{full_replies, judged_trouble, short_replies}
+use Rattle.console_tasks.proofs.ExchangeReplies.{full_replies, judged_trouble, short_replies}
 use Rattle.console_tasks.proofs.exchange.exchange.Goals as goal
 
 pub returns-in-Full : goal.returns-in-Full

@@ -2,12 +2,12 @@ use Rattle.std.proofs.Common.{◌≡◌, ◌+◌, ◌-◌, ◌≤◌, ℕ, true,
 use Rattle.std.proofs.Common.{refl, arith, rules, Ok, Err}
 use Rattle.std.specs.Prelude.{IsTrue}
 use Rattle.crc_ccitt.specs.Check.{is_good, sealed}
-use Rattle.serial_link.proofs.Joining.{talks_as}
+use Rattle.serial_link.proofs.JoinedCalls.{talks_as}
 use Rattle.console_tasks.specs.declared.end.TaskEnd.TheVariants as task_end
 use Rattle.console_tasks.specs.Parts.{FrameReplies}
 use Rattle.console_tasks.proofs.Troubles.{talks_shown}
-use Rattle.console_tasks.proofs.Finishing.{same_end}
-use Rattle.console_tasks.proofs.Replying.{replies_frame, bad_frame, sealed_answer, rest_is, seal_size}
+use Rattle.console_tasks.proofs.FinishedTasks.{same_end}
+use Rattle.console_tasks.proofs.ExchangeReplies.{replies_frame, bad_frame, sealed_answer, rest_is, seal_size}
 use Rattle.console_tasks.proofs.frame.ask_frame.Goals as goal
 
 pub returns-in_err-exchange : goal.returns-in_err-exchange

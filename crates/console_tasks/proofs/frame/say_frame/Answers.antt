@@ -1,8 +1,8 @@
 use Rattle.std.proofs.Common.{◌≡◌, List, ℕ, length, subst, arith, rules}
 use Rattle.crc_ccitt.specs.Check.{sealed}
-use Rattle.serial_link.proofs.Joining.{talks_as}
+use Rattle.serial_link.proofs.JoinedCalls.{talks_as}
 use Rattle.console_tasks.specs.Parts.{ExchangeReplies, Commands}
-use Rattle.console_tasks.proofs.Replying.{replies_command}
+use Rattle.console_tasks.proofs.ExchangeReplies.{replies_command}
 use Rattle.console_tasks.proofs.frame.say_frame.Goals as goal
 
 pub returns : goal.returns

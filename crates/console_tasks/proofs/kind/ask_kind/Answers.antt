@@ -1,14 +1,14 @@
 use Rattle.std.proofs.Common.{◌≡◌, ℕ, false, List, [], ◌∷◌, length, refl, ap, subst, arith, rules, Ok, Err}
 use Rattle.std.specs.Prelude.{slice_index_or}
 use Rattle.vantage_frames.specs.declared.command.Command.TheVariants.{Kind}
-use Rattle.serial_link.proofs.Joining.{talks_as}
+use Rattle.serial_link.proofs.JoinedCalls.{talks_as}
 use Rattle.console_tasks.specs.declared.end.TaskEnd.TheVariants as task_end
 use Rattle.console_tasks.specs.Exchange.{answered_exchange, is_refusal}
 use Rattle.console_tasks.specs.TaskTalk.{Exchanges, Fails}
 use Rattle.console_tasks.specs.Tasks.{said_line, asking_kind}
 use Rattle.console_tasks.specs.Parts.{TaskCompletes}
-use Rattle.console_tasks.proofs.Finishing.{task_err, task_done, last_done}
-use Rattle.console_tasks.proofs.Replying.{by_six}
+use Rattle.console_tasks.proofs.FinishedTasks.{task_err, task_done, last_done}
+use Rattle.console_tasks.proofs.ExchangeReplies.{by_six}
 use Rattle.console_tasks.proofs.kind.ask_kind.Goals as goal
 
 pair : (answer : List ℕ) → length answer ≡ 2 → is_refusal answer ≡ false → answer ≡ 6 ∷ slice_index_or answer 1 0 ∷ []

@@ -1,7 +1,7 @@
 use Rattle.std.proofs.Common.{ℕ, [], ◌∷◌}
 use Rattle.console_tasks.specs.TaskTalk.{TaskTalk}
 use Rattle.console_tasks.specs.Tasks.{asking_kind}
-use Rattle.console_tasks.proofs.Finishing.{answer_done, answer_err}
+use Rattle.console_tasks.proofs.FinishedTasks.{answer_done, answer_err}
 use Rattle.console_tasks.proofs.kind.station_kind.Goals as goal
 
 pub returns-in-Ok-clause-task : goal.returns-in-Ok-clause-task

@@ -1,6 +1,6 @@
 use Rattle.std.proofs.Common.{◌≡◌, ◌-◌, ℕ, List, length, subst, arith, rules}
 use Rattle.vantage_frames.specs.declared.command.Command.TheVariants.{EepromRead}
-use Rattle.serial_link.proofs.Joining.{talks_as}
+use Rattle.serial_link.proofs.JoinedCalls.{talks_as}
 use Rattle.console_tasks.specs.Tasks.{said_line}
 use Rattle.console_tasks.specs.Parts.{FrameReplies}
 use Rattle.console_tasks.proofs.memory.ask_bytes.Goals as goal

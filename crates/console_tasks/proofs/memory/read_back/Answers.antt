@@ -3,10 +3,10 @@ use Rattle.console_tasks.specs.Exchange.{ack_frame}
 use Rattle.console_tasks.specs.TaskTalk.{Exchanges, Fails}
 use Rattle.console_tasks.specs.Tasks.{reading_back}
 use Rattle.console_tasks.specs.Parts.{TaskCompletes}
-use Rattle.serial_link.proofs.Joining.{talks_as}
+use Rattle.serial_link.proofs.JoinedCalls.{talks_as}
 use Rattle.console_tasks.proofs.Troubles.{talks_shown}
-use Rattle.console_tasks.proofs.Finishing.{fails_as}
-use Rattle.console_tasks.proofs.Reading.{back_finishes, back_fails, compared_trouble}
+use Rattle.console_tasks.proofs.FinishedTasks.{fails_as}
+use Rattle.console_tasks.proofs.MemoryAndClock.{back_finishes, back_fails, compared_trouble}
 use Rattle.console_tasks.proofs.memory.read_back.Goals as goal
 
 pub returns-in_err-ask_bytes : goal.returns-in_err-ask_bytes

@@ -1,11 +1,11 @@
 use Rattle.std.proofs.Common.{◌≡◌, ◌+◌, ◌-◌, [], ◌∷◌, length, take, drop, refl, ◌∙◌, ap, arith, rules, Ok, Err}
-use Rattle.serial_link.proofs.Joining.{talks_as}
+use Rattle.serial_link.proofs.JoinedCalls.{talks_as}
 use Rattle.console_tasks.specs.Exchange.{ack_frame}
 use Rattle.console_tasks.specs.TaskTalk.{Exchanges, Fails}
 use Rattle.console_tasks.specs.Tasks.{reading_memory}
 use Rattle.console_tasks.specs.Parts.{TaskCompletes}
-use Rattle.console_tasks.proofs.Finishing.{task_err, task_done}
-use Rattle.console_tasks.proofs.Reading.{read_done, read_fails}
+use Rattle.console_tasks.proofs.FinishedTasks.{task_err, task_done}
+use Rattle.console_tasks.proofs.MemoryAndClock.{read_done, read_fails}
 use Rattle.console_tasks.proofs.memory.read_bytes.Goals as goal
 
 pub returns-in_err-ask_bytes-clause-task : goal.returns-in_err-ask_bytes-clause-task

@@ -2,7 +2,7 @@ use Rattle.std.proofs.Common.{[], ◌∷◌, length}
 use Rattle.console_tasks.specs.Exchange.{ack_frame}
 use Rattle.console_tasks.specs.Tasks.{reading_memory}
 use Rattle.console_tasks.specs.TaskTalk.{TaskTalk}
-use Rattle.console_tasks.proofs.Finishing.{answer_done, answer_err}
+use Rattle.console_tasks.proofs.FinishedTasks.{answer_done, answer_err}
 use Rattle.console_tasks.proofs.memory.read_eeprom.Goals as goal
 
 pub returns-in-Ok-clause-task : goal.returns-in-Ok-clause-task

@@ -4,7 +4,7 @@ use Rattle.vantage_frames.specs.declared.command.Command.TheVariants.{EepromWrit
 use Rattle.vantage_frames.specs.Ack.{ack}
 use Rattle.console_tasks.specs.Exchange.{command, ack_frame}
 use Rattle.console_tasks.specs.Tasks.{said_line, reading_back, writing_memory}
-use Rattle.console_tasks.proofs.Finishing.{task_err, task_tail, ends_here, command_finishes, command_fails}
+use Rattle.console_tasks.proofs.FinishedTasks.{task_err, task_tail, ends_here, command_finishes, command_fails}
 use Rattle.console_tasks.proofs.memory.write_bytes.Goals as goal
 
 pub returns-in_err-say_command : goal.returns-in_err-say_command

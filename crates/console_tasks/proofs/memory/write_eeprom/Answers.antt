@@ -3,7 +3,7 @@ use Rattle.vantage_frames.specs.Ack.{ack}
 use Rattle.console_tasks.specs.Exchange.{ack_frame}
 use Rattle.console_tasks.specs.Tasks.{writing_memory}
 use Rattle.console_tasks.specs.TaskTalk.{TaskTalk}
-use Rattle.console_tasks.proofs.Finishing.{answer_done, answer_err}
+use Rattle.console_tasks.proofs.FinishedTasks.{answer_done, answer_err}
 use Rattle.console_tasks.proofs.memory.write_eeprom.Goals as goal
 
 pub returns-in-Ok : goal.returns-in-Ok

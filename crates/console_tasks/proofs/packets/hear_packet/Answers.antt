@@ -1,10 +1,10 @@
 use Rattle.std.proofs.Common.{◌≡◌, ℕ, List, length, refl, ◌∙◌, ap, subst, arith, length-take, Err}
 use Rattle.wake_retry.specs.Parts.{FallsShort, IsCutOff}
-use Rattle.serial_link.proofs.Joining.{talks_as}
+use Rattle.serial_link.proofs.JoinedCalls.{talks_as}
 use Rattle.console_tasks.specs.declared.end.TaskEnd.TheVariants as task_end
 use Rattle.console_tasks.specs.Parts.{HearsPacket}
 use Rattle.console_tasks.proofs.Troubles.{talks_shown, want_no_fault}
-use Rattle.console_tasks.proofs.Packing.{packet_hears, packet_short, packet_cut, read_trouble}
+use Rattle.console_tasks.proofs.HeardPackets.{packet_hears, packet_short, packet_cut, read_trouble}
 use Rattle.console_tasks.proofs.packets.hear_packet.Goals as goal
 
 pub returns-in-Full : goal.returns-in-Full

@@ -2,7 +2,7 @@ use Rattle.std.proofs.Common.{◌≡◌, ◌-◌, ◌+◌, ◌≤◌, ℕ, List,
 use Rattle.serial_link.specs.declared.talk.TalkItem.{TalkItem}
 use Rattle.loop_packet.specs.declared.packet.LoopPacket.{LoopPacket}
 use Rattle.loop_packet.specs.Reading.{packet_bytes}
-use Rattle.serial_link.proofs.Growing.{adds_joins}
+use Rattle.serial_link.proofs.GrownTalk.{adds_joins}
 use Rattle.vantage_frames.specs.declared.command.Command.TheVariants.{LoopFor}
 use Rattle.console_tasks.specs.declared.end.TaskEnd.TheVariants as task_end
 use Rattle.vantage_frames.specs.Ack.{ack}
@@ -10,10 +10,10 @@ use Rattle.console_tasks.specs.Exchange.{Exchange, command}
 use Rattle.console_tasks.specs.TaskTalk.{Exchanges, TaskTalk, Fails}
 use Rattle.console_tasks.specs.Tasks.{said_line, looping, packets}
 use Rattle.console_tasks.proofs.Onward.{On, on_then, on_end, start_on, fails_on}
-use Rattle.serial_link.proofs.Joining.{talks_as, cause_since}
+use Rattle.serial_link.proofs.JoinedCalls.{talks_as, cause_since}
 use Rattle.console_tasks.proofs.Troubles.{no_error}
-use Rattle.console_tasks.proofs.Finishing.{task_err, fails_as, command_on}
-use Rattle.console_tasks.proofs.Packing.{packet_on, packets_left, map_one}
+use Rattle.console_tasks.proofs.FinishedTasks.{task_err, fails_as, command_on}
+use Rattle.console_tasks.proofs.HeardPackets.{packet_on, packets_left, map_one}
 use Rattle.console_tasks.proofs.packets.hear_packets.Goals as goal
 
 -- no packet is left

@@ -3,7 +3,7 @@ use Rattle.loop_packet.specs.Reading.{packet_bytes}
 use Rattle.vantage_frames.specs.Ack.{ack}
 use Rattle.console_tasks.specs.Tasks.{looping}
 use Rattle.console_tasks.specs.TaskTalk.{TaskTalk}
-use Rattle.console_tasks.proofs.Finishing.{answer_done, answer_err}
+use Rattle.console_tasks.proofs.FinishedTasks.{answer_done, answer_err}
 use Rattle.console_tasks.proofs.packets.loop_packets.Goals as goal
 
 pub returns-in-Ok-clause-task : goal.returns-in-Ok-clause-task

@@ -1,11 +1,11 @@
 use Rattle.std.proofs.Common.{◌≡◌, [], ◌∷◌, refl, subst, rules, Err}
 use Rattle.vantage_frames.specs.declared.command.Command.TheVariants.{SetPeriod}
-use Rattle.serial_link.proofs.Joining.{talks_as}
+use Rattle.serial_link.proofs.JoinedCalls.{talks_as}
 use Rattle.console_tasks.specs.Exchange.{command, ack_frame}
 use Rattle.console_tasks.specs.TaskTalk.{Exchanges}
 use Rattle.console_tasks.specs.Parts.{TaskCompletes}
 use Rattle.console_tasks.specs.Tasks.{said_line, reading_back, setting_period}
-use Rattle.console_tasks.proofs.Finishing.{task_err, task_tail, ends_here, command_finishes}
+use Rattle.console_tasks.proofs.FinishedTasks.{task_err, task_tail, ends_here, command_finishes}
 use Rattle.console_tasks.proofs.period.say_period.Goals as goal
 
 pub returns-in_err-say_command : goal.returns-in_err-say_command

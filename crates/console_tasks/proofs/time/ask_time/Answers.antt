@@ -2,15 +2,15 @@ use Rattle.std.proofs.Common.{◌≡◌, ℕ, List, [], ◌∷◌, length, take,
 use Rattle.vantage_frames.specs.declared.command.Command.TheVariants.{TimeGet}
 use Rattle.station_base.specs.declared.clock.ClockTime.{ClockTime}
 use Rattle.station_base.specs.ClockTime.{clock_bytes}
-use Rattle.serial_link.proofs.Joining.{talks_as}
+use Rattle.serial_link.proofs.JoinedCalls.{talks_as}
 use Rattle.console_tasks.specs.Exchange.{ack_frame}
 use Rattle.console_tasks.specs.Clock.{judge_clock}
 use Rattle.console_tasks.specs.TaskTalk.{Exchanges, Fails}
 use Rattle.console_tasks.specs.Tasks.{said_line, asking_time}
 use Rattle.console_tasks.specs.Parts.{TaskCompletes, FrameReplies}
 use Rattle.console_tasks.proofs.Troubles.{talks_shown}
-use Rattle.console_tasks.proofs.Finishing.{task_err, task_tail}
-use Rattle.console_tasks.proofs.Reading.{clock_finishes, clock_trouble}
+use Rattle.console_tasks.proofs.FinishedTasks.{task_err, task_tail}
+use Rattle.console_tasks.proofs.MemoryAndClock.{clock_finishes, clock_trouble}
 use Rattle.console_tasks.proofs.time.ask_time.Goals as goal
 
 pub returns-in_err-ask_frame-clause-task : goal.returns-in_err-ask_frame-clause-task

@@ -4,7 +4,7 @@ use Rattle.station_base.specs.ClockTime.{clock_bytes}
 use Rattle.console_tasks.specs.Exchange.{ack_frame}
 use Rattle.console_tasks.specs.Tasks.{asking_time}
 use Rattle.console_tasks.specs.TaskTalk.{TaskTalk}
-use Rattle.console_tasks.proofs.Finishing.{answer_done, answer_err}
+use Rattle.console_tasks.proofs.FinishedTasks.{answer_done, answer_err}
 use Rattle.console_tasks.proofs.time.get_time.Goals as goal
 
 pub returns-in-Ok-clause-task : goal.returns-in-Ok-clause-task

@@ -2,13 +2,13 @@ use Rattle.std.proofs.Common.{◌≡◌, ℕ, List, [], ◌∷◌, refl, subst, 
 use Rattle.crc_ccitt.specs.Check.{sealed}
 use Rattle.vantage_frames.specs.declared.command.Command.TheVariants.{TimeSet}
 use Rattle.station_base.specs.ClockTime.{clock_bytes}
-use Rattle.serial_link.proofs.Joining.{talks_as}
+use Rattle.serial_link.proofs.JoinedCalls.{talks_as}
 use Rattle.vantage_frames.specs.Ack.{ack}
 use Rattle.console_tasks.specs.Exchange.{command}
 use Rattle.console_tasks.specs.TaskTalk.{Exchanges}
 use Rattle.console_tasks.specs.Tasks.{said_line, setting_time}
 use Rattle.console_tasks.specs.Parts.{Commands, TaskCompletes}
-use Rattle.console_tasks.proofs.Finishing.{task_err, task_tail, ends_here, command_finishes, last_command}
+use Rattle.console_tasks.proofs.FinishedTasks.{task_err, task_tail, ends_here, command_finishes, last_command}
 use Rattle.console_tasks.proofs.time.say_time.Goals as goal
 
 pub returns-in_err-say_command : goal.returns-in_err-say_command

@@ -2,7 +2,7 @@ use Rattle.std.proofs.Common.{[], ◌∷◌}
 use Rattle.vantage_frames.specs.Ack.{ack}
 use Rattle.console_tasks.specs.Tasks.{setting_time}
 use Rattle.console_tasks.specs.TaskTalk.{TaskTalk}
-use Rattle.console_tasks.proofs.Finishing.{answer_done, answer_err}
+use Rattle.console_tasks.proofs.FinishedTasks.{answer_done, answer_err}
 use Rattle.console_tasks.proofs.time.set_time.Goals as goal
 
 pub returns-in-Ok : goal.returns-in-Ok

@@ -3,7 +3,7 @@ use Rattle.std.specs.Prelude.{unsigned_abs, FitsSigned, ◌*ℤ◌}
 use Rattle.std.specs.Int.{w32, w64}
 use Rattle.std.proofs.lemmas.Int.{to_z-of_z, fits_signed_from_abs}
 use Rattle.station_base.proofs.Periods.{period_bound}
-use Rattle.daily_summary.proofs.Summing.{near, near_times, fits_below, same_32, least_period}
+use Rattle.daily_summary.proofs.SumBounds.{near, near_times, fits_below, same_32, least_period}
 use Rattle.daily_summary.proofs.field_sum.sum_of_row.Goals as goal
 
 pub returns-clause-bounds : goal.returns-clause-bounds

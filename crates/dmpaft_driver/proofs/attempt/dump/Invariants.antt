@@ -1,7 +1,7 @@
 use Rattle.std.proofs.Common.{◌≤◌}
 use Rattle.dmpaft_pump.specs.Shown.{steps_left}
 use Rattle.dmpaft_driver.specs.Turning.{dump_desk}
-use Rattle.dmpaft_driver.proofs.Ending.{DumpSoFar}
+use Rattle.dmpaft_driver.proofs.DumpEnds.{DumpSoFar}
 use Rattle.dmpaft_driver.proofs.attempt.dump.Given as goal
 
 -- the dump is under way, and no count fell

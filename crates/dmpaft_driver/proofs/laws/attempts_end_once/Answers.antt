@@ -1,5 +1,5 @@
 use Rattle.dmpaft_driver.proofs.HeardPages.{taken_were_heard}
-use Rattle.dmpaft_driver.proofs.Acknowledging.{one_attempt, one_front, acknowledged_are_kept, taken_are_acknowledged}
+use Rattle.dmpaft_driver.proofs.AcknowledgedPages.{one_attempt, one_front, acknowledged_are_kept, taken_are_acknowledged}
 use Rattle.dmpaft_driver.proofs.laws.attempts_end_once.Goals as goal
 
 pub returns-clause-whole : goal.returns-clause-whole

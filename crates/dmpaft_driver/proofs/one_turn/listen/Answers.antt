@@ -1,7 +1,7 @@
 use Rattle.std.proofs.Common.{take, map, refl, inl, inr, arith}
 use Rattle.std.proofs.lemmas.List.{length-take-le}
 use Rattle.serial_link.specs.declared.talk.TalkItem.TheVariants.{Heard}
-use Rattle.dmpaft_driver.proofs.Cutting.{some_words}
+use Rattle.dmpaft_driver.proofs.CutTurns.{some_words}
 use Rattle.dmpaft_driver.proofs.one_turn.listen.Goals as goal
 
 pub returns-in-Got-clause-hears : goal.returns-in-Got-clause-hears

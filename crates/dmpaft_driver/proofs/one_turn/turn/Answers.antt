@@ -3,12 +3,12 @@ use Rattle.serial_link.specs.declared.talk.TalkItem.{TalkItem}
 use Rattle.dmpaft_pump.specs.Shown.{PumpShows, said_at}
 use Rattle.dmpaft_pump.specs.Pump.{pump_from}
 use Rattle.std.proofs.Common.{◌≡◌, ℕ, ◌<◌, [], ◌∷◌, List, length, sym, ◌∙◌, ap, subst, refl, inl, inr, arith}
-use Rattle.serial_link.proofs.Growing.{adds_none}
+use Rattle.serial_link.proofs.GrownTalk.{adds_none}
 use Rattle.dmpaft_pump.specs.Keeper.{Handed, one_batch, count, last_kept}
 use Rattle.dmpaft_pump.specs.Pump.{AttemptState}
 use Rattle.dmpaft_driver.specs.Standing.{gives}
-use Rattle.dmpaft_driver.proofs.Cutting.{some_words, stays_saying, says_saying, listened, keeps_same, last_same, not_keeping_said, not_keeping_heard}
-use Rattle.dmpaft_pump.proofs.Keeping.{one_size, one_some}
+use Rattle.dmpaft_driver.proofs.CutTurns.{some_words, stays_saying, says_saying, listened, keeps_same, last_same, not_keeping_said, not_keeping_heard}
+use Rattle.dmpaft_pump.proofs.HandedBatches.{one_size, one_some}
 use Rattle.dmpaft_driver.proofs.one_turn.turn.Goals as goal
 
 pub returns-in-Failed-clause-turns : goal.returns-in-Failed-clause-turns

@@ -5,7 +5,7 @@ use Rattle.dmpaft_pump.specs.Pump.{Settling, begun, pump_from}
 use Rattle.dmpaft_pump.specs.Shown.{no_tally}
 use Rattle.dmpaft_driver.specs.Trial.{TalkIsTried}
 use Rattle.dmpaft_driver.specs.Trying.{TrialStopsAt, later}
-use Rattle.dmpaft_driver.proofs.Dumping.{shown_no_astray}
+use Rattle.dmpaft_driver.proofs.DumpTurns.{shown_no_astray}
 use Rattle.dmpaft_driver.proofs.Trials.{tried, tries_on, drop_front}
 use Rattle.dmpaft_driver.proofs.trying.trial.Goals as goal
 

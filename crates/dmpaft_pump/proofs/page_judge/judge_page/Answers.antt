@@ -1,6 +1,6 @@
 use Rattle.std.proofs.Common.{◌≡◌, ℕ, ◌-◌, ◌<◌, ◌%◌, List, sym, ◌∙◌, ap, arith}
 use Rattle.std.specs.Prelude.{slice_index}
-use Rattle.dmpaft_pump.proofs.Judging.{is_for, not_for, before, not_before, again, ahead, no_page, not_checked}
+use Rattle.dmpaft_pump.proofs.PageJudgements.{is_for, not_for, before, not_before, again, ahead, no_page, not_checked}
 use Rattle.dmpaft_pump.proofs.page_judge.judge_page.Goals as goal
 use Rattle.dmpaft_pump.proofs.page_judge.judge_page.Goals.{else-k-gt0-via-then-k-gt0+else-sequence-sequence_of-2, else-k-gt0-via-else-k-gt0}
 

@@ -1,6 +1,6 @@
 use Rattle.std.proofs.Common.{◌≡◌, ◌+◌, ◌-◌, ◌*◌, ℕ, length, drop, refl, sym, ◌∙◌, ap, arith, get_or}
 use Rattle.gated_log.specs.Log.{breaks, batch_size}
-use Rattle.gated_log.proofs.Looking.{gate_alone, gate_and_more}
+use Rattle.gated_log.proofs.LogLooks.{gate_alone, gate_and_more}
 use Rattle.gated_log.proofs.Walks.{gate_read, size_read, short_breaks, walk_more}
 use Rattle.gated_log.proofs.walk.batch_at.Goals as goal
 

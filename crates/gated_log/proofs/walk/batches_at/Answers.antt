@@ -2,7 +2,7 @@ use Rattle.std.proofs.Common.{subst}
 use Rattle.gated_log.specs.Calls.{GateRead}
 use Rattle.gated_log.specs.Walk.{find_failed}
 use Rattle.gated_log.specs.declared.walk.Found.{Found}
-use Rattle.gated_log.proofs.Looking.{gate_look, looked_joins}
+use Rattle.gated_log.proofs.LogLooks.{gate_look, looked_joins}
 use Rattle.gated_log.proofs.walk.batches_at.Goals as goal
 
 pub returns-clause-went : goal.returns-clause-went

@@ -1,5 +1,5 @@
 use Rattle.line_laws.proofs.Unharmed.{wake_law}
-use Rattle.line_laws.proofs.Waking.{wake_no_flood}
+use Rattle.line_laws.proofs.WakeLaws.{wake_no_flood}
 use Rattle.line_laws.proofs.laws.a_wake_without_harm.Goals as goal
 
 pub returns-clause-awake : goal.returns-clause-awake

@@ -2,7 +2,7 @@ use Rattle.std.proofs.Common.{List, Option, ℤ, ap, ◌∙◌, rules}
 use Rattle.archive_record.specs.Table.{places}
 use Rattle.archive_record.specs.Writing.{can_hold_all}
 use Rattle.draws.specs.Draws.{drawn, next_draw}
-use Rattle.made_run.proofs.Holding.{due_held}
+use Rattle.made_run.proofs.DrawnValues.{due_held}
 use Rattle.made_run.proofs.record.drawn_record.Goals as goal
 
 pub unwrap-requires : goal.unwrap-requires

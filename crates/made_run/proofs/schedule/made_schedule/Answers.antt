@@ -5,7 +5,7 @@ use Rattle.schedule_file.specs.declared.schedule.step.Step.TheVariants as code
 use Rattle.schedule_file.specs.Steps.{ScheduleStep, step_seen, steps_seen}
 use Rattle.draws.specs.Draws.{next_draw}
 use Rattle.made_run.specs.Made.{after_kind, after_rounds, is_round, kind_drawn, made_steps, round_of, rounds_behind, steps_from}
-use Rattle.made_run.proofs.Falling.{first_due_number}
+use Rattle.made_run.proofs.MadeSchedules.{first_due_number}
 use Rattle.made_run.proofs.Stepwise.{due_seen, record_made, round_made}
 use Rattle.made_run.proofs.schedule.made_schedule.Goals as goal
 use Rattle.made_run.proofs.schedule.made_schedule.Goals.{then-is_round+in_ok-drawn_round+in_ok-push-2, else-is_round}

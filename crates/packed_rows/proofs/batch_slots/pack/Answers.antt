@@ -11,7 +11,7 @@ use Rattle.station_base.specs.FieldSet.{AreMissing}
 use Rattle.station_base.specs.RowLine.{IsPrintable}
 use Rattle.station_base.specs.declared.row.Row.{Row}
 use Rattle.packed_rows.specs.Packed.{joined_slots, AreReadBack}
-use Rattle.packed_rows.proofs.Packing.{packed_at, read_back_at, rises_at, rises_on, front_at}
+use Rattle.packed_rows.proofs.PackedBatches.{packed_at, read_back_at, rises_at, rises_on, front_at}
 use Rattle.packed_rows.proofs.batch_slots.pack.Goals as goal
 
 pub push_row-requires-clause-room : goal.push_row-requires-clause-room

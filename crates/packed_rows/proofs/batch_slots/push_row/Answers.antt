@@ -4,7 +4,7 @@ use Rattle.row_slot.specs.Slot.{row_in_slot}
 use Rattle.std.specs.Prelude.{Option}
 use Rattle.gated_log.specs.Layout.{slot_size}
 use Rattle.packed_rows.specs.Closing.{closings, begins_day}
-use Rattle.packed_rows.proofs.Packing.{one_closing, is_thirteen, slots_and_row, small_closings}
+use Rattle.packed_rows.proofs.PackedBatches.{one_closing, is_thirteen, slots_and_row, small_closings}
 use Rattle.packed_rows.proofs.batch_slots.push_row.Goals as goal
 
 pub closing_slot-slot-requires : goal.closing_slot-slot-requires

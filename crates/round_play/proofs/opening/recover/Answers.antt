@@ -3,8 +3,8 @@ use Rattle.disk_model.specs.Disk.{stays_none}
 use Rattle.disk_model.specs.Stopping.{stopping_medium, stopping_state_of}
 use Rattle.weather_book.specs.Book.{slots_of_book}
 use Rattle.weather_book.specs.Start.{is_book_fault, book_slots_found}
-use Rattle.round_play.proofs.Beginning.{IsKnown, starts_at_rest, is_known, never_wrong}
-use Rattle.round_play.proofs.Changing.{limits_stay}
+use Rattle.round_play.proofs.RecoveryCalls.{IsKnown, starts_at_rest, is_known, never_wrong}
+use Rattle.round_play.proofs.RecoveryChanges.{limits_stay}
 use Rattle.round_play.proofs.Opened.{is_opened, opens, unarmed_state}
 use Rattle.round_play.proofs.opening.recover.Goals as goal
 

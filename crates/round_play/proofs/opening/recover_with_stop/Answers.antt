@@ -3,8 +3,8 @@ use Rattle.disk_model.specs.Stopping.{stopping_state_of}
 use Rattle.disk_model.specs.StoppingState.{StoppingState}
 use Rattle.weather_book.specs.Book.{slots_of_book}
 use Rattle.round_play.specs.Opening.{OpensBy}
-use Rattle.round_play.proofs.Beginning.{went_wrong, IsKnown, starts_armed, is_known}
-use Rattle.round_play.proofs.Changing.{limits_stay}
+use Rattle.round_play.proofs.RecoveryCalls.{went_wrong, IsKnown, starts_armed, is_known}
+use Rattle.round_play.proofs.RecoveryChanges.{limits_stay}
 use Rattle.round_play.proofs.Opened.{is_opened, opens}
 use Rattle.round_play.proofs.Restarted.{reached, at_rest_again}
 use Rattle.round_play.proofs.opening.recover_with_stop.Goals as goal

@@ -1,7 +1,7 @@
 use Rattle.std.proofs.Common.{◌≡◌, [], true, false, refl, sym, ap, ◌∙◌, arith}
 use Rattle.schedule_file.specs.Lists.{fates_of}
 use Rattle.station_session.specs.Round.{round_host}
-use Rattle.station_session.proofs.Beginning.{under_way}
+use Rattle.station_session.proofs.BegunRounds.{under_way}
 use Rattle.station_sim.specs.declared.sim.Sim.{Sim}
 use Rattle.round_play.proofs.RoundPlayed.{same_fates}
 use Rattle.round_play.proofs.playing.begin_play.Goals as goal

@@ -2,7 +2,7 @@ use Rattle.std.proofs.Common.{◌∙◌, subst}
 use Rattle.std.specs.List.{AllByRecursion}
 use Rattle.station_base.specs.Period.{IsPeriod}
 use Rattle.schedule_steps.specs.Accepted.{HasRecord}
-use Rattle.schedule_steps.proofs.Accepting.{accepted}
+use Rattle.schedule_steps.proofs.AcceptedSchedules.{accepted}
 use Rattle.schedule_steps.proofs.schedule_laws.accepted.Goals as goal
 
 pub returns : goal.returns

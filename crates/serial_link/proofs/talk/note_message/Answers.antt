@@ -1,7 +1,7 @@
 use Rattle.std.proofs.Common.{ℕ, ◌+◌, ◌==◌, ◌++◌, List, [], ◌∷◌, length, get_or, refl, ap, ◌∙◌, arith, append_assoc}
 use Rattle.serial_link.specs.declared.talk.TalkItem.{TalkItem}
 use Rattle.serial_link.specs.declared.talk.TalkItem.TheVariants.{Said}
-use Rattle.serial_link.proofs.Saying.{said_more}
+use Rattle.serial_link.proofs.NotedMessages.{said_more}
 use Rattle.serial_link.proofs.talk.note_message.Goals as goal
 
 pub loop-i-preserved : goal.loop-i-preserved

@@ -2,7 +2,7 @@ use Rattle.std.proofs.Common.{◌≡◌, [], ◌∷◌, ◌∙◌, arith, rules,
 use Rattle.std.proofs.lemmas.Grind.{common_steps}
 use Rattle.toml.specs.View.{view}
 use Rattle.toml.proofs.Views.{Entry}
-use Rattle.settings_file.proofs.Walking.{walk-ends, walk-stops}
+use Rattle.settings_file.proofs.TableWalk.{walk-ends, walk-stops}
 use Rattle.settings_file.proofs.table.read_table.Goals as goal
 
 pub returns-clause-exact : goal.returns-clause-exact

@@ -1,5 +1,5 @@
 use Rattle.toml.specs.View.{members_view}
-use Rattle.settings_file.proofs.Walking.{HasWalked}
+use Rattle.settings_file.proofs.TableWalk.{HasWalked}
 use Rattle.settings_file.proofs.table.read_table.Given as goal
 
 abbrev pub invariant-loop-key : goal.invariant-loop-key

@@ -1,6 +1,6 @@
 use Rattle.std.proofs.Common.{◌≡◌, ◌%◌, [], ◌∷◌, ap, rules, slice_index, arith, length}
 use Rattle.station_base.specs.Digits.{digits}
-use Rattle.station_base.proofs.Spelling.{digits-low, spelled}
+use Rattle.station_base.proofs.DigitPairs.{digits-low, spelled}
 use Rattle.station_base.proofs.day.spelled_date.Goals as goal
 
 pub returns-in_err-year-clause-only : goal.returns-in_err-year-clause-only

@@ -4,7 +4,7 @@ use Rattle.std.proofs.lemmas.List.{take_at}
 use Rattle.std.specs.Io.{ReadsAtMost}
 use Rattle.std.specs.Io.KnownBytes.{ReadConsumes}
 use Rattle.station_io.specs.declared.files.TheConstants.{LONGEST}
-use Rattle.station_outside.proofs.Moving.{front_of_more}
+use Rattle.station_outside.proofs.ReadsAndWrites.{front_of_more}
 use Rattle.station_outside.proofs.std_files.read_front.Goals as goal
 
 pub returns-then-count-room-clause-gives : goal.returns-then-count-room-clause-gives

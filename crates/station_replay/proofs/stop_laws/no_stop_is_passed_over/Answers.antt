@@ -1,5 +1,5 @@
 use Rattle.disk_model.specs.Stopping.{stopping_state_of}
-use Rattle.station_replay.proofs.Passing.{round_passes}
+use Rattle.station_replay.proofs.PassedStops.{round_passes}
 use Rattle.station_replay.proofs.stop_laws.no_stop_is_passed_over.Goals as goal
 
 pub returns : goal.returns

@@ -1,4 +1,4 @@
-use Rattle.station_session.proofs.Bounding.{round_is_bounded}
+use Rattle.station_session.proofs.RoundBounds.{round_is_bounded}
 use Rattle.station_session.proofs.laws.a_round_is_bounded.Goals as goal
 
 pub returns-clause-bounded : goal.returns-clause-bounded

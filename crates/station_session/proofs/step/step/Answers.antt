@@ -6,7 +6,7 @@ use Rattle.dmpaft_pump.specs.Keeper.{count}
 use Rattle.dmpaft_driver.specs.Standing.{gives}
 use Rattle.station_session.specs.Holding.{Holding, holding}
 use Rattle.station_session.specs.OneBatch.{AddsBatch, Chain}
-use Rattle.station_session.proofs.Handing.{holding_same}
+use Rattle.station_session.proofs.SameBook.{holding_same}
 use Rattle.station_session.proofs.step.step.Goals as goal
 
 pub returns-clause-steps : goal.returns-clause-steps

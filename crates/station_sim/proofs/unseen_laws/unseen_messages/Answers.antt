@@ -1,4 +1,4 @@
-use Rattle.station_sim.proofs.Seeing.{counted_names, sent_named, sent_only}
+use Rattle.station_sim.proofs.UnseenCounts.{counted_names, sent_named, sent_only}
 use Rattle.station_sim.proofs.unseen_laws.unseen_messages.Goals as goal
 
 pub returns : goal.returns

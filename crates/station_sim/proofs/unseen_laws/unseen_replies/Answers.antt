@@ -1,4 +1,4 @@
-use Rattle.station_sim.proofs.Seeing.{happens_names}
+use Rattle.station_sim.proofs.UnseenCounts.{happens_names}
 use Rattle.station_sim.proofs.unseen_laws.unseen_replies.Goals as goal
 
 pub returns : goal.returns

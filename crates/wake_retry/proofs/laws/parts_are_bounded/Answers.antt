@@ -1,4 +1,4 @@
-use Rattle.wake_retry.proofs.Bounding.{bounds_answer, bounds_settling, bounds_wake}
+use Rattle.wake_retry.proofs.TalkBounds.{bounds_answer, bounds_settling, bounds_wake}
 use Rattle.wake_retry.proofs.laws.parts_are_bounded.Goals as goal
 
 pub returns-clause-answer : goal.returns-clause-answer

@@ -1,12 +1,12 @@
 use Rattle.std.proofs.Common.{◌≡◌, ℤ, ◌-◌, ◌≤◌, List, length, Some, sym, ap, subst, arith}
 use Rattle.std.specs.Prelude.{flat_map, slice_get}
 use Rattle.std.proofs.lemmas.List.{take_all}
-use Rattle.causes.proofs.Writing.{Appends-nil}
+use Rattle.causes.proofs.WritesInTurn.{Appends-nil}
 use Rattle.std.specs.Io.KnownBytes.{Appends}
 use Rattle.packed_rows.specs.Days.{days_of}
 use Rattle.weather_reports.specs.Report.{day_lines}
 use Rattle.weather_reports.specs.Reported.{text_of_lines}
-use Rattle.weather_reports.proofs.Ascending.{all_among}
+use Rattle.weather_reports.proofs.AscendingDays.{all_among}
 use Rattle.weather_reports.proofs.Behind.{wrote_as, wrote_nothing}
 use Rattle.weather_reports.proofs.by_day.all_days.Goals as goal
 

@@ -4,7 +4,7 @@ use Rattle.std.proofs.Props.{props}
 use Rattle.std.proofs.lemmas.List.Sums.{count_by-le-length}
 use Rattle.station_base.specs.RowLine.{row_line}
 use Rattle.packed_rows.specs.Days.{is_before, is_within}
-use Rattle.weather_book.proofs.Standing.{some_rows}
+use Rattle.weather_book.proofs.RowsOfBook.{some_rows}
 use Rattle.weather_reports.proofs.Behind.{wrote_as}
 use Rattle.weather_reports.proofs.Pieces.{counted_fit}
 use Rattle.weather_reports.proofs.by_row.listing.Goals as goal

@@ -2,7 +2,7 @@ use Rattle.std.proofs.Common.{List, length, min, refl}
 use Rattle.station_base.specs.declared.row.Row.{Row}
 use Rattle.packed_rows.specs.Days.{day_rest}
 use Rattle.archive_copy.specs.declared.reader.RowReader.{RowReader}
-use Rattle.archive_copy.proofs.Reading.{ahead_piece, ahead_stays}
+use Rattle.archive_copy.proofs.ReadAhead.{ahead_piece, ahead_stays}
 use Rattle.archive_copy.proofs.reader.RowReader.fill.Goals as goal
 
 pub returns-clause-ahead : goal.returns-clause-ahead

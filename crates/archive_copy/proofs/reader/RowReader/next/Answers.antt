@@ -3,8 +3,8 @@ use Rattle.std.specs.Prelude.{slice_get}
 use Rattle.std.proofs.lemmas.Option.{slice_get-get_or}
 use Rattle.station_base.specs.RowLine.{IsPrintable}
 use Rattle.station_base.specs.declared.row.Row.{Row}
-use Rattle.weather_book.proofs.Standing.{to_read_stays}
-use Rattle.archive_copy.proofs.Reading.{ahead_used}
+use Rattle.weather_book.proofs.RowsOfBook.{to_read_stays}
+use Rattle.archive_copy.proofs.ReadAhead.{ahead_used}
 use Rattle.archive_copy.proofs.reader.RowReader.next.Goals as goal
 
 pub returns-clause-row : goal.returns-clause-row

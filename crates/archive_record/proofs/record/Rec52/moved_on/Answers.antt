@@ -2,7 +2,7 @@ use Rattle.std.proofs.Common.{◌≡◌, ℕ, List, ◌++◌, drop, refl, sym, a
 use Rattle.std.specs.Option.{SomeIff}
 use Rattle.archive_record.specs.Record.{ReadsAsRow}
 use Rattle.archive_record.specs.MovedOn.{with_stamp}
-use Rattle.archive_record.proofs.Stamping.{is_last, is_moved, row_given}
+use Rattle.archive_record.proofs.MovedStamps.{is_last, is_moved, row_given}
 use Rattle.archive_record.proofs.record.Rec52.moved_on.Goals as goal
 
 is_some : (o : Option (List ℕ)) (P : Type 0) (bytes : List ℕ) → SomeIff o P bytes → P → o ≡ Some bytes

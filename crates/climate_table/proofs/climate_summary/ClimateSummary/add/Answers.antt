@@ -1,7 +1,7 @@
 use Rattle.std.proofs.Common.{ap, arith}
 use Rattle.climate_table.specs.declared.climate_summary.ClimateSummary.{ClimateSummary}
 use Rattle.climate_table.specs.Degrees.{is_wet, outside, rain}
-use Rattle.climate_table.proofs.Joining.{climate_join, click_is, no_degrees, with_degrees}
+use Rattle.climate_table.proofs.JoinedDays.{climate_join, click_is, no_degrees, with_degrees}
 use Rattle.climate_table.proofs.climate_summary.ClimateSummary.add.Goals as goal
 
 pub returns-in_default-clause-climate : goal.returns-in_default-clause-climate

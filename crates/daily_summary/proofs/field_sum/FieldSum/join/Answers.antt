@@ -2,8 +2,8 @@ use Rattle.std.proofs.Common.{rules, ◌≡◌, ◌∙◌, arith, refl, ◌+◌,
 use Rattle.std.specs.Prelude.{FitsSigned, ◌+ℤ◌, int_lt, if◌then◌else◌}
 use Rattle.std.specs.Int.{w32, w64}
 use Rattle.std.proofs.lemmas.Int.{to_z-of_z}
-use Rattle.daily_summary.proofs.Joining.{same_sum}
-use Rattle.daily_summary.proofs.Summing.{abs_add, fits_below}
+use Rattle.daily_summary.proofs.JoinedSums.{same_sum}
+use Rattle.daily_summary.proofs.SumBounds.{abs_add, fits_below}
 use Rattle.daily_summary.proofs.field_sum.FieldSum.join.Goals as goal
 
 pub returns-clause-exact : goal.returns-clause-exact

@@ -5,8 +5,8 @@ use Rattle.std.proofs.lemmas.Int.{to_z-of_z, fits_signed_from_abs}
 use Rattle.daily_summary.specs.declared.field_sum.FieldSum.{FieldSum}
 use Rattle.daily_summary.specs.Bounds.{IsSumOf}
 use Rattle.daily_summary.specs.Joined.{sum_of_row}
-use Rattle.daily_summary.proofs.Joining.{same_sum}
-use Rattle.daily_summary.proofs.Summing.{abs_add, both_sums, fits_below, row_sum, same_32}
+use Rattle.daily_summary.proofs.JoinedSums.{same_sum}
+use Rattle.daily_summary.proofs.SumBounds.{abs_add, both_sums, fits_below, row_sum, same_32}
 use Rattle.daily_summary.proofs.field_sum.FieldSum.push.Goals as goal
 
 pub overflow_mul-self : goal.overflow_mul-self

@@ -2,7 +2,7 @@ use Rattle.std.proofs.Common.{◌≡◌, Bool, [], ◌∷◌, length, sym, subst
 use Rattle.std.proofs.lemmas.Slice.Eq.{bytes_eq-Decides}
 use Rattle.dmpaft_pump.specs.Pump.{state_at, called}
 use Rattle.dmpaft_pump.specs.Shown.{PumpShows, IsSized}
-use Rattle.dmpaft_pump.proofs.Pumping.{heard_one}
+use Rattle.dmpaft_pump.proofs.PagesSoFar.{heard_one}
 use Rattle.dmpaft_pump.proofs.pump.Pump.after_call.Goals as goal
 
 pub returns-then-byte-eq-ACK-clause-shows : goal.returns-then-byte-eq-ACK-clause-shows

@@ -5,7 +5,7 @@ use Rattle.dmpaft_pump.specs.Page.{is_page_for, is_ahead}
 use Rattle.dmpaft_pump.specs.Batch.{slots_in_page, newest, rising, skipped}
 use Rattle.dmpaft_pump.specs.Pump.{state_at, page_judged, next_place, batch_of}
 use Rattle.dmpaft_pump.specs.Shown.{PumpShows}
-use Rattle.dmpaft_pump.proofs.Pumping.{all_of}
+use Rattle.dmpaft_pump.proofs.PagesSoFar.{all_of}
 use Rattle.dmpaft_pump.proofs.pump.Pump.after_page.Goals as goal
 
 pub returns-in-This-clause-shows : goal.returns-in-This-clause-shows

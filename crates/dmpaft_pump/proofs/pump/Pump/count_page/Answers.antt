@@ -1,5 +1,5 @@
 use Rattle.std.proofs.Common.{[], ◌∷◌, ◌++◌, length-append, sym, ◌∙◌, arith}
-use Rattle.dmpaft_pump.proofs.Pumping.{skips_more, newest_more, place_more, all_few}
+use Rattle.dmpaft_pump.proofs.PagesSoFar.{skips_more, newest_more, place_more, all_few}
 use Rattle.dmpaft_pump.proofs.pump.Pump.count_page.Goals as goal
 
 pub returns-clause-counts : goal.returns-clause-counts

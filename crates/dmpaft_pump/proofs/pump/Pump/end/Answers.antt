@@ -2,7 +2,7 @@ use Rattle.std.proofs.Common.{refl, sym, ◌∙◌, ap}
 use Rattle.causes.specs.declared.stored.Stored.{Stored}
 use Rattle.dmpaft_pump.specs.Keeper.{Handed, last_kept}
 use Rattle.dmpaft_pump.specs.Batch.{batches, answered_batches}
-use Rattle.dmpaft_pump.proofs.Keeping.{kept_answered}
+use Rattle.dmpaft_pump.proofs.HandedBatches.{kept_answered}
 use Rattle.dmpaft_pump.proofs.pump.Pump.end.Goals as goal
 
 pub returns-clause-shows : goal.returns-clause-shows

@@ -2,7 +2,7 @@ use Rattle.std.proofs.Common.{◌≡◌, ◌≢◌, ℕ, [], ◌∷◌, ◌++◌
 use Rattle.dmpaft_pump.specs.Keeper.{Handed}
 use Rattle.dmpaft_pump.specs.Pump.{Next, state_at, batched, batch_of}
 use Rattle.dmpaft_pump.specs.Shown.{PumpShows, PumpCounts}
-use Rattle.dmpaft_pump.proofs.Pumping.{kept_none, none_in, some_in, batched_some}
+use Rattle.dmpaft_pump.proofs.PagesSoFar.{kept_none, none_in, some_in, batched_some}
 use Rattle.dmpaft_pump.proofs.pump.Pump.hand.Goals as goal
 
 pub returns-then-is_empty-clause-shows : goal.returns-then-is_empty-clause-shows

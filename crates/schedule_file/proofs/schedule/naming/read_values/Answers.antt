@@ -3,7 +3,7 @@ use Rattle.std.specs.Int.{w32}
 use Rattle.std.proofs.lemmas.Int.{to_z-of_z}
 use Rattle.schedule_file.specs.Pieces.{words_left}
 use Rattle.schedule_file.specs.Naming.{values_on}
-use Rattle.schedule_file.proofs.Naming.{word_more}
+use Rattle.schedule_file.proofs.NamedValues.{word_more}
 use Rattle.schedule_file.proofs.schedule.naming.read_values.Goals as goal
 
 pub loop-word-preserved : goal.loop-word-preserved

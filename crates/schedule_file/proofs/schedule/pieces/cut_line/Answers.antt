@@ -1,6 +1,6 @@
 use Rattle.std.proofs.Common.{◌+◌}
 use Rattle.std.proofs.lemmas.List.{take_rest}
-use Rattle.schedule_file.proofs.Cutting.{line_cut, line_last}
+use Rattle.schedule_file.proofs.CutTexts.{line_cut, line_last}
 use Rattle.schedule_file.proofs.schedule.pieces.cut_line.Goals as goal
 
 pub returns-then-end-text-clause-lines : goal.returns-then-end-text-clause-lines

@@ -1,5 +1,5 @@
 use Rattle.std.proofs.lemmas.List.{take_rest}
-use Rattle.schedule_file.proofs.Cutting.{word_cut}
+use Rattle.schedule_file.proofs.CutTexts.{word_cut}
 use Rattle.schedule_file.proofs.schedule.pieces.cut_word.Goals as goal
 
 pub returns-clause-words : goal.returns-clause-words

@@ -1,4 +1,4 @@
-use Rattle.schedule_file.proofs.Cutting.{place_found, place_missing}
+use Rattle.schedule_file.proofs.CutTexts.{place_found, place_missing}
 use Rattle.schedule_file.proofs.schedule.pieces.place_of.Goals as goal
 
 pub returns-in-Some-clause-place : goal.returns-in-Some-clause-place

@@ -1,5 +1,5 @@
 use Rattle.std.proofs.Common.{◌∙◌, arith}
-use Rattle.schedule_file.proofs.Spelling.{words_name}
+use Rattle.schedule_file.proofs.MinuteWords.{words_name}
 use Rattle.schedule_file.proofs.schedule.stamps.stamp_at.Goals as goal
 
 pub returns : goal.returns

@@ -3,7 +3,7 @@ use Rattle.station_base.specs.CivilMinute.{minute_of}
 use Rattle.soft_record.specs.Given.{IsRowOf}
 use Rattle.soft_record.specs.Interval.{interval_of}
 use Rattle.soft_record.specs.SoftRow.{IsSoftRow}
-use Rattle.soft_record.proofs.Standing.{finishes_some, keeps_some}
+use Rattle.soft_record.proofs.EntriesSoFar.{finishes_some, keeps_some}
 use Rattle.soft_record.proofs.record.SoftRecord.finish.Goals as goal
 
 pub returns-clause-finishes : goal.returns-clause-finishes

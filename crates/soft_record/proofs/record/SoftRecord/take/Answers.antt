@@ -6,7 +6,7 @@ use Rattle.soft_record.specs.Entry.{interval_end, moment}
 use Rattle.soft_record.specs.Given.{IsRowOf}
 use Rattle.soft_record.specs.Interval.{interval_of}
 use Rattle.soft_record.specs.SoftRow.{IsSoftRow}
-use Rattle.soft_record.proofs.Standing.{ends_at, first_follows, keeps_none, keeps_some, later_follows, takes_closed, takes_first, takes_joined}
+use Rattle.soft_record.proofs.EntriesSoFar.{ends_at, first_follows, keeps_none, keeps_some, later_follows, takes_closed, takes_first, takes_joined}
 use Rattle.soft_record.proofs.record.SoftRecord.take.Goals as goal
 
 pub returns-in_default-open-clause-takes : goal.returns-in_default-open-clause-takes

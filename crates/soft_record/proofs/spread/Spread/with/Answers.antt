@@ -5,7 +5,7 @@ use Rattle.std.specs.declared.option.Option.{Option}
 use Rattle.std.proofs.lemmas.Int.{to_z-of_z, fits_signed_from_abs}
 use Rattle.soft_record.specs.Numbers.{with_number}
 use Rattle.soft_record.specs.Spread.{IsSpreadOf}
-use Rattle.soft_record.proofs.Summing.{with_more}
+use Rattle.soft_record.proofs.RunningSums.{with_more}
 use Rattle.soft_record.proofs.Within.{max_small, min_small, sum_small}
 use Rattle.soft_record.proofs.spread.Spread.with.Goals as goal
 

@@ -1,6 +1,6 @@
 use Rattle.std.proofs.Common.{arith, pos}
 use Rattle.soft_record.specs.Marks.{no_barometer, no_byte, no_radiation, no_temperature}
-use Rattle.soft_record.proofs.Coming.{latest_more, rate_more, spread_more, sum_more}
+use Rattle.soft_record.proofs.OneEntryMore.{latest_more, rate_more, spread_more, sum_more}
 use Rattle.soft_record.proofs.sums.Sums.with_packet.Goals as goal
 
 pub returns-clause-sums : goal.returns-clause-sums

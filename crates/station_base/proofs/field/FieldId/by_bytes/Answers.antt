@@ -1,7 +1,7 @@
 use Rattle.std.proofs.Common.{rules, ◌≡◌, sym, ◌∙◌, Some, None, arith}
 use Rattle.station_base.specs.Fields.{name_of}
 use Rattle.station_base.proofs.FieldTexts.{names_differ}
-use Rattle.station_base.proofs.Naming.{is_field_named}
+use Rattle.station_base.proofs.FieldNames.{is_field_named}
 use Rattle.station_base.proofs.field.FieldId.by_bytes.Goals as goal
 
 pub returns-then-eq-clause-only : goal.returns-then-eq-clause-only

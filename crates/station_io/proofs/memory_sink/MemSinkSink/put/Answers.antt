@@ -2,7 +2,7 @@ use Rattle.std.proofs.Common.{subst, arith}
 use Rattle.station_io.specs.declared.sink.Put.TheVariants.{Failed}
 use Rattle.station_io.specs.Memory.{Bucket, bucket_outlet}
 use Rattle.station_io.specs.Sink.{Emits}
-use Rattle.station_io.proofs.Refusing.{refused}
+use Rattle.station_io.proofs.RefusedWrites.{refused}
 use Rattle.station_io.proofs.memory_sink.MemSinkSink.put.Goals as goal
 
 pub returns-then-bytes-self-clause-emits : goal.returns-then-bytes-self-clause-emits

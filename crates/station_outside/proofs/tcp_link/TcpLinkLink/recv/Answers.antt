@@ -1,5 +1,5 @@
 use Rattle.std.proofs.Common.{length, refl, arith}
-use Rattle.station_outside.proofs.Talking.{adds_received, heard_within}
+use Rattle.station_outside.proofs.UntoldTalk.{adds_received, heard_within}
 use Rattle.station_outside.proofs.tcp_link.TcpLinkLink.recv.Goals as goal
 
 pub returns : goal.returns

@@ -1,6 +1,6 @@
 use Rattle.std.proofs.Common.{refl, rules}
 use Rattle.serial_link.specs.Talk.{message}
-use Rattle.station_outside.proofs.Talking.{adds_said}
+use Rattle.station_outside.proofs.UntoldTalk.{adds_said}
 use Rattle.station_outside.proofs.tcp_link.TcpLinkLink.send.Goals as goal
 
 pub returns-in-Ok : goal.returns-in-Ok

@@ -5,7 +5,7 @@ use Rattle.packed_rows.specs.Adding.{ArePrintable, AreLimited}
 use Rattle.packed_rows.specs.Rising.{RowsRiseAfter}
 use Rattle.weather_book.specs.Book.{last_stamp_of}
 use Rattle.causes.specs.declared.stored.Stored.TheVariants as stored
-use Rattle.dmpaft_pump.proofs.Keeping.{one_size}
+use Rattle.dmpaft_pump.proofs.HandedBatches.{one_size}
 use Rattle.station_session.proofs.Stamps.{rises, same_count}
 use Rattle.station_session.specs.OneBatch.{AddsBatch}
 use Rattle.station_session.proofs.BatchAnswers.{taken_as, no_mark, mark_as}

@@ -1,7 +1,7 @@
 use Rattle.std.proofs.Common.{◌≡◌, true, false, sym, ◌∙◌, refl, arith, subst, Option}
 use Rattle.station_base.specs.CivilMinute.{CivilMinute}
 use Rattle.station_session.specs.RoundAt.{RoundAt}
-use Rattle.station_session.proofs.Beginning.{round_begun, fits_begun}
+use Rattle.station_session.proofs.BegunRounds.{round_begun, fits_begun}
 use Rattle.station_session.proofs.session.Session.begin.Goals as goal
 
 pub returns-in-Done : goal.returns-in-Done

@@ -1,6 +1,6 @@
 use Rattle.std.proofs.Common.{rules}
 use Rattle.archive_record.specs.Record.{IsRecord, ReadsAsRow}
-use Rattle.station_sim.proofs.Rounding.{due_sound}
+use Rattle.station_sim.proofs.SoundBetweenMessages.{due_sound}
 use Rattle.station_sim.proofs.sim.Sim.due.Goals as goal
 
 pub returns-clause-stands : goal.returns-clause-stands

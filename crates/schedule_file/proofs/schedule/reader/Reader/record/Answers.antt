@@ -1,7 +1,7 @@
 use Rattle.std.proofs.Common.{◌≡◌, arith, true, false, refl}
 use Rattle.archive_record.specs.Writing.{CanHoldAll}
 use Rattle.schedule_file.specs.Reader.{said_by}
-use Rattle.schedule_file.proofs.Telling.{is_past, is_early, is_misnamed, is_unheld, is_told}
+use Rattle.schedule_file.proofs.RecordFaults.{is_past, is_early, is_misnamed, is_unheld, is_told}
 use Rattle.schedule_file.proofs.schedule.reader.Reader.record.Goals as goal
 
 pub returns-then-last_minute-gt-LAST_MINUTE : goal.returns-then-last_minute-gt-LAST_MINUTE
