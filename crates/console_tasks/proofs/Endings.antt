@@ -127,6 +127,7 @@ pub ends_once : (xs : List Exchange) → EndsOnce (TaskTalk xs)
 ends_once xs = record {
   once = λ t a b e f k m. (let o = task_once xs t t [] [] a b e f k m refl in (o.1, o.2));
   front = λ s t x y a b e f k m same. (task_once xs s t x y a b e f k m same).0;
-  cut = λ t a e k m. k.1 (nothing_more t k.0
-      (task_once xs t (t ++ k.0) k.0 [] a k.2.0 e k.2.1 m k.2.2 (sym (append-nil (t ++ k.0)))).0);
+  cut = λ t a e k m.
+      let (answers, end, talk) = k.whole in
+      k.some (nothing_more t k.rest (task_once xs t (t ++ k.rest) k.rest [] a answers e end m talk (sym (append-nil (t ++ k.rest)))).0);
 }

@@ -36,7 +36,8 @@ judged_trouble answer (Err end) j = subst IsTrouble (sym j.1) tt
 pub full_replies : (said answer : List ℕ) (r : Result (Unit {0}) TaskEnd) (t u : List TalkItem) → t ≡ message said ++ u
     → IsFull answer_waits 0 u → heard u ≡ answer → IsJudged answer r
     → ExchangeReplies said (length answer) answer r t
-full_replies said answer (Ok done) t u e f h j = (u, e, inl (f, ap (λ (x : List ℕ). length x) h), h, j)
+full_replies said answer (Ok done) t u e f h j =
+    record { reply = u; split = e; awaited = inl (f, ap (λ (x : List ℕ). length x) h); bytes = h; accepts = j }
 full_replies said answer (Err end) t u e f h j = λ judge more.
     let x = answered_exchange said (length answer) judge in
     let s : shows x (heard u) ≡ end = ap (shows x) h ∙ end_refused (true && is_refusal answer)
@@ -72,7 +73,7 @@ single (b ∷ c ∷ bs) l r = absurd (omega arith)
 -- an answer of one byte
 pub replies_command : (said answer : List ℕ) (r : Result (Unit {0}) TaskEnd) (t : List TalkItem) → length answer ≡ 1
     → ExchangeReplies said 1 answer r t → Commands said r t
-replies_command said answer (Ok done) t l k = subst (λ (x : List ℕ). MessageIsAnswered said x t) (single answer l k.4) k
+replies_command said answer (Ok done) t l k = subst (λ (x : List ℕ). MessageIsAnswered said x t) (single answer l k.accepts) k
 replies_command said answer (Err end) t l k = k (λ (answer : List ℕ). task_end.Done)
 
 -- a frame that is asked for, where the asking ended the task

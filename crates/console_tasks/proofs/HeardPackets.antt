@@ -93,7 +93,9 @@ packet_short n t s below l = λ more.
 -- the wait was cut off
 pub packet_cut : (more : List Exchange) (t : List TalkItem) → IsCutOff (FallsShort 10 99) t
     → IsCutTalk (Exchanges (packet ∷ more)) t
-packet_cut more t k = (k.0, k.1, ([], shows packet (heard (t ++ k.0)), short_ends packet more (t ++ k.0) (t ++ k.0) refl k.2))
+packet_cut more t k =
+    let all = t ++ k.rest in
+    record { rest = k.rest; some = k.some; whole = ([], shows packet (heard all), short_ends packet more all all refl k.whole) }
 
 -- a packet that came goes on
 pub packet_on : (more : List Exchange) (read : LoopPacket) (t : List TalkItem) → HearsPacket (Ok read) t

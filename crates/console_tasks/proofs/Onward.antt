@@ -36,16 +36,17 @@ on_then {A} {B} {C} {f} {g} {s} {t} one two = record {
 cut_on : {A B : Grammar} {f : List (List ℕ)} {s : List TalkItem} → On A B f s → (t : List TalkItem) → IsCutTalk B t
     → IsCutTalk A (s ++ t)
 cut_on {A} {B} {f} {s} on t k =
-    let l = k.2 in (
-      k.0,
-      k.1,
-      (
-        f ++ l.0,
-        l.1,
-        subst (λ (x : List TalkItem). A x (f ++ l.0) l.1) (sym (append_assoc s t k.0))
-            (on.on (t ++ k.0) l.0 l.1 l.2),
-      ),
-    )
+    let (answers, end, talk) = k.whole in
+    record {
+      rest = k.rest;
+      some = k.some;
+      whole = (
+        f ++ answers,
+        end,
+        subst (λ (x : List TalkItem). A x (f ++ answers) end) (sym (append_assoc s t k.rest))
+            (on.on (t ++ k.rest) answers end talk),
+      );
+    }
 
 end_on : {A B : Grammar} {f : List (List ℕ)} {s : List TalkItem} → On A B f s → (end : TaskEnd) (t : List TalkItem)
     → HasEnd B end t → HasEnd A end (s ++ t)
@@ -165,39 +166,44 @@ start_asleep xs s w still woke =
 -- one that is cut off in its settling
 pub start_cut : (xs : List Exchange) (t : List TalkItem) → IsCutSettling 6 t → IsCutTalk (TaskTalk xs) t
 start_cut xs t k =
-    let w = silent_wakes 3 in (
-      k.0 ++ w.0,
-      some_first k.0 w.0 k.1,
-      (
+    let w = silent_wakes 3 in
+    record {
+      rest = k.rest ++ w.0;
+      some = some_first k.rest w.0 k.some;
+      whole = (
         [],
         task_end.Asleep,
-        subst (λ (y : List TalkItem). TaskTalk xs y [] task_end.Asleep) (append_assoc t k.0 w.0)
-            (start_asleep xs (t ++ k.0) w.0 k.2 w.1),
-      ),
-    )
+        subst (λ (y : List TalkItem). TaskTalk xs y [] task_end.Asleep) (append_assoc t k.rest w.0)
+            (start_asleep xs (t ++ k.rest) w.0 k.whole w.1),
+      );
+    }
 
 cut_wake : (xs : List Exchange) (s w rest : List TalkItem) → Awaiting xs → Still settled_waits s → rest ≢ [] → (awake : Bool)
     → Wakes wake_tries (w ++ rest) awake → IsCutTalk (TaskTalk xs) (s ++ w)
-cut_wake xs s w rest a still some false k = (
-  rest,
-  some,
-  (
+cut_wake xs s w rest a still some false k = record {
+  rest = rest;
+  some = some;
+  whole = (
     [],
     task_end.Asleep,
     subst (λ (y : List TalkItem). TaskTalk xs y [] task_end.Asleep)
         (sym (append_assoc s w rest)) (start_asleep xs s (w ++ rest) still k),
-  ),
-)
+  );
+}
 cut_wake xs s w rest a still some true k =
     let x = silent_exchanges xs a in
     let whole : (s ++ w) ++ (rest ++ x.0) ≡ s ++ ((w ++ rest) ++ x.0) =
     append_assoc s w (rest ++ x.0) ∙ ap (λ (y : List TalkItem). s ++ y) (sym (append_assoc w rest x.0)) in
-    (rest ++ x.0, some_first rest x.0 some, ([], x.1, inl (s, w ++ rest, x.0, true, whole, still, k, inl (refl, x.2))))
+    record {
+      rest = rest ++ x.0;
+      some = some_first rest x.0 some;
+      whole = ([], x.1, inl (s, w ++ rest, x.0, true, whole, still, k, inl (refl, x.2)));
+    }
 
 -- one that is cut off in its wake
 pub start_cut_wake : (xs : List Exchange) (s w : List TalkItem) → Awaiting xs → Still settled_waits s → IsCutWake w
     → IsCutTalk (TaskTalk xs) (s ++ w)
-start_cut_wake xs s w a still k = cut_wake xs s w k.0 a still k.1 k.2.0 k.2.1
+start_cut_wake xs s w a still k = cut_wake xs s w k.rest a still k.some k.whole.0 k.whole.1
 
 -- a whole answer without refusal shows what it is judged to be
 pub shows_judged : (said answer : List ℕ) (judge : List ℕ → TaskEnd) → is_refusal answer ≡ false
@@ -211,7 +217,7 @@ pub answered_on : (said answer : List ℕ) (judge : List ℕ → TaskEnd) (more 
     → MessageIsAnswered said answer t → judge answer ≡ task_end.Done
     → On (Exchanges (answered_exchange said (length answer) judge ∷ more)) (Exchanges more) (answer ∷ []) t
 answered_on said answer judge more t k well =
-    answer_on (answered_exchange said (length answer) judge) more t k.0 answer k.1 k.2 k.3 (shows_judged said answer judge k.4 ∙ well)
+    answer_on (answered_exchange said (length answer) judge) more t k.reply answer k.split k.awaited k.bytes (shows_judged said answer judge k.accepts ∙ well)
 
 -- one whose answer is not
 pub answered_ends : (said answer : List ℕ) (judge : List ℕ → TaskEnd) (end : TaskEnd) (t : List TalkItem)
@@ -219,7 +225,7 @@ pub answered_ends : (said answer : List ℕ) (judge : List ℕ → TaskEnd) (end
     → EndsTask (answered_exchange said (length answer) judge) end t
 answered_ends said answer judge end t k bad trouble more =
     let x = answered_exchange said (length answer) judge in
-    answer_fails x more t k.0 end k.1 k.2 (ap (shows x) k.3 ∙ shows_judged said answer judge k.4 ∙ bad) trouble
+    answer_fails x more t k.reply end k.split k.awaited (ap (shows x) k.bytes ∙ shows_judged said answer judge k.accepts ∙ bad) trouble
 
 -- one that is cut off
 pub asking_cut : (said : List ℕ) (size : ℕ) (judge : List ℕ → TaskEnd) (more : List Exchange) (t : List TalkItem)
@@ -227,8 +233,12 @@ pub asking_cut : (said : List ℕ) (size : ℕ) (judge : List ℕ → TaskEnd) (
     → IsCutTalk (Exchanges (answered_exchange said size judge ∷ more)) t
 asking_cut said size judge more t k =
     let x = answered_exchange said size judge in
-    let l = k.2 in
-    (k.0, k.1, ([], shows x (heard l.0), short_ends x more (t ++ k.0) l.0 l.1 l.2))
+    let l = k.whole in
+    record {
+      rest = k.rest;
+      some = k.some;
+      whole = ([], shows x (heard l.answer), short_ends x more (t ++ k.rest) l.answer l.split l.is);
+    }
 
 -- nothing is left
 pub exchanges_end : Exchanges [] [] [] task_end.Done

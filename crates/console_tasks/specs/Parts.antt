@@ -33,11 +33,13 @@ Starts (Ok done) t =
     (s : List TalkItem) × (w : List TalkItem) × (t ≡ s ++ w) × Still settled_waits s × Wakes wake_tries w true
 Starts (Err end) t = (exchanges : List Exchange) → Awaiting exchanges → Fails (TaskTalk exchanges) end t
 
--- a message was answered by these bytes
-abbrev pub MessageIsAnswered : List ℕ → List ℕ → List TalkItem → Type 0
-MessageIsAnswered said answer t =
-    (u : List TalkItem) × (t ≡ message said ++ u) × Awaits answer_waits (length answer) u
-    × (heard u ≡ answer) × (is_refusal answer ≡ false)
+-- a message was answered by these bytes, which refuse nothing
+pub record MessageIsAnswered (said answer : List ℕ) (t : List TalkItem) : Type 0 where
+  pub reply : List TalkItem
+  pub split : t ≡ message said ++ reply
+  pub awaited : Awaits answer_waits (length answer) reply
+  pub bytes : heard reply ≡ answer
+  pub accepts : is_refusal answer ≡ false
 
 -- the exchange ends a task so, whatever is behind it
 abbrev pub EndsTask : Exchange → TaskEnd → List TalkItem → Type 0

@@ -100,7 +100,7 @@ comes_or_short q n some s t a b k m e = elim (either_front s t a b e) [
 
 -- what was cut off has not ended
 pub cut_answer : (q n : ℕ) → 0 < q → (t : List TalkItem) → IsCutOff (FallsShort q n) t → ¬ Awaits q n t
-cut_answer q n some t k m = k.1 (awaits_on q n t k.0 some m (inr k.2))
+cut_answer q n some t k m = k.some (awaits_on q n t k.rest some m (inr k.whole))
 
 still_short : (q r n : ℕ) (t : List TalkItem) → StillFrom q r n t → IsShort q r t × (n + length (heard t) < flood_size)
 still_short q r n [] k = (k.0, omega (arith, k.1))
@@ -124,7 +124,7 @@ still_or_flood q some s t a b k m e = comes_or_short q flood_size some t s b a m
 
 cut_settling : (q : ℕ) → 0 < q → (t : List TalkItem) → IsCutOff (Still q) t → (¬ Still q t) × (¬ Flooding q t)
 cut_settling q some t k =
-    let cut = cut_answer q flood_size some t (k.0, k.1, still_falls_short q (t ++ k.0) k.2) in
+    let cut = cut_answer q flood_size some t (record { rest = k.rest; some = k.some; whole = still_falls_short q (t ++ k.rest) k.whole }) in
     (λ m. cut (inr (still_falls_short q t m)), λ m. cut (inl m))
 
 pub ends_answer : (q n : ℕ) → 0 < q → EndsAnswer q n

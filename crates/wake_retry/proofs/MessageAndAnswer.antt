@@ -13,12 +13,16 @@ behind said s t e = ap (λ (x : List TalkItem). x ++ t) e
 
 -- an answer that is cut off, after its message
 cut_after : (said : List ℕ) (n : ℕ) (s t : List TalkItem) → s ≡ message said → IsCutOff (FallsShort answer_waits n) t → IsCutOff (Answered said (FallsShort answer_waits n)) (s ++ t)
-cut_after said n s t e k = (k.0, k.1, (t ++ k.0, append_assoc s t k.0 ∙ behind said s (t ++ k.0) e, k.2))
+cut_after said n s t e k = record {
+  rest = k.rest;
+  some = k.some;
+  whole = record { answer = t ++ k.rest; split = append_assoc s t k.rest ∙ behind said s (t ++ k.rest) e; is = k.whole };
+}
 
 -- an answer after its message
 pub asks_after : (answer : Asked) (said buf : List ℕ) (s t : List TalkItem) → s ≡ message said → Listens answer_waits answer buf t → Asks answer said buf (s ++ t)
-asks_after asked.Full said buf s t e k = (t, behind said s t e, k)
-asks_after (asked.Short n) said buf s t e k = (t, behind said s t e, k)
+asks_after asked.Full said buf s t e k = record { answer = t; split = behind said s t e; is = k }
+asks_after (asked.Short n) said buf s t e k = record { answer = t; split = behind said s t e; is = k }
 asks_after asked.LinkFault said buf s t e k = cut_after said (length buf) s t e k
 asks_after asked.OutOfMemory said buf s t e k = cut_after said (length buf) s t e k
 
@@ -29,8 +33,12 @@ not_over (i ∷ a) b some e = cc
 
 -- a message that is cut off, or of which nothing was answered yet
 pub cut_saying : (said : List ℕ) (n : ℕ) (s rest : List TalkItem) → 0 < n → s ++ rest ≡ message said → IsCutOff (Answered said (FallsShort answer_waits n)) s
-cut_saying said n s rest some e = (
-  rest ++ silence answer_waits,
-  not_over rest (silence answer_waits) (λ x. cc),
-  (silence answer_waits, sym (append_assoc s rest (silence answer_waits)) ∙ behind said (s ++ rest) (silence answer_waits) e, (short_silence answer_waits, omega (arith, ap length (heard_silence answer_waits)))),
-)
+cut_saying said n s rest some e = record {
+  rest = rest ++ silence answer_waits;
+  some = not_over rest (silence answer_waits) (λ x. cc);
+  whole = record {
+    answer = silence answer_waits;
+    split = sym (append_assoc s rest (silence answer_waits)) ∙ behind said (s ++ rest) (silence answer_waits) e;
+    is = (short_silence answer_waits, omega (arith, ap length (heard_silence answer_waits)));
+  };
+}

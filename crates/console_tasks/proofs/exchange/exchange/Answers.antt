@@ -18,7 +18,7 @@ returns-in-Full g c =
     let size : length answer ≡ length c.args.answer.now = omega (arith, c.ask.auto.buf) in
     talks_shown r (ExchangeReplies said (length c.args.answer.now) answer r)
     (judged_trouble answer r c.acknowledged.ensures) c.in-Full.ensures
-    (λ t k. subst (λ n. ExchangeReplies said n answer r t) size (full_replies said answer r t k.0 k.1 k.2.0 k.2.1 c.acknowledged.ensures))
+    (λ t k. subst (λ n. ExchangeReplies said n answer r t) size (full_replies said answer r t k.answer k.split k.is.0 k.is.1 c.acknowledged.ensures))
 
 pub returns-in-Short : goal.returns-in-Short
 returns-in-Short g c =
@@ -29,8 +29,8 @@ returns-in-Short g c =
     let is = c.short_end.ensures in
     talks_shown (Err end) (ExchangeReplies said (length c.args.answer.now) c.ask.new.buf (Err end))
     (subst IsTrouble (sym is) (short_trouble (is_refusal answer) answer task_end.Done)) c.in-Short.ensures
-    (λ t k. short_replies said answer (length c.args.answer.now) end t k.0 k.1 k.2.0 k.2.2
-    (omega (arith, k.2.1, size, length-take c.in-Short.count c.ask.new.buf)) is)
+    (λ t k. short_replies said answer (length c.args.answer.now) end t k.answer k.split k.is.0 k.is.2
+    (omega (arith, k.is.1, size, length-take c.in-Short.count c.ask.new.buf)) is)
 
 pub returns-in-LinkFault : goal.returns-in-LinkFault
 returns-in-LinkFault g c =

@@ -38,7 +38,7 @@ returns-then-is_good g c =
     (λ (x : List ℕ). x ≡ sealed (take (length x - 2) x)) rest (c.is_good.ensures.sealed true_is long) in
     let short : length (drop 1 answer) ≡ n + 2 = omega (arith, length-drop 1 answer) in
     talks_shown (Ok tt) (FrameReplies said n answer (Ok tt)) tt c.in_ok-exchange.ensures
-    (λ t k. (k, good, sealed_answer answer n size k.4 (seal_size n (drop 1 answer) short whole)))
+    (λ t k. (k, good, sealed_answer answer n size k.accepts (seal_size n (drop 1 answer) short whole)))
 
 pub returns-else-is_good : goal.returns-else-is_good
 returns-else-is_good g c =

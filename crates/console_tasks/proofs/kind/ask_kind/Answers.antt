@@ -39,6 +39,6 @@ returns g c =
     (λ t k. subst (λ (x : List ℕ). Exchanges (answered_exchange x 2 (λ answer. task_end.Done) ∷ []) t (answers kind) task_end.Done) said
     (subst (λ n. Exchanges (answered_exchange c.deref.result.now n (λ answer. task_end.Done) ∷ []) t (answers kind) task_end.Done) size
     (subst (λ (x : List ℕ). Exchanges (answered_exchange c.deref.result.now (length answer) (λ answer. task_end.Done) ∷ []) t
-    (x ∷ []) task_end.Done) (pair answer size k.4)
+    (x ∷ []) task_end.Done) (pair answer size k.accepts)
     (last_done c.deref.result.now answer (λ answer. task_end.Done) t k refl)))) in
     task_done asking_kind c.in_ok-start.field-0 c.in_ok-start.ensures answers kind two
