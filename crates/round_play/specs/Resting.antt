@@ -21,7 +21,7 @@ use Rattle.station_replay.specs.Stopped.{DiskRests}
 pub record IsRoomFor (records : ℕ) (limits : Limits) : Type 0 where
   pub capacity : empty_size + 14 * slot_size * records ≤ limits.capacity
   pub changes : 1403 + 4 * records ≤ limits.changes
-  pub bytes : 2500000 + 2465 * records ≤ limits.bytes
+  pub bytes : 2500000 + (14 * slot_size + 1) * records ≤ limits.bytes
 
 -- The record has room left: all but what the archive's changes took since the disk was made, and what was written of
 -- its rows and at each opening.
