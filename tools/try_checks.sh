@@ -1,7 +1,7 @@
 #!/usr/bin/env bash
-# Tries that no wrong body passes try_edits.sh unless it was refused, with a script in rt's place, that a case of a table
-# fails where it has to, with one in the program's place, and that a page which is not what the definitions make it is
-# refused. The last line is 'N passed, M failed', and the status is 1 if any failed.
+# Tries that no wrong body passes try_edits.sh unless it was refused, with a script in rt's place, that one which cannot be
+# made is named, that a case of a table fails where it has to, with a script in the program's place, and that a page which is
+# not what the definitions make it is refused. The last line is 'N passed, M failed', and the status is 1 if any failed.
 set -u
 tools=$(cd "$(dirname "$0")" && pwd)
 work=$(mktemp -d)
@@ -39,6 +39,21 @@ refused, as it must be|1|1|rt ci ended with status 1*1 of 1 wrong bodies were re
 SAYINGS
 expect 'a crate without wrong bodies' 2 'b has no wrong body in more-edits' "${try_edits[@]}" a b
 expect 'a crate that is none' 2 'c is no crate' "${try_edits[@]}" c
+
+# Whether a wrong body of these lines can be made.
+made_edit() {
+    printf 'file: %s\nold: %s\nnew: b\n' "$1" "$2" >edits/crates/a/more-edits/x.edit
+    edits/tools/applied_edits.py
+}
+
+mkdir -p edits/tools edits/crates/a/{src,more-edits}
+cp "$tools/applied_edits.py" edits/tools
+printf 'one\ntwo\ntwo\n' >edits/crates/a/src/lib.rt
+expect 'a wrong body that can be made' 0 '' made_edit src/lib.rt one
+expect 'a wrong body of a file that is gone' 1 'a/more-edits/x.edit: there is no src/old.rt' made_edit src/old.rt one
+expect 'a wrong body of a line that is gone' 1 'a/more-edits/x.edit: src/lib.rt has 0 times: three' made_edit src/lib.rt three
+expect 'a wrong body of a line that stands twice' 1 'a/more-edits/x.edit: src/lib.rt has 2 times: two' \
+    made_edit src/lib.rt two
 
 cat >stand_in <<'PROGRAM'
 #!/usr/bin/env bash
