@@ -11,8 +11,8 @@ use crate::climate_summary::{ClimateSummary, RAIN};
 use crate::degree_days::{DegreeDays, OUTSIDE};
 use crate::totals::Fraction;
 use daily_summary::{DaySummary, FieldSum};
-use station_base::{DayNumber, FieldId, Stamp, push_bytes};
-use weather_reports::{DIGITS, PIECE, Pending, ROOM, push_count, push_signed};
+use station_base::{DIGITS, DayNumber, FieldId, Stamp, push_bytes, push_count};
+use weather_reports::{PIECE, Pending, ROOM, push_signed};
 
 // The most bytes of the name of a month.
 const NAME: usize = 7;

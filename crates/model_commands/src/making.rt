@@ -3,9 +3,9 @@ ghost use Rattle.arrayvec.specs.ArrayVec.{array_vec_len};
 ghost use Rattle.model_commands.specs.MakeRun.{MakesRun, counts_lines, endings_line, harmed_line, made_line, rows_line};
 
 use made_run::{MOST_MADE, MakeEnd, make};
-use run_output::{Ending, ROOM, Status, Text, push_count};
+use run_output::{Ending, ROOM, Status, Text};
 use schedule_replay::Counts;
-use station_base::push_bytes;
+use station_base::{push_bytes, push_count};
 use std::alloc::Global;
 
 /// Makes a schedule of so many records from a seed, and gives the counts of its run. No file, link or disk is touched.

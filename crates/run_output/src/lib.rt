@@ -15,4 +15,4 @@ pub use outside::Outside;
 pub use reading::{read, settle};
 pub use status::Status;
 pub use steps::{attach, connect};
-pub use text::{PAGE_ROOM, PIECE, ROOM, Text, push_count, push_memory};
+pub use text::{PAGE_ROOM, PIECE, ROOM, Text, push_memory};

@@ -1,10 +1,9 @@
-ghost use Rattle.std.specs.Prelude.{◌≡◌, ◌+◌, ◌*◌, ◌<◌, ◌≤◌, ◌++◌, decimal, false, length};
+ghost use Rattle.std.specs.Prelude.{◌≡◌, ◌+◌, ◌*◌, ◌<◌, ◌≤◌, ◌++◌, false, length};
 ghost use Rattle.arrayvec.specs.ArrayVec.{array_vec_len};
 ghost use Rattle.run_output.specs.MemoryText.{hexadecimal_byte_text, bytes_line};
 ghost use Rattle.std.specs.Fmt.{digit_glyph};
 
 use arrayvec::ArrayVec;
-use itoa::Buffer;
 use station_base::{LINE_ROOM, push_bytes};
 
 /// From how many bytes on what is held back is written.
@@ -18,19 +17,6 @@ pub const ROOM: usize = PIECE + PAGE_ROOM;
 
 /// Text that waits to be written.
 pub type Text = ArrayVec<u8, ROOM>;
-
-// The most digits of a number of 64 bits.
-const DIGITS: usize = 20;
-
-/// Appends a name and a number.
-pub fn push_count(text: &mut Text, name: &[u8], count: u64)
-    requires { array_vec_len text.old + length name.now + DIGITS ≤ ROOM }
-    ensures text { text.new.items ≡ text.old.items ++ name.now ++ decimal count }
-    ensures length { array_vec_len text.new ≤ array_vec_len text.old + length name.now + DIGITS }
-{
-    push_bytes(text, name);
-    push_bytes(text, Buffer::new().format(count).as_bytes());
-}
 
 /// Appends the line of so many bytes of a memory.
 pub fn push_memory(text: &mut Text, bytes: &[u8])

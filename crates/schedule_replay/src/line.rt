@@ -1,17 +1,12 @@
-ghost use Rattle.std.specs.Prelude.{◌≡◌, ◌+◌, ◌≤◌, ◌++◌, length};
-ghost use Rattle.arrayvec.specs.ArrayVec.{array_vec_len};
-ghost use Rattle.station_replay.specs.Texts.{named_number, end_line, open_line, open_stop_line, unseen_line};
+ghost use Rattle.std.specs.Prelude.{◌≡◌};
+ghost use Rattle.station_replay.specs.Texts.{end_line, open_line, open_stop_line, unseen_line};
 
 use arrayvec::ArrayVec;
-use itoa::Buffer;
-use station_base::{LINE_ROOM, push_bytes};
+use station_base::{LINE_ROOM, push_bytes, push_count};
 use station_sim::Unseen;
 
 // A line of a run.
 pub type Line = ArrayVec<u8, LINE_ROOM>;
-
-// The most digits of a number of 64 bits.
-pub const DIGITS: usize = 20;
 
 // `open rows N`.
 pub fn open_line(rows: u64) -> Line
@@ -57,16 +52,4 @@ pub fn end_line(rows: u64, days: u32) -> Line
     push_count(&mut line, b" days ", u64::from(days));
     push_bytes(&mut line, b"\n");
     line
-}
-
-// Appends a number behind its name.
-#[tactic(auto, unfolding(station_base::specs::NumberText::number_text))]
-pub fn push_count(line: &mut Line, name: &[u8], number: u64)
-    requires { array_vec_len line.old + length name.now + DIGITS ≤ LINE_ROOM }
-    ensures text { line.new.items ≡ line.old.items ++ named_number name.now number }
-    ensures length { array_vec_len line.new ≤ array_vec_len line.old + length name.now + DIGITS }
-{
-    let mut digits = Buffer::new();
-    push_bytes(line, name);
-    push_bytes(line, digits.format(number).as_bytes());
 }

@@ -3,8 +3,8 @@ ghost use Rattle.arrayvec.specs.ArrayVec.{array_vec_len};
 ghost use Rattle.station_replay.specs.Texts.{ending_text, rows_counted};
 ghost use Rattle.schedule_replay.specs.RoundLine.{ending_of, round_line_text};
 
-use crate::line::{DIGITS, Line, push_count};
-use station_base::{LINE_ROOM, push_bytes};
+use crate::line::Line;
+use station_base::{DIGITS, LINE_ROOM, push_bytes, push_count};
 
 // The most bytes of a word that tells how a round ended, and of one before a number that not every line has.
 const WORD: usize = 6;

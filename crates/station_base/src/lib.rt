@@ -22,4 +22,4 @@ pub use laws::{text_names_stamp, words_order_as_time};
 pub use period::Period;
 pub use row::{LINE_ROOM, Row};
 pub use stamp::Stamp;
-pub use text::{push_bytes, push_number, push_signed};
+pub use text::{DIGITS, push_bytes, push_count, push_number, push_signed};

@@ -17,5 +17,5 @@ pub use by_row::{listing, rows_from};
 pub use days::summary_of;
 pub use end::ReportEnd;
 pub use laws::days_are_recomputed;
-pub use line::{DIGITS, PIECE, Pending, ROOM, push_count, push_signed};
+pub use line::{PIECE, Pending, ROOM, push_signed};
 pub use printing::{finish, make_room};

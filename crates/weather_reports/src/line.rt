@@ -1,5 +1,5 @@
 ghost use Rattle.std.specs.Prelude.{◌≡◌, ◌+◌, ◌<◌, ◌≤◌, ◌++◌, codes, length};
-ghost use Rattle.std.specs.Fmt.{decimal, signed_decimal};
+ghost use Rattle.std.specs.Fmt.{signed_decimal};
 ghost use Rattle.arrayvec.specs.ArrayVec.{array_vec_len};
 ghost use Rattle.station_base.specs.Stamp.{stamp_text};
 ghost use Rattle.weather_reports.specs.Line.{sum_line, sum_text};
@@ -7,7 +7,7 @@ ghost use Rattle.weather_reports.specs.Line.{sum_line, sum_text};
 use arrayvec::ArrayVec;
 use daily_summary::FieldSum;
 use itoa::Buffer;
-use station_base::{FieldId, LINE_ROOM, Stamp, push_bytes};
+use station_base::{DIGITS, FieldId, LINE_ROOM, Stamp, push_bytes, push_count};
 
 /// From how many bytes on the lines that wait are written.
 pub const PIECE: usize = 8192;
@@ -17,9 +17,6 @@ pub const ROOM: usize = PIECE + LINE_ROOM;
 
 /// Lines that wait to be written.
 pub type Pending = ArrayVec<u8, ROOM>;
-
-/// The most digits of a number of 64 bits, with its sign.
-pub const DIGITS: usize = 20;
 
 // The bytes of a stamp's text.
 const STAMP: usize = 16;
@@ -76,17 +73,6 @@ fn push_extreme(pending: &mut Pending, name: &[u8], value: i32, at: Stamp)
 pub fn push_signed(pending: &mut Pending, name: &[u8], number: i64)
     requires { array_vec_len pending.old + length name.now + DIGITS ≤ ROOM }
     ensures text { pending.new.items ≡ pending.old.items ++ name.now ++ signed_decimal number }
-    ensures length { array_vec_len pending.new ≤ array_vec_len pending.old + length name.now + DIGITS }
-{
-    let mut digits = Buffer::new();
-    push_bytes(pending, name);
-    push_bytes(pending, digits.format(number).as_bytes());
-}
-
-/// The same of a number that is not negative.
-pub fn push_count(pending: &mut Pending, name: &[u8], number: u64)
-    requires { array_vec_len pending.old + length name.now + DIGITS ≤ ROOM }
-    ensures text { pending.new.items ≡ pending.old.items ++ name.now ++ decimal number }
     ensures length { array_vec_len pending.new ≤ array_vec_len pending.old + length name.now + DIGITS }
 {
     let mut digits = Buffer::new();
