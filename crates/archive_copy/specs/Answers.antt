@@ -12,11 +12,12 @@ use Rattle.archive_copy.specs.declared.end.CopyEnd.TheVariants.{Done, FromNotArc
 use Rattle.archive_copy.specs.declared.end.CopyEnd.TheVariants.{ToNotArchive, ToOldVersion, ToDamaged}
 use Rattle.archive_copy.specs.declared.end.CopyEnd.TheVariants.{NotPrefix, FromFault, ToFault, OutOfMemory}
 use Rattle.archive_copy.specs.Comparing.{IsFirstUnlike}
+use Rattle.station_base.specs.Limits.{most_rows}
 
 -- the file has these rows, which are not too many to be copied
 pub record CanBeCopied (from : List ℕ) (theirs : List Row) : Type 0 where
   pub holds_them : rows_of from ≡ holds theirs
-  pub few : length theirs ≤ 1048576
+  pub few : length theirs ≤ most_rows
 
 -- the file has these rows, and more may be added to it
 pub record CanBeAddedTo (to : List ℕ) (mine : List Row) : Type 0 where
@@ -27,7 +28,7 @@ pub record CanBeAddedTo (to : List ℕ) (mine : List Row) : Type 0 where
 abbrev pub RefusesFrom : CopyEnd → List ℕ → Type 0
 RefusesFrom (FromNotArchive bytes) from = (rows_of from ≡ not_archive) × (bytes ≡ take 8 from)
 RefusesFrom (FromDamaged place) from = rows_of from ≡ damaged place
-RefusesFrom (Full n) from = (theirs : List Row) × (rows_of from ≡ holds theirs) × (n ≡ length theirs) × (1048576 < n)
+RefusesFrom (Full n) from = (theirs : List Row) × (rows_of from ≡ holds theirs) × (n ≡ length theirs) × (most_rows < n)
 RefusesFrom FromFault from = Unit {0}
 RefusesFrom OutOfMemory from = Unit {0}
 RefusesFrom other from = ⊥

@@ -11,6 +11,7 @@ ghost use Rattle.packed_rows.specs.Rising.{RowsRiseAfter};
 ghost use Rattle.weather_book.specs.Stands.{StandsOn, StandsToReadOn};
 ghost use Rattle.archive_copy.specs.Adding.{HasOldOrAll, HasSome, IsOfAdding, MovedBy, batch_count};
 ghost use Rattle.archive_copy.specs.Calls.{AddsBatches, add_failed, copy_batch_changes, is_from_fault, is_to_fault, failed_answer, slots_end};
+ghost use Rattle.station_base.specs.Limits.{most_rows};
 
 use crate::CopyEnd;
 use crate::batch::{BatchRead, next_batch};
@@ -76,8 +77,8 @@ pub fn add_missing<D: Disk, E: Disk>(
 ) -> CopyEnd
     requires room { MayBegin E.medium (4 * batch_count (len_of theirs.now - len_of mine.old)) to.old }
     requires fresh { book_is_stale mine.old ≡ false }
-    requires most { most_rows_of mine.old ≡ 1048576 }
-    requires few { len_of theirs.now ≤ 1048576 }
+    requires most { most_rows_of mine.old ≡ most_rows }
+    requires few { len_of theirs.now ≤ most_rows }
     requires no_more { len_of mine.old ≤ len_of theirs.now }
     ensures kind { IsOfAdding result (len_of theirs.now) }
     ensures in_order { result ≡ CopyEnd.FromDamaged 0 → (theirs_rows mine_rows : List Row)

@@ -8,10 +8,11 @@ ghost use Rattle.weather_book.specs.Book.{book_is_stale, len_of, most_rows_of};
 ghost use Rattle.weather_book.specs.Stands.{HasRows, NowHasRows, ReadsRows, StandsOn, StandsToReadOn};
 ghost use Rattle.archive_copy.specs.Calls.{from_opened_failed, slots_opened, to_opened_failed};
 ghost use Rattle.archive_copy.specs.Opening.{IsOfFrom, IsOfTo, OpensFrom, OpensTo};
+ghost use Rattle.station_base.specs.Limits.{most_rows};
 
 use crate::CopyEnd;
-use crate::limits::MOST_ROWS;
 use disk_model::Disk;
+use station_base::MOST_ROWS;
 use std::alloc::Global;
 use weather_book::{Book, BookStart, Purpose};
 
@@ -19,7 +20,7 @@ use weather_book::{Book, BookStart, Purpose};
 pub fn open_from<D: Disk>(alloc: Global, from: &mut D) -> Result<Book, CopyEnd>
     ensures finds { WhereTold (D.medium.seen from.old) (OpensFrom result) }
     ensures kind { IfErr result IsOfFrom }
-    ensures few { IfOk result (λ book. len_of book ≤ 1048576) }
+    ensures few { IfOk result (λ book. len_of book ≤ most_rows) }
     ensures stays { Stays D.medium from.old from.new }
     ensures cause { Faults D.medium from.old from.new (result ≡ Err CopyEnd.FromFault) }
     ensures went { RecoveryCalls D.medium from.old from.new 0 (slots_opened result) (from_opened_failed result) }
@@ -45,7 +46,7 @@ pub fn open_to<E: Disk>(alloc: Global, to: &mut E) -> Result<Book, CopyEnd>
     requires { MayBegin E.medium 3 to.old }
     ensures finds { WhereTold (E.medium.seen to.old) (OpensTo result) }
     ensures kind { IfErr result IsOfTo }
-    ensures fresh { IfOk result (λ book. (book_is_stale book ≡ false) × (most_rows_of book ≡ 1048576)) }
+    ensures fresh { IfOk result (λ book. (book_is_stale book ≡ false) × (most_rows_of book ≡ most_rows)) }
     ensures cause { Faults E.medium to.old to.new (result ≡ Err CopyEnd.ToFault) }
     ensures begun { BeginsChanges E.medium 3 to.old to.new }
     ensures moved { IfOk result

@@ -11,24 +11,25 @@ use Rattle.archive_record.specs.Record.{IsRecord}
 use Rattle.archive_record.specs.Table.{place, field_places, places, place_of}
 use Rattle.archive_record.proofs.Once.{told_once, raw_small, raw_once, word_once}
 use Rattle.archive_record.proofs.Tiles.{all_below, all_below-at, or_parts, end_of}
+use Rattle.station_base.specs.Fields.{field_count}
 
 -- the field whose number the byte is of, by search from the last
 owner : ℕ → ℕ → ℕ
-owner zero i = 37
+owner zero i = field_count
 owner (suc field) i = cond (nat_le (place_of field).offset i && nat_lt i (end_of (place_of field))) field (owner field i)
 
 -- a byte of the stamp or the revision, or of a field
 covers : ℕ → Bool
 covers i =
-    let field = owner 37 i in
-    nat_lt i 4 || (nat_eq i 42 || (nat_lt field 37 && (nat_le (place_of field).offset i && nat_lt i (end_of (place_of field)))))
+    let field = owner field_count i in
+    nat_lt i 4 || (nat_eq i 42 || (nat_lt field field_count && (nat_le (place_of field).offset i && nat_lt i (end_of (place_of field)))))
 
 all_covered : all_below record_size covers ≡ true
 unfolding all_below covers owner places field_places
 all_covered = refl
 
 record IsOfField (i field : ℕ) : Type 0 where
-  within : field < 37
+  within : field < field_count
   from : (place_of field).offset ≤ i
   to : i < end_of (place_of field)
 
@@ -41,7 +42,7 @@ le_of m n test = grind (arith, nat_tests)
 eq_of : (m n : ℕ) → nat_eq m n ≡ true → m ≡ n
 eq_of m n test = grind (arith, nat_tests)
 
-covered : (i : ℕ) → i < record_size → (i < 4) ⊎ ((i ≡ 42) ⊎ IsOfField i (owner 37 i))
+covered : (i : ℕ) → i < record_size → (i < 4) ⊎ ((i ≡ 42) ⊎ IsOfField i (owner field_count i))
 unfolding covers
 covered i within =
     elim (or_parts _ _ (all_below-at record_size covers i all_covered within)) [
@@ -57,7 +58,7 @@ halves : (i : ℕ) → (i < 2) ⊎ (2 ≤ i)
 halves i = grind arith
 
 -- what a record tells of a field
-pub values_in-at : (bytes : List ℕ) (field : ℕ) → field < 37 → get_or (record_values bytes) field None ≡ value_in bytes (place_of field)
+pub values_in-at : (bytes : List ℕ) (field : ℕ) → field < field_count → get_or (record_values bytes) field None ≡ value_in bytes (place_of field)
 unfolding places field_places
 values_in-at bytes field within = get_or-map (value_in bytes) places field (place 0 Byte None) None within
 
@@ -86,5 +87,5 @@ same_record a b a_is b_is date time revision values =
         elim (covered i (omega (arith, a_is.long))) [
           | inl stamp ↦ of_stamp i stamp
           | inr (inl revision_at) ↦ rw revision_at revision
-          | inr (inr field) ↦ of_field i (owner 37 i) field
+          | inr (inr field) ↦ of_field i (owner field_count i) field
         ]

@@ -12,6 +12,7 @@ use Rattle.archive_record.specs.Table.{field_places, places, place}
 use Rattle.archive_record.specs.declared.kind.Kind.TheVariants.{Byte}
 use Rattle.station_base.specs.declared.row.Row.{Row}
 use Rattle.archive_record.specs.Writing.{CanHoldAll, can_hold_all, can_tell}
+use Rattle.station_base.specs.Fields.{field_count}
 
 le_to : (a b : ℤ) → int_le a b ≡ true → a ≤ℤ b
 le_to a b h = search rules
@@ -65,7 +66,7 @@ all_from (p ∷ ps) (v ∷ vs) d h =
     let rest : can_hold_all ps vs ≡ true = all_from ps vs d (λ i below. h (suc i) (omega arith)) in
     rw (first, rest) refl
 
-length-places : length places ≡ 37
+length-places : length places ≡ field_count
 unfolding places field_places
 length-places = refl
 

@@ -9,6 +9,7 @@ use Rattle.archive_record.specs.Kind.{width_of}
 use Rattle.archive_record.specs.Place.{IsPlace, record_size}
 use Rattle.archive_record.specs.Table.{place, field_places, places, place_of}
 use Rattle.archive_record.specs.declared.kind.Kind.TheVariants.{Byte}
+use Rattle.station_base.specs.Fields.{field_count}
 
 -- where a place ends
 abbrev pub end_of : Place → ℕ
@@ -42,7 +43,7 @@ fits field =
     nat_le 4 place.offset && nat_le (end_of place) record_size && mark_fits place.mark (width_of place.kind)
     && (nat_le (end_of place) 42 || nat_le 43 place.offset)
 
-all_fit : all_below 37 fits ≡ true
+all_fit : all_below field_count fits ≡ true
 unfolding all_below fits mark_fits places field_places
 all_fit = refl
 
@@ -60,14 +61,14 @@ mark_raw (Some mark) width fit raw is =
     let same : mark ≡ raw = cc in
     let P : ℕ → Type 0 = λ n. n < 256 ^ width in subst P same small
 
-fit_parts : (field : ℕ) → field < 37 → let place = place_of field in
+fit_parts : (field : ℕ) → field < field_count → let place = place_of field in
     (nat_le 4 place.offset ≡ true) × (nat_le (end_of place) record_size ≡ true) × (mark_fits place.mark (width_of place.kind) ≡ true)
     × ((nat_le (end_of place) 42 || nat_le 43 place.offset) ≡ true)
 unfolding fits
-fit_parts field within = parts_of _ _ _ _ (all_below-at 37 fits field all_fit within)
+fit_parts field within = parts_of _ _ _ _ (all_below-at field_count fits field all_fit within)
 
 -- the places of the table lie within a record
-pub place_is : (field : ℕ) → field < 37 → IsPlace (place_of field)
+pub place_is : (field : ℕ) → field < field_count → IsPlace (place_of field)
 place_is field within =
     let parts = fit_parts field within in
     record { from = le_of _ _ parts.0; to = le_of _ _ parts.1; mark = mark_raw (place_of field).mark (width_of (place_of field).kind) parts.2 }
@@ -77,7 +78,7 @@ or_parts true b any = inl refl
 or_parts false b any = inr any
 
 -- and not over the byte of the revision
-pub beside_revision : (field : ℕ) → field < 37 → (end_of (place_of field) ≤ 42) ⊎ (43 ≤ (place_of field).offset)
+pub beside_revision : (field : ℕ) → field < field_count → (end_of (place_of field) ≤ 42) ⊎ (43 ≤ (place_of field).offset)
 beside_revision field within =
     elim (or_parts _ _ (fit_parts field within).3) [
       | inl before ↦ inl (le_of _ _ before)
@@ -85,20 +86,20 @@ beside_revision field within =
     ]
 
 -- a read of the table at any default
-pub place_at : (field : ℕ) (d : Place) → field < 37 → get_or places field d ≡ place_of field
+pub place_at : (field : ℕ) (d : Place) → field < field_count → get_or places field d ≡ place_of field
 unfolding places field_places
 place_at field d within = get_or_default places field d (place 0 Byte None) within
 
 follows : ℕ → ℕ → Bool
 follows later earlier = nat_le (end_of (place_of earlier)) (place_of later).offset
 
-all_follow : all_below 37 (λ later. all_below later (follows later)) ≡ true
+all_follow : all_below field_count (λ later. all_below later (follows later)) ≡ true
 unfolding all_below follows places field_places
 all_follow = refl
 
 -- a place ends where a later one begins, or before it
-pub ends_before : (earlier later : ℕ) → earlier < later → later < 37 → end_of (place_of earlier) ≤ (place_of later).offset
+pub ends_before : (earlier later : ℕ) → earlier < later → later < field_count → end_of (place_of earlier) ≤ (place_of later).offset
 unfolding follows
 ends_before earlier later before within =
-    let test = all_below-at later (follows later) earlier (all_below-at 37 (λ l. all_below l (follows l)) later all_follow within) before in
+    let test = all_below-at later (follows later) earlier (all_below-at field_count (λ l. all_below l (follows l)) later all_follow within) before in
     grind (arith, nat_tests)

@@ -8,10 +8,11 @@ use Rattle.archive_record.specs.Kind.{word_at}
 use Rattle.archive_record.specs.Place.{CanHold, can_hold}
 use Rattle.archive_record.specs.Reading.{record_values}
 use Rattle.archive_record.specs.Table.{places, place_of}
+use Rattle.station_base.specs.Fields.{field_count}
 
 -- each field's place can hold its value
 abbrev pub CanHoldAll : List (Option ℤ) → Type 0
-CanHoldAll values = (field : ℕ) → field < 37 → CanHold (place_of field) (slice_index_or values field None)
+CanHoldAll values = (field : ℕ) → field < field_count → CanHold (place_of field) (slice_index_or values field None)
 
 -- `CanHoldAll` as a test: each place can hold its value, and one behind the last value holds none
 abbrev pub can_hold_all : List Place → List (Option ℤ) → Bool

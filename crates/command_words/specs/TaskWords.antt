@@ -10,6 +10,7 @@ use Rattle.numerals.specs.Then.{◌>>=◌, only_if}
 use Rattle.command_words.specs.declared.task.Task.{Task}
 use Rattle.command_words.specs.declared.task.Task.TheVariants.{Packets, ReadMemory, WriteMemory, ReadClock, SetClock}
 use Rattle.command_words.specs.declared.task.Task.TheVariants.{SetPeriod, Kind}
+use Rattle.eeprom_map.specs.Memory.{eeprom_size}
 
 -- `N`, 1 to 32 packets
 abbrev pub packets_task_in : List (List ℕ) → Option Task
@@ -21,7 +22,7 @@ unfoldable pub reading_in : List (List ℕ) → Option Task
 reading_in (place ∷ number ∷ []) = do
   at ← number_in 16 3 place
   count ← command_number_within 1 255 number
-  only_if (nat_le (at + count) 4096) (ReadMemory at count)
+  only_if (nat_le (at + count) eeprom_size) (ReadMemory at count)
 reading_in words = None
 
 -- `AT HEX`: such a place, and the bytes that are written there
@@ -29,7 +30,7 @@ unfoldable pub writing_in : List (List ℕ) → Option Task
 writing_in (place ∷ hex ∷ []) = do
   at ← number_in 16 3 place
   bytes ← bytes_of hex
-  only_if (nat_le (at + length bytes) 4096) (WriteMemory at (record { items = bytes }))
+  only_if (nat_le (at + length bytes) eeprom_size) (WriteMemory at (record { items = bytes }))
 writing_in words = None
 
 -- `read ..` or `write ..`

@@ -8,11 +8,12 @@ use crate::clock_words::read_second;
 use crate::numbers::read_within;
 use crate::task::{MOST_BYTES, Task};
 use console_tasks::MOST_PACKETS;
+use eeprom_map::EEPROM_SIZE;
 use numerals::{HEXADECIMAL, read_number, read_pairs};
 use station_base::Period;
 
 // The bytes of a console's memory.
-const MEMORY: usize = 4096;
+const MEMORY: usize = EEPROM_SIZE as usize;
 
 // The most digits of a place in it.
 const PLACE_DIGITS: usize = 3;

@@ -25,6 +25,7 @@ use Rattle.commands.specs.AnswerRun.{answers, answers_over, queries_output}
 use Rattle.commands.specs.ReportRun.{FileHoldsRows, TellsArchive}
 use Rattle.commands.proofs.RecoveryLaws.{recovers_causes}
 use Rattle.commands.proofs.ReportLaws.{IsReported, told_ends}
+use Rattle.station_base.specs.Limits.{most_rows}
 
 -- the link's faults go before one of the disk
 abbrev pub cut_off : List Status
@@ -86,7 +87,7 @@ pub answers_over_causes : {F K L D : Type 0} (m : Meanings F K L D) (archive add
     → CausesBut m (EndsAmong cut_off) (answers_over m archive address turns)
 answers_over_causes m archive address turns =
     then_causes_but m (EndsAmong cut_off) _ _ (attaches_causes m archive false) (λ _.
-    then_causes_but m (EndsAmong cut_off) _ _ (recovers_causes m 1048576 Read) (λ book.
+    then_causes_but m (EndsAmong cut_off) _ _ (recovers_causes m most_rows Read) (λ book.
     then_causes_but m (EndsAmong cut_off) _ _ (calls_causes m Serve address) (λ _. answers_causes m turns book)
     (λ output is. inr (inl is))) (λ output is. inr (inl is))) (λ output is. inr (inl is))
 

@@ -27,6 +27,7 @@ use Rattle.run_output.proofs.Causes.{Causes, same_cause, same_count, then_causes
 use Rattle.run_output.proofs.Statuses.{attach_ends, ends_so, has_status}
 use Rattle.commands.specs.CopyRun.{CanCopy, TellArchives, copies, copies_on, copy_output}
 use Rattle.commands.proofs.ReportLaws.{IsReported}
+use Rattle.station_base.specs.Limits.{most_rows}
 
 -- the status is that of a disk fault where a disk failed, and none of files, sink or link
 of_disks : (end : CopyEnd) → (copy_output end).status ≡ ends.DiskFault → (end ≡ copied.FromFault) ⊎ (end ≡ copied.ToFault)
@@ -88,7 +89,7 @@ copies_on_causes m from to =
     then_causes m _ _ (attaches_causes m from false) (λ _. then_causes m _ _ (second_attaches_causes m to true) (λ _. copies_causes m))
 
 -- rows that are not too many are not more than there may be
-not_full : (mine rows : List Row) (n : ℕ) → holds mine ≡ holds rows → length mine ≤ 1048576 → n ≡ length rows → 1048576 < n → ⊥
+not_full : (mine rows : List Row) (n : ℕ) → holds mine ≡ holds rows → length mine ≤ most_rows → n ≡ length rows → most_rows < n → ⊥
 not_full mine rows n same few is many = let rows_are : mine ≡ rows = cc in omega (arith, few, many, is, ap (λ (r : List Row). length r) rows_are)
 
 -- rows that are the first of others have none that is unlike

@@ -30,6 +30,7 @@ use Rattle.run_output.proofs.Statuses.{attach_ends, ends_so, has_status}
 use Rattle.commands.specs.Recovery.{book_found}
 use Rattle.commands.specs.ReportRun.{FileHoldsRows, TellsArchive, lines_wanted, report_given, reports, reports_lines, reports_on}
 use Rattle.commands.proofs.RecoveryLaws.{recovers_causes}
+use Rattle.station_base.specs.Limits.{most_rows}
 
 -- written, unless a disk fault, a write fault or want of memory kept the command from that
 abbrev pub reported : List Status
@@ -91,7 +92,7 @@ reports_causes {F} {K} {L} {D} m lines book old new result did =
 pub reports_lines_causes : {F K L D : Type 0} (m : Meanings F K L D) (archive : List ℕ) (lines : List Row → List (List ℕ))
     → Causes m (reports_lines m archive lines)
 reports_lines_causes m archive lines =
-    then_causes m _ _ (attaches_causes m archive false) (λ _. then_causes m _ _ (recovers_causes m 1048576 Read) (λ book. reports_causes m lines book))
+    then_causes m _ _ (attaches_causes m archive false) (λ _. then_causes m _ _ (recovers_causes m most_rows Read) (λ book. reports_causes m lines book))
 
 -- a report has causes
 pub reports_on_causes : {F K L D : Type 0} (m : Meanings F K L D) (archive : List ℕ) (wanted : Wanted) → Causes m (reports_on m archive wanted)

@@ -8,7 +8,7 @@ use Rattle.std.specs.declared.result.Result.{Result}
 use Rattle.loop_packet.proofs.Inverse.{tells_one}
 use Rattle.loop_packet.specs.declared.packet.LoopPacket.{LoopPacket}
 use Rattle.settings_file.specs.StationSettings.{StationSettings}
-use Rattle.soft_record.specs.Entry.{SpellsEntry}
+use Rattle.soft_record.specs.Entry.{SpellsEntry, packet_entry_size}
 use Rattle.soft_record.specs.Given.{AreGood, EntryCanFollow}
 use Rattle.soft_record.specs.Interval.{last_entry}
 use Rattle.soft_record.specs.declared.entry.Entry.{Entry}
@@ -64,17 +64,17 @@ spells_one bytes one other first second =
     same
 
 -- where more entries are good behind these, the next one is
-next_is_good : (period : ℕ) (before : Option Entry) (file : List ℕ) (entries all : List Entry) → AllZip SpellsEntry (first_chunks 104 (length entries) file) entries
-    → AllZip SpellsEntry (first_chunks 104 (length all) file) all → AreGood period before all → length entries < length all
-    → (e : Entry) × SpellsEntry (take 104 (drop (104 * length entries) file)) e × EntryCanFollow period (last_entry before entries) e
+next_is_good : (period : ℕ) (before : Option Entry) (file : List ℕ) (entries all : List Entry) → AllZip SpellsEntry (first_chunks packet_entry_size (length entries) file) entries
+    → AllZip SpellsEntry (first_chunks packet_entry_size (length all) file) all → AreGood period before all → length entries < length all
+    → (e : Entry) × SpellsEntry (take packet_entry_size (drop (packet_entry_size * length entries) file)) e × EntryCanFollow period (last_entry before entries) e
 next_is_good period before file [] [] spelled theirs good more = absurd (omega arith)
 next_is_good period before file [] (e ∷ all) spelled theirs good more = (e, theirs.0, good.0)
 next_is_good period before file (x ∷ entries) [] spelled theirs good more = absurd (omega arith)
 next_is_good period before file (x ∷ entries) (y ∷ all) spelled theirs good more =
-    let same = spells_one (take 104 file) x y spelled.0 theirs.0 in
-    let next = next_is_good period (Some x) (drop 104 file) entries all spelled.1 theirs.1
+    let same = spells_one (take packet_entry_size file) x y spelled.0 theirs.0 in
+    let next = next_is_good period (Some x) (drop packet_entry_size file) entries all spelled.1 theirs.1
     (subst (λ (e : Entry). AreGood period (Some e) all) (sym same) good.1) (omega arith) in
-    (next.0, subst (λ (xs : List ℕ). SpellsEntry (take 104 xs) next.0) (sym (behind_one file (length entries))) next.1, next.2)
+    (next.0, subst (λ (xs : List ℕ). SpellsEntry (take packet_entry_size xs) next.0) (sym (behind_one file (length entries))) next.1, next.2)
 
 none_is_bad : (period : ℕ) (file : List ℕ) (entries : List Entry) → IsEntryFile period file → BeginsWithEntries period file entries
     → ¬ IsBadBehind period file entries

@@ -9,7 +9,7 @@ use Rattle.causes.specs.Cause.{Rose}
 use Rattle.causes.specs.Written.{Leaves, WritesPart}
 use Rattle.causes.proofs.WritesInTurn.{leaves_less}
 use Rattle.settings_file.specs.StationSettings.{StationSettings}
-use Rattle.soft_record.specs.Entry.{SpellsEntry}
+use Rattle.soft_record.specs.Entry.{SpellsEntry, packet_entry_size}
 use Rattle.soft_record.specs.Given.{AreRows, IsGood}
 use Rattle.soft_record.specs.Standing.{SoftRecordFinishes, SoftRecordStandsFor, TakesEntry}
 use Rattle.soft_record.specs.declared.entry.Entry.{Entry}
@@ -25,27 +25,27 @@ use Rattle.run_output.proofs.PrintedPieces.{left_streams, part_streams}
 use Rattle.commands.specs.SoftRun.{bad_entry, corrected_row_line, corrected_row_lines, no_more, streams_soft}
 
 -- what comes behind one entry more
-pub behind_one : (file : List ℕ) (n : ℕ) → drop (104 * suc n) file ≡ drop (104 * n) (drop 104 file)
-behind_one file n = let more : 104 * suc n ≡ 104 + 104 * n = omega arith in rw more (sym (drop-drop (104 * n) 104 file))
+pub behind_one : (file : List ℕ) (n : ℕ) → drop (packet_entry_size * suc n) file ≡ drop (packet_entry_size * n) (drop packet_entry_size file)
+behind_one file n = let more : packet_entry_size * suc n ≡ packet_entry_size + packet_entry_size * n = omega arith in rw more (sym (drop-drop (packet_entry_size * n) packet_entry_size file))
 
 -- the next piece is that of the next entry
-spelled_more : (file : List ℕ) (entries : List Entry) (e : Entry) → AllZip SpellsEntry (first_chunks 104 (length entries) file) entries
-    → SpellsEntry (take 104 (drop (104 * length entries) file)) e → AllZip SpellsEntry (first_chunks 104 (length (entries ++ e ∷ [])) file) (entries ++ e ∷ [])
+spelled_more : (file : List ℕ) (entries : List Entry) (e : Entry) → AllZip SpellsEntry (first_chunks packet_entry_size (length entries) file) entries
+    → SpellsEntry (take packet_entry_size (drop (packet_entry_size * length entries) file)) e → AllZip SpellsEntry (first_chunks packet_entry_size (length (entries ++ e ∷ [])) file) (entries ++ e ∷ [])
 spelled_more file [] e all is = (is, tt)
-spelled_more file (x ∷ entries) e all is = (all.0, spelled_more (drop 104 file) entries e all.1 (rw behind_one at is))
+spelled_more file (x ∷ entries) e all is = (all.0, spelled_more (drop packet_entry_size file) entries e all.1 (rw behind_one at is))
 
 -- a piece is the first 104 bytes of what is ahead, or all of it
-piece_is : (ahead piece rest : List ℕ) → ahead ≡ piece ++ rest → length piece ≡ min 104 (length ahead) → (piece ≡ take 104 ahead) × (rest ≡ drop 104 ahead)
+piece_is : (ahead piece rest : List ℕ) → ahead ≡ piece ++ rest → length piece ≡ min packet_entry_size (length ahead) → (piece ≡ take packet_entry_size ahead) × (rest ≡ drop packet_entry_size ahead)
 piece_is ahead piece rest parts size =
     let sum = ap length parts ∙ length-append piece rest in
-    elim (cases_lt (length ahead) 104) [
+    elim (cases_lt (length ahead) packet_entry_size) [
       | inl short ↦
           let none : rest ≡ [] = nil_from_length rest (omega arith) in
           let all : ahead ≡ piece = parts ∙ ap (λ (xs : List ℕ). piece ++ xs) none ∙ append-nil piece in
-          (sym all ∙ sym (take_all 104 ahead (omega arith)), none ∙ sym (drop_all 104 ahead (omega arith)))
+          (sym all ∙ sym (take_all packet_entry_size ahead (omega arith)), none ∙ sym (drop_all packet_entry_size ahead (omega arith)))
       | inr long ↦
-          let size_is : length piece ≡ 104 = omega arith in
-          (sym (ap (take 104) parts ∙ take_at piece rest 104 size_is), sym (ap (drop 104) parts ∙ drop_at piece rest 104 size_is))
+          let size_is : length piece ≡ packet_entry_size = omega arith in
+          (sym (ap (take packet_entry_size) parts ∙ take_at piece rest packet_entry_size size_is), sym (ap (drop packet_entry_size) parts ∙ drop_at piece rest packet_entry_size size_is))
     ]
 
 -- more waits, of more
@@ -74,30 +74,30 @@ pub record StandsAt (settings : StationSettings) (file : List ℕ) (old now : Op
   pub entries : List Entry
   pub rows : List Row
   pub stands : SoftRecordStandsFor soft settings.period entries rows
-  pub spelled : AllZip SpellsEntry (first_chunks 104 (length entries) file) entries
+  pub spelled : AllZip SpellsEntry (first_chunks packet_entry_size (length entries) file) entries
   pub count : length entries ≡ number
-  pub ahead_is : ahead ≡ drop (104 * length entries) file
-  pub within : 104 * length entries ≤ length file
+  pub ahead_is : ahead ≡ drop (packet_entry_size * length entries) file
+  pub within : packet_entry_size * length entries ≤ length file
   pub waits : Leaves old now (corrected_row_lines settings rows) pending
 
 module _ (settings : StationSettings) (file : List ℕ) (old now : Option (List ℕ)) (soft : SoftRecord) (ahead : List ℕ) (number : ℕ)
     (pending : List ℕ) (at : StandsAt settings file old now soft ahead number pending) (piece rest : List ℕ) (parts : ahead ≡ piece ++ rest)
-    (size : length piece ≡ min 104 (length ahead)) where
+    (size : length piece ≡ min packet_entry_size (length ahead)) where
   -- with one entry more, whose row the record gave or not
   with_entry : (new : SoftRecord) (e : Entry) (rows : List Row) (text : List ℕ) → SpellsEntry piece e → SoftRecordStandsFor new settings.period (at.entries ++ e ∷ []) rows
       → Leaves old now (corrected_row_lines settings rows) text → StandsAt settings file old now new rest (number + 1) text
   with_entry new e rows text spelled stands waits =
       let is = piece_is ahead piece rest parts size in
-      let there = is.0 ∙ ap (take 104) at.ahead_is in
+      let there = is.0 ∙ ap (take packet_entry_size) at.ahead_is in
       let more = length_push at.entries e in
-      let next : 104 * length at.entries + 104 ≡ 104 * length (at.entries ++ e ∷ []) = omega (arith, more) in
+      let next : packet_entry_size * length at.entries + packet_entry_size ≡ packet_entry_size * length (at.entries ++ e ∷ []) = omega (arith, more) in
       record {
         entries = at.entries ++ e ∷ [];
         rows = rows;
         stands = stands;
         spelled = spelled_more file at.entries e at.spelled (subst (λ (xs : List ℕ). SpellsEntry xs e) there spelled);
         count = more ∙ ap (λ (n : ℕ). n + 1) at.count;
-        ahead_is = is.1 ∙ ap (drop 104) at.ahead_is ∙ drop-drop 104 (104 * length at.entries) file ∙ rw next refl;
+        ahead_is = is.1 ∙ ap (drop packet_entry_size) at.ahead_is ∙ drop-drop packet_entry_size (packet_entry_size * length at.entries) file ∙ rw next refl;
         within = omega (arith, spelled.size, size, more, ap length at.ahead_is, length-drop {A = ℕ});
         waits = waits;
       }
@@ -149,11 +149,11 @@ module _ {S : Type 0} (outlet : Outlet S) (settings : StationSettings) (file : L
   }
 
   -- the next entry is bad
-  pub streams-bad : (piece rest : List ℕ) (new : SoftRecord) → ahead ≡ piece ++ rest → length piece ≡ min 104 (length ahead) → 0 < length ahead
+  pub streams-bad : (piece rest : List ℕ) (new : SoftRecord) → ahead ≡ piece ++ rest → length piece ≡ min packet_entry_size (length ahead) → 0 < length ahead
       → TakesEntry soft settings.period at.entries at.rows piece Bad new → output_of result ≡ led_by pending (bad_entry number)
       → streams_soft outlet settings file old result now
   streams-bad piece rest new parts size some took given =
-      let there = (piece_is ahead piece rest parts size).0 ∙ ap (take 104) at.ahead_is in
+      let there = (piece_is ahead piece rest parts size).0 ∙ ap (take packet_entry_size) at.ahead_is in
       let more = bad_entry (length at.entries) in
       record {
         entries = at.entries;

@@ -28,6 +28,7 @@ use Rattle.weather_book.specs.Book.{BookStandsFor}
 use Rattle.weather_book.specs.Stands.{ReadsRows}
 use Rattle.weather_book.specs.declared.book.Book.{Book}
 use Rattle.commands.specs.Recovery.{recovers}
+use Rattle.station_base.specs.Limits.{most_rows}
 
 -- `queries`, and how many lines were answered
 abbrev pub queries_line : ℕ → List ℕ
@@ -87,6 +88,6 @@ pub record answers {F K L D : Type 0} (m : Meanings F K L D) (turns : ℕ) (book
 abbrev pub answers_over : {F K L D : Type 0} → Meanings F K L D → List ℕ → List ℕ → ℕ → CommandStep (Outside F K L D) Lines
 answers_over m archive address turns =
     then (over_disk (attaches m.medium archive false)) (λ _.
-    then (over_disk (recovers m.medium 1048576 Read)) (λ book.
+    then (over_disk (recovers m.medium most_rows Read)) (λ book.
     then (over_link (calls m.traffic Serve address)) (λ _.
     answers m turns book)))

@@ -27,6 +27,7 @@ use Rattle.weather_reports.specs.Reported.{ReadsOver, Reports}
 use Rattle.weather_reports.specs.declared.end.ReportEnd.{ReportEnd}
 use Rattle.weather_reports.specs.declared.end.ReportEnd.TheVariants as report_end
 use Rattle.commands.specs.Recovery.{recovers}
+use Rattle.station_base.specs.Limits.{most_rows}
 
 -- the lines of a kind of report over rows and days
 abbrev pub lines_of_kind : ReportKind → DayNumber → DayNumber → List Row → List (List ℕ)
@@ -66,7 +67,7 @@ pub record reports {F K L D : Type 0} (m : Meanings F K L D) (lines : List Row �
 abbrev pub reports_lines : {F K L D : Type 0} → Meanings F K L D → List ℕ → (List Row → List (List ℕ)) → CommandStep (Outside F K L D) Lines
 reports_lines m archive lines =
     then (over_disk (attaches m.medium archive false)) (λ _.
-    then (over_disk (recovers m.medium 1048576 Read)) (λ book.
+    then (over_disk (recovers m.medium most_rows Read)) (λ book.
     reports m lines book))
 
 -- The file of this name is attached, without making it, its archive is recovered to be read, and the lines that are

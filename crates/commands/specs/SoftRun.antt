@@ -6,7 +6,7 @@ use Rattle.std.specs.declared.result.Result.{Result}
 use Rattle.quality.specs.Corrected.{corrected_row}
 use Rattle.settings_file.specs.Reading.{settings_of}
 use Rattle.settings_file.specs.StationSettings.{StationSettings}
-use Rattle.soft_record.specs.Entry.{SpellsEntry}
+use Rattle.soft_record.specs.Entry.{SpellsEntry, packet_entry_size}
 use Rattle.soft_record.specs.Given.{AreGood, AreRows, AreRowsSoFar, IsGood}
 use Rattle.soft_record.specs.declared.entry.Entry.{Entry}
 use Rattle.station_base.specs.NumberText.{number_text}
@@ -43,18 +43,18 @@ no_more = record { text = []; status = Done }
 
 -- The file begins with these entries, each of 104 bytes, of which each can follow the one before.
 pub record BeginsWithEntries (period : ℕ) (file : List ℕ) (entries : List Entry) : Type 0 where
-  pub spelled : AllZip SpellsEntry (first_chunks 104 (length entries) file) entries
+  pub spelled : AllZip SpellsEntry (first_chunks packet_entry_size (length entries) file) entries
   pub good : AreGood period None entries
 
 -- What comes behind them, 104 bytes or as many as there are, is no entry that can follow.
 pub record IsBadBehind (period : ℕ) (file : List ℕ) (entries : List Entry) : Type 0 where
-  pub more : 104 * length entries < length file
-  pub bad : (e : Entry) → ¬ IsGood period entries (take 104 (drop (104 * length entries) file)) e
+  pub more : packet_entry_size * length entries < length file
+  pub bad : (e : Entry) → ¬ IsGood period entries (take packet_entry_size (drop (packet_entry_size * length entries) file)) e
 
 -- at the end of the file the rows are those of all intervals
 abbrev pub AtEnd : ℕ → List ℕ → List Entry → List Row → Output → Type 0
 AtEnd period file entries rows rest =
-    (length file ≡ 104 * length entries) × AreRows period entries rows × (rest ≡ no_more)
+    (length file ≡ packet_entry_size * length entries) × AreRows period entries rows × (rest ≡ no_more)
 
 -- before a bad entry they are those of the intervals that are over, and its line comes behind theirs
 abbrev pub BeforeBad : ℕ → List ℕ → List Entry → List Row → Output → Type 0
@@ -89,7 +89,7 @@ pub record IsEntryFile (period : ℕ) (file : List ℕ) : Type 0 where
   pub within : length file ≤ most_bytes
   pub entries : List Entry
   pub front : BeginsWithEntries period file entries
-  pub whole : length file ≡ 104 * length entries
+  pub whole : length file ≡ packet_entry_size * length entries
 
 -- both files are told: settings that are accepted, and a file of good entries by their period
 abbrev pub HasEntries : {F : Type 0} → Shelf F → List ℕ → List ℕ → F → Type 0

@@ -3,11 +3,12 @@ ghost use Rattle.commands.specs.ClimateRun.{tells_climate};
 ghost use Rattle.run_output.specs.Outside.{means};
 
 use crate::recovering::recover;
-use crate::reporting::{MOST_ROWS, given};
+use crate::reporting::given;
 use climate_table::climate;
 use disk_model::Disk;
 use run_output::{Ending, Outside, Text, attach};
 use serial_link::Link;
+use station_base::MOST_ROWS;
 use station_io::{Files, Sink};
 use std::alloc::Global;
 use weather_book::Purpose;

@@ -8,13 +8,10 @@ use itoa::Buffer;
 use query_service::{Queries, QueryEnd, answer_queries};
 use run_output::{Ending, Outside, Status, Text, attach, connect};
 use serial_link::{Link, Side};
-use station_base::push_bytes;
+use station_base::{MOST_ROWS, push_bytes};
 use station_io::{Files, Sink};
 use std::alloc::Global;
 use weather_book::{Book, Purpose};
-
-// The most rows that an archive may have.
-const MOST_ROWS: u32 = 1_048_576;
 
 /// Attaches the file of this name, which is not made where there is none, waits for a call at the address, and answers
 /// requests for the rows of the archive for so many turns.

@@ -2,6 +2,7 @@ ghost use Rattle.std.specs.Prelude.{◌≡◌, ◌≤◌};
 ghost use Rattle.commands.specs.Recovery.{bad_archive, damaged_line, not_archive_line, old_archive, recovers};
 ghost use Rattle.disk_model.specs.Disk.{MayBegin};
 ghost use Rattle.gated_log.specs.Start.{OnWrite};
+ghost use Rattle.station_base.specs.Limits.{most_rows};
 
 use disk_model::Disk;
 use itoa::Buffer;
@@ -17,7 +18,7 @@ pub fn recover<D: Disk>(
     most: u32,
     purpose: Purpose,
 ) -> Result<Book, Ending>
-    requires most { most ≤ 1048576 }
+    requires most { most ≤ most_rows }
     requires room { OnWrite purpose (MayBegin D.medium 3 disk.old) }
     ensures { recovers D.medium most purpose disk.old result disk.new }
 {

@@ -15,13 +15,11 @@ use command_words::{ReportKind, Wanted};
 use disk_model::Disk;
 use run_output::{Ending, Outside, Status, Text, attach};
 use serial_link::Link;
+use station_base::MOST_ROWS;
 use station_io::{Files, Sink};
 use std::alloc::Global;
 use weather_book::{Book, Purpose};
 use weather_reports::{ReportEnd, day_table, listing, month_table};
-
-// The most rows that an archive may have.
-pub const MOST_ROWS: u32 = 1_048_576;
 
 /// Attaches the file of this name, which is not made where there is none, and writes the report that is asked for.
 pub fn report<F: Files, K: Sink, L: Link, D: Disk>(

@@ -20,6 +20,7 @@ use Rattle.console_model.specs.Standing.{ConsoleShows, ConsoleStandsFor, Console
 use Rattle.console_model.specs.States.{console_state_of}
 use Rattle.console_model.specs.Valid.{IsValid, IsTidy}
 use Rattle.console_model.proofs.ValidConsoles.{due_valid}
+use Rattle.console_model.specs.Console.{most_held}
 
 pub answered : (o : model.Outcome) (new : Console) (r : Reply) → ConsoleGives o new r → IsValid o.next → ConsoleAnswers o new r
 answered o new r gives valid = record { tells = gives.tells; stands = record { shows = gives.shows; valid = valid } }
@@ -40,14 +41,14 @@ due_stands r k next s new stamped valid free state is shows =
     record { shows = subst (λ (x : model.Console). ConsoleShows new x) (sym same) shows; valid = due_valid r k stamped valid }
 
 -- in a dump with room for it, and in one without
-pub room_to_hold : (r : List ℕ) (k : model.Console) → length k.held < 64 → (if nat_lt (length k.held) 64 then hold r k else put r (dump_ended k)) ≡ hold r k
+pub room_to_hold : (r : List ℕ) (k : model.Console) → length k.held < most_held → (if nat_lt (length k.held) most_held then hold r k else put r (dump_ended k)) ≡ hold r k
 room_to_hold r k room =
-    let less : nat_lt (length k.held) 64 ≡ true = grind (arith, nat_tests, room) in
+    let less : nat_lt (length k.held) most_held ≡ true = grind (arith, nat_tests, room) in
     ap (λ (t : Bool). if t then hold r k else put r (dump_ended k)) less
 
-pub no_room_to_hold : (r : List ℕ) (k : model.Console) → 64 ≤ length k.held → (if nat_lt (length k.held) 64 then hold r k else put r (dump_ended k)) ≡ put r (dump_ended k)
+pub no_room_to_hold : (r : List ℕ) (k : model.Console) → most_held ≤ length k.held → (if nat_lt (length k.held) most_held then hold r k else put r (dump_ended k)) ≡ put r (dump_ended k)
 no_room_to_hold r k full =
-    let less : nat_lt (length k.held) 64 ≡ false = grind (arith, nat_tests, full) in
+    let less : nat_lt (length k.held) most_held ≡ false = grind (arith, nat_tests, full) in
     ap (λ (t : Bool). if t then hold r k else put r (dump_ended k)) less
 
 -- in no dump it is put, and nothing is held

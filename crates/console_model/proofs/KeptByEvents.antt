@@ -7,7 +7,7 @@ use Rattle.console_ring.specs.declared.plan.Plan.{Plan}
 use Rattle.console_model.specs.declared.signal.Signal.{Signal}
 use Rattle.console_model.specs.declared.signal.Signal.TheVariants.{Lf, Next, Again, Stop, Other}
 use Rattle.console_model.specs.declared.order.Order.{Order}
-use Rattle.console_model.specs.Console.{ConsoleState, Console, Outcome}
+use Rattle.console_model.specs.Console.{ConsoleState, Console, Outcome, most_held}
 use Rattle.console_model.specs.Console.ConsoleState.{Asleep, Command, Overlong, Frame, Dump, Looping}
 use Rattle.console_model.specs.Due.{in_the_way, put, hold, due, due_by, due_in_state, due_told, told_by, due_with_room}
 use Rattle.console_model.specs.Hear.{in_dump, heard_in, hear, sends_page, dump_ended}
@@ -50,7 +50,7 @@ due_records (Command line) r c none = outside r c none
 due_records Overlong r c none = outside r c none
 due_records (Frame kind got) r c none = outside r c none
 due_records (Looping n) r c none = outside r c none
-due_records (Dump p sent) r c none = room (nat_lt (length c.held) 64)
+due_records (Dump p sent) r c none = room (nat_lt (length c.held) most_held)
   where
     room : (b : Bool) → records_of (if b then hold r c else put r (dump_ended c)) ≡ records_of c ++ r ∷ []
     room true = sym (append_assoc c.history c.held (r ∷ []))
@@ -69,7 +69,7 @@ pub due_adds : (c : Console) (r : List ℕ) → IsValid c → AddsRecord c (due 
 due_adds c r v = by_way (in_the_way r c)
   where
     by_way : (way : Option CivilMinute) → AddsRecord c (due_by way r c) r (told_by way c)
-    by_way None = told_added c.state (nat_lt (length c.held) 64) r c (due_in_state c.state r c) (due_records c.state r c v.tidy)
+    by_way None = told_added c.state (nat_lt (length c.held) most_held) r c (due_in_state c.state r c) (due_records c.state r c v.tidy)
     by_way (Some newest) = refl
 
 -- what follows a dump of this plan and history
@@ -123,7 +123,7 @@ due_follows Asleep r c is = λ p q k n old there. absurd (cc)
 due_follows (Command line) r c is = λ p q k n old there. absurd (cc)
 due_follows Overlong r c is = λ p q k n old there. absurd (cc)
 due_follows (Frame kind got) r c is = λ p q k n old there. absurd (cc)
-due_follows (Dump p sent) r c is = room (nat_lt (length c.held) 64)
+due_follows (Dump p sent) r c is = room (nat_lt (length c.held) most_held)
   where
     room : (b : Bool) → Follows (Dump p sent) c.history (if b then hold r c else put r (dump_ended c))
     room true = goes_on p sent sent c.history (hold r c) is refl

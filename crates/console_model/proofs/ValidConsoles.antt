@@ -18,7 +18,7 @@ use Rattle.console_model.specs.declared.signal.Signal.TheVariants.{Lf, Next, Aga
 use Rattle.console_model.specs.declared.order.Order.{Order}
 use Rattle.console_model.specs.declared.order.Order.TheVariants.{Empty, Unknown, Known}
 use Rattle.console_model.specs.Clock.{is_time}
-use Rattle.console_model.specs.Console.{ConsoleState, Console, Outcome}
+use Rattle.console_model.specs.Console.{ConsoleState, Console, Outcome, most_held}
 use Rattle.console_model.specs.Console.ConsoleState.{Asleep, Command, Overlong, Frame, Dump, Looping}
 use Rattle.console_model.specs.Due.{unexceeded, in_the_way, put, hold, due_in_state, due_by, due}
 use Rattle.console_model.specs.Frame.{at_frame}
@@ -40,7 +40,7 @@ none_held (Frame kind got) = refl
 none_held (Dump p sent) = tt
 none_held (Looping n) = refl
 
-at_none : (g hs : List (List ℕ)) (s : ConsoleState) → hs ≡ [] → (length hs ≤ 64) × IsTidy s hs × EachFollows g hs
+at_none : (g hs : List (List ℕ)) (s : ConsoleState) → hs ≡ [] → (length hs ≤ most_held) × IsTidy s hs × EachFollows g hs
 at_none g [] s none = (omega arith, none_held s, tt)
 at_none g (r ∷ rs) s none = absurd (cc)
 
@@ -192,13 +192,13 @@ by_due (Command line) r c is none fits follows v = put_valid r c none follows v 
 by_due Overlong r c is none fits follows v = put_valid r c none follows v (subst (StateFits (c.history ++ r ∷ [])) (sym is) tt)
 by_due (Frame kind got) r c is none fits follows v = put_valid r c none follows v (subst (StateFits (c.history ++ r ∷ [])) (sym is) fits)
 by_due (Looping n) r c is none fits follows v = put_valid r c none follows v (subst (StateFits (c.history ++ r ∷ [])) (sym is) tt)
-by_due (Dump p sent) r c is none fits follows v = room (nat_lt (length c.held) 64) refl
+by_due (Dump p sent) r c is none fits follows v = room (nat_lt (length c.held) most_held) refl
   where
-    room : (b : Bool) → nat_lt (length c.held) 64 ≡ b → IsValid (if b then hold r c else put r (dump_ended c))
+    room : (b : Bool) → nat_lt (length c.held) most_held ≡ b → IsValid (if b then hold r c else put r (dump_ended c))
     room true less = record {
       rises = v.rises;
       fits = v.fits;
-      few = omega (arith, length-append c.held (r ∷ []), ltb-true (length c.held) 64 less);
+      few = omega (arith, length-append c.held (r ∷ []), ltb-true (length c.held) most_held less);
       tidy = subst (λ (s : ConsoleState). IsTidy s (c.held ++ r ∷ [])) (sym is) tt;
       follows = each_more c.history c.held r v.follows follows;
     }

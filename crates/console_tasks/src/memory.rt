@@ -6,6 +6,7 @@ ghost use Rattle.console_tasks.specs.Memory.{AreWithin, judge_back};
 ghost use Rattle.console_tasks.specs.Parts.{Steps, TaskCompletes, FrameReplies};
 ghost use Rattle.console_tasks.specs.TaskTalk.{DoesTask, Exchanges, TaskTalk};
 ghost use Rattle.console_tasks.specs.Tasks.{reading_memory, reading_back, said_line, writing_memory};
+ghost use Rattle.eeprom_map.specs.Memory.{eeprom_size};
 
 use crate::end::TaskEnd;
 use crate::exchange::say_command;
@@ -107,7 +108,7 @@ fn ask_bytes<L: Link>(link: &mut L, at: u16, count: u8, answer: &mut [u8]) -> Re
 // Holds what was read against what was written from a place on.
 fn compare(at: u16, sent: &[u8], read: &[u8]) -> Result<(), TaskEnd>
     requires same { length read.now ≡ length sent.now }
-    requires within { at + length sent.now ≤ 4096 }
+    requires within { at + length sent.now ≤ eeprom_size }
     ensures { MatchResult result (λ done. (judge_back at sent.now read.now ≡ TaskEnd.Done) × (read.now ≡ sent.now))
         (λ end. (judge_back at sent.now read.now ≡ end) × (end ≢ TaskEnd.Done)) }
 {

@@ -16,7 +16,7 @@ use Rattle.station_base.specs.CivilMinute.{CivilMinute, IsCivilMinute}
 use Rattle.station_base.specs.Stamp.{date_word_of, time_word_of, stamp_of_words}
 use Rattle.station_base.proofs.Words.{stamp_of_words-of, words_of-stamp}
 use Rattle.daily_summary.specs.declared.field_sum.FieldSum.{FieldSum}
-use Rattle.daily_summary.specs.Parts.{count_in, field_entry, stamp_at, sum_in, sum_with, IsTyped}
+use Rattle.daily_summary.specs.Parts.{count_in, field_entry, stamp_at, sum_in, sum_with, IsTyped, entry_size}
 use Rattle.daily_summary.specs.Bounds.{IsSumOf}
 use Rattle.daily_summary.specs.WellFormed.{BytesAreBlank, IsEntry}
 use Rattle.std.specs.Option.{IsSomeAnd}
@@ -35,17 +35,17 @@ chained : (b d4 d6 d8 d12 d14 d16 d24 d28 d36 b0 b4 b6 b8 b12 b14 b16 b24 b28 b3
 chained b d4 d6 d8 d12 d14 d16 d24 d28 d36 b0 b4 b6 b8 b12 b14 b16 b24 b28 b36 e0 e4 e6 e8 e12 e14 e16 e24 e28 e36 = rw (e0, e4, e6, e8, e12, e14, e16, e24, e28, e36) refl
 
 -- the bytes are those of their numbers
-numbers_again : (b : List ℕ) → length b ≡ 44 → AreBytes b →
+numbers_again : (b : List ℕ) → length b ≡ entry_size → AreBytes b →
     b ≡ little_bytes 4 (number_at 4 0 b) ++ (little_bytes 2 (number_at 2 4 b) ++ (little_bytes 2 (number_at 2 6 b) ++ (little_bytes 4 (number_at 4 8 b) ++ (little_bytes 2 (number_at 2 12 b)
     ++ (little_bytes 2 (number_at 2 14 b) ++ (little_bytes 8 (number_at 8 16 b) ++ (little_bytes 4 (number_at 4 24 b) ++ (little_bytes 8 (number_at 8 28 b) ++ little_bytes 8 (number_at 8 36 b)))))))))
 numbers_again b long fits =
-    let none : drop 44 b ≡ [] = drop_all 44 b (omega (arith, long)) in
+    let none : drop entry_size b ≡ [] = drop_all entry_size b (omega (arith, long)) in
     chained b (drop 4 b) (drop 6 b) (drop 8 b) (drop 12 b) (drop 14 b) (drop 16 b) (drop 24 b) (drop 28 b) (drop 36 b)
     (little_bytes 4 (number_at 4 0 b)) (little_bytes 2 (number_at 2 4 b)) (little_bytes 2 (number_at 2 6 b)) (little_bytes 4 (number_at 4 8 b)) (little_bytes 2 (number_at 2 12 b)) (little_bytes 2 (number_at 2 14 b))
     (little_bytes 8 (number_at 8 16 b)) (little_bytes 4 (number_at 4 24 b)) (little_bytes 8 (number_at 8 28 b)) (little_bytes 8 (number_at 8 36 b))
     (part_at 4 0 4 b refl (omega arith) fits) (part_at 2 4 6 b refl (omega arith) fits) (part_at 2 6 8 b refl (omega arith) fits) (part_at 4 8 12 b refl (omega arith) fits) (part_at 2 12 14 b refl (omega arith) fits)
     (part_at 2 14 16 b refl (omega arith) fits) (part_at 8 16 24 b refl (omega arith) fits) (part_at 4 24 28 b refl (omega arith) fits) (part_at 8 28 36 b refl (omega arith) fits)
-    (part_at 8 36 44 b refl (omega arith) fits ∙ ap (λ (xs : List ℕ). little_bytes 8 (number_at 8 36 b) ++ xs) none ∙ append-nil (little_bytes 8 (number_at 8 36 b)))
+    (part_at 8 36 entry_size b refl (omega arith) fits ∙ ap (λ (xs : List ℕ). little_bytes 8 (number_at 8 36 b) ++ xs) none ∙ append-nil (little_bytes 8 (number_at 8 36 b)))
 
 below : (n p : ℕ) (b : List ℕ) → AreBytes b → number_at n p b < 256 ^ n
 below n p b fits = little_from-lt 0 n (drop p b) (bytes_behind p b fits)
@@ -67,7 +67,7 @@ entry_by : (s : FieldSum) (n0 n4 n6 n8 n12 n14 n16 n24 n28 n36 : ℕ) → cast_u
 entry_by s n0 n4 n6 n8 n12 n14 n16 n24 n28 n36 e0 e4 e6 e8 e12 e14 e16 e24 e28 e36 = rw (e0, e4, e6, e8, e12, e14, e16, e24, e28, e36) refl
 
 -- what was read is written as these bytes
-pub entry_again : (s : FieldSum) (b : List ℕ) → length b ≡ 44 → AreBytes b → IsReadOf s b → field_entry (Some s) ≡ b
+pub entry_again : (s : FieldSum) (b : List ℕ) → length b ≡ entry_size → AreBytes b → IsReadOf s b → field_entry (Some s) ≡ b
 entry_again s b long fits is =
     let w1 = words_of-stamp (number_at 2 4 b) (number_at 2 6 b) s.least_at is.least_at in
     let w2 = words_of-stamp (number_at 2 12 b) (number_at 2 14 b) s.greatest_at is.greatest_at in
@@ -152,7 +152,7 @@ sum_read s b is =
     ∙ ap Some (same_sum _ s (sym is.least) refl (sym is.greatest) refl (sym is.sum) (sym is.count) (sym is.wsum) (sym is.sumtime))
 
 -- the bytes of a sum are not all 0
-pub count_read : (s : FieldSum) (b : List ℕ) → IsTyped s → field_entry (Some s) ≡ b → b ≡ replicate 44 0 → s.count ≡ 0
+pub count_read : (s : FieldSum) (b : List ℕ) → IsTyped s → field_entry (Some s) ≡ b → b ≡ replicate entry_size 0 → s.count ≡ 0
 count_read s b is same blank = (read_of s b is same).count ∙ ap (number_at 4 24) blank
 
 pub zeros : (b : List ℕ) (n : ℕ) → length b ≡ n → All (λ byte. byte ≡ 0) b → b ≡ replicate n 0
@@ -174,7 +174,7 @@ sum_there rows b is filled = by (count_in b) refl
     by (suc n) e = is.sum (λ none. absurd (omega arith))
 
 -- an entry that is all 0, and one that tells a sum
-pub blank_entry : (rows : ℕ) (b : List ℕ) → b ≡ replicate 44 0 → BytesAreBlank b → IsEntry rows b
+pub blank_entry : (rows : ℕ) (b : List ℕ) → b ≡ replicate entry_size 0 → BytesAreBlank b → IsEntry rows b
 blank_entry rows b zeros blank =
     let none : count_in b ≡ 0 = ap count_in zeros in
     record { blank = λ e. blank; sum = λ filled. absurd (filled none) }

@@ -16,29 +16,31 @@ use Rattle.daily_summary.specs.Joined.{merged, value_count, sum_of_value}
 use Rattle.daily_summary.specs.Readings.{readings}
 use Rattle.daily_summary.specs.Summary.{field_sum, summary_of}
 use Rattle.daily_summary.proofs.JoinedSums.{field-append, field_more}
+use Rattle.station_base.specs.Limits.{most_rows}
+use Rattle.station_base.specs.Fields.{field_count}
 
 -- the sum of a field
-pub field_is : (rows : List Row) (field : ℕ) → field < 37 → get_or (summary_of rows).fields field None ≡ field_sum (readings field rows)
+pub field_is : (rows : List Row) (field : ℕ) → field < field_count → get_or (summary_of rows).fields field None ≡ field_sum (readings field rows)
 unfolding summary_of
-field_is rows field within = get_or-map-range_with_len (λ f. field_sum (readings f rows)) 0 37 field field None within (omega arith)
+field_is rows field within = get_or-map-range_with_len (λ f. field_sum (readings f rows)) 0 field_count field field None within (omega arith)
 
-pub field_of : (s : DaySummary) (rows : List Row) (field : ℕ) → s ≡ summary_of rows → field < 37 → get_or s.fields field None ≡ field_sum (readings field rows)
+pub field_of : (s : DaySummary) (rows : List Row) (field : ℕ) → s ≡ summary_of rows → field < field_count → get_or s.fields field None ≡ field_sum (readings field rows)
 field_of s rows field is within = ap (λ (t : DaySummary). get_or t.fields field None) is ∙ field_is rows field within
 
 made : List (Option FieldSum) → ℕ → DaySummary
 made fields rows = record { fields = fields; rows = rows }
 
 -- a summary is that of rows where each field is theirs
-pub summary_is : (s : DaySummary) (rows : List Row) → length s.fields ≡ 37 → s.rows ≡ length rows → ((field : ℕ) → field < 37 → get_or s.fields field None ≡ field_sum (readings field rows)) →
+pub summary_is : (s : DaySummary) (rows : List Row) → length s.fields ≡ field_count → s.rows ≡ length rows → ((field : ℕ) → field < field_count → get_or s.fields field None ≡ field_sum (readings field rows)) →
     s ≡ summary_of rows
 unfolding summary_of made
 summary_is s rows long count each =
     let f : ℕ → Option FieldSum = λ field. field_sum (readings field rows) in
-    let size = length-map-range_with_len f 0 37 in
-    let fields : s.fields ≡ map f (range_with_len 0 37) =
-    ext_get_or None s.fields (map f (range_with_len 0 37)) (long ∙ sym size)
-    (λ i within. let small : i < 37 = omega (arith, long) in each i small ∙ sym (get_or-map-range_with_len f 0 37 i i None small (omega arith))) in
-    let same : made s.fields s.rows ≡ made (map f (range_with_len 0 37)) (length rows) = rw (fields, count) refl in
+    let size = length-map-range_with_len f 0 field_count in
+    let fields : s.fields ≡ map f (range_with_len 0 field_count) =
+    ext_get_or None s.fields (map f (range_with_len 0 field_count)) (long ∙ sym size)
+    (λ i within. let small : i < field_count = omega (arith, long) in each i small ∙ sym (get_or-map-range_with_len f 0 field_count i i None small (omega arith))) in
+    let same : made s.fields s.rows ≡ made (map f (range_with_len 0 field_count)) (length rows) = rw (fields, count) refl in
     same
 
 -- the sums of a summary
@@ -66,16 +68,16 @@ wider m n (Some x) le h = record { sum_is = h.sum_is; count = omega (arith, h.co
 
 -- The first fields have more merged in, and the others are as they were.
 pub record IsMerged (field total : ℕ) (old now : List (Option FieldSum)) (more : ℕ → Option FieldSum) : Type 0 where
-  pub long : length now ≡ 37
+  pub long : length now ≡ field_count
   pub done : (k : ℕ) → k < field → get_or now k None ≡ merged (get_or old k None) (more k)
   pub bounds : (k : ℕ) → k < field → IfSome (get_or now k None) (IsSumOf total)
   pub left : (k : ℕ) → field ≤ k → get_or now k None ≡ get_or old k None
 
-pub none_merged : (total : ℕ) (old : List (Option FieldSum)) (more : ℕ → Option FieldSum) → length old ≡ 37 → IsMerged 0 total old old more
+pub none_merged : (total : ℕ) (old : List (Option FieldSum)) (more : ℕ → Option FieldSum) → length old ≡ field_count → IsMerged 0 total old old more
 none_merged total old more long = record { long = long; done = λ k h. absurd (omega arith); bounds = λ k h. absurd (omega arith); left = λ k h. refl }
 
 -- one field more
-pub merged_more : (field total : ℕ) (old now : List (Option FieldSum)) (more : ℕ → Option FieldSum) (value : Option FieldSum) → field < 37 → IsMerged field total old now more →
+pub merged_more : (field total : ℕ) (old now : List (Option FieldSum)) (more : ℕ → Option FieldSum) (value : Option FieldSum) → field < field_count → IsMerged field total old now more →
     value ≡ merged (get_or now field None) (more field) → IfSome value (IsSumOf total) → IsMerged (field + 1) total old (set now field value) more
 merged_more field total old now more value within is value_is bound =
     let room : field < length now = omega (arith, is.long) in
@@ -92,19 +94,19 @@ merged_more field total old now more value within is value_is bound =
     }
 
 -- all are merged
-pub bounds_merged : (total rows : ℕ) (old now : List (Option FieldSum)) (more : ℕ → Option FieldSum) → rows ≡ total → total ≤ 1048576 → IsMerged 37 total old now more →
+pub bounds_merged : (total rows : ℕ) (old now : List (Option FieldSum)) (more : ℕ → Option FieldSum) → rows ≡ total → total ≤ most_rows → IsMerged field_count total old now more →
     IsInBounds (record { fields = now; rows = rows })
 bounds_merged total rows old now more same few is = record { rows = omega arith; fields = λ k. by k (within k) }
   where
-    within : (k : ℕ) → (k < 37) ⊎ (37 ≤ k)
-    within k = cases_lt k 37
+    within : (k : ℕ) → (k < field_count) ⊎ (field_count ≤ k)
+    within k = cases_lt k field_count
 
-    by : (k : ℕ) → (k < 37) ⊎ (37 ≤ k) → IfSome (get_or now k None) (IsSumOf rows)
+    by : (k : ℕ) → (k < field_count) ⊎ (field_count ≤ k) → IfSome (get_or now k None) (IsSumOf rows)
     by k (inl h) = subst (λ (n : ℕ). IfSome (get_or now k None) (IsSumOf n)) (sym same) (is.bounds k h)
     by k (inr h) = rw (get_or-eq_default now None {n = k} (omega (arith, is.long))) tt
 
 pub rows_added : (total rows : ℕ) (old : DaySummary) (now : List (Option FieldSum)) (row : Row) (before : List Row) → rows ≡ old.rows + 1 → old ≡ summary_of before →
-    IsMerged 37 total old.fields now (λ k. sum_of_value row (get_or row.values k None)) → record { fields = now; rows = rows } ≡ summary_of (before ++ row ∷ [])
+    IsMerged field_count total old.fields now (λ k. sum_of_value row (get_or row.values k None)) → record { fields = now; rows = rows } ≡ summary_of (before ++ row ∷ [])
 unfolding summary_of
 rows_added total rows old now row before count was is =
     summary_is (record { fields = now; rows = rows }) (before ++ row ∷ []) is.long
@@ -113,7 +115,7 @@ rows_added total rows old now row before count was is =
     ∙ sym (field_more field before row))
 
 pub rows_joined : (total rows : ℕ) (old later : DaySummary) (now : List (Option FieldSum)) (before more : List Row) → rows ≡ old.rows + later.rows → old ≡ summary_of before → later ≡ summary_of more →
-    IsMerged 37 total old.fields now (λ k. get_or later.fields k None) → record { fields = now; rows = rows } ≡ summary_of (before ++ more)
+    IsMerged field_count total old.fields now (λ k. get_or later.fields k None) → record { fields = now; rows = rows } ≡ summary_of (before ++ more)
 unfolding summary_of
 rows_joined total rows old later now before more count was then is =
     summary_is (record { fields = now; rows = rows }) (before ++ more) is.long

@@ -12,20 +12,21 @@ use Rattle.daily_summary.specs.Bounds.{IsSum, IsSumOf}
 use Rattle.daily_summary.specs.Joined.{joined, sum_of_row}
 use Rattle.std.proofs.lemmas.Int.{ints, fits_signed_from_abs, to_z-of_z, unsigned_abs-mul}
 use Rattle.station_base.specs.RowLine.{IsPrintable}
+use Rattle.station_base.specs.Limits.{farthest_value}
 
 -- a sum is no farther from 0 than its parts together
 pub abs_add : (a b : ℤ) (m n : ℕ) → unsigned_abs a ≤ m → unsigned_abs b ≤ n → unsigned_abs (a +ℤ b) ≤ m + n
 abs_add a b m n ha hb = omega (arith, ints)
 
-pub near : (z : ℤ) → IsPrintable (Some z) → unsigned_abs z ≤ 2000000
+pub near : (z : ℤ) → IsPrintable (Some z) → unsigned_abs z ≤ farthest_value
 near z p = let within = p z refl in omega (arith, ints, within)
 
 pub fits_below : (z : ℤ) (m : ℕ) → unsigned_abs z ≤ m → m < 2 ^ 63 → FitsSigned w64 z
 fits_below z m h small = fits_signed_from_abs w64 z (omega arith)
 
 -- a value times the seconds of its interval
-pub near_times : (z : ℤ) (n : ℕ) → unsigned_abs z ≤ 2000000 → unsigned_abs (z *ℤ pos n) ≤ 2000000 * n
-near_times z n h = let m : unsigned_abs z * n ≤ 2000000 * n = mul-le-mul_right n h in rw (unsigned_abs-mul z (pos n)) m
+pub near_times : (z : ℤ) (n : ℕ) → unsigned_abs z ≤ farthest_value → unsigned_abs (z *ℤ pos n) ≤ farthest_value * n
+near_times z n h = let m : unsigned_abs z * n ≤ farthest_value * n = mul-le-mul_right n h in rw (unsigned_abs-mul z (pos n)) m
 
 -- a value that was cast wider and back
 pub same_32 : (a b : ℤ) → FitsSigned w32 b → a ≡ cast_signed w32 (cast_unsigned w32 b) → a ≡ b
@@ -38,7 +39,7 @@ least_period minutes is = grind (arith, nat_tests)
 -- the sum of one value
 pub row_sum : (row : Row) (z : ℤ) → IsPrintable (Some z) → IsPeriod row.interval → IsSumOf 1 (sum_of_row row z)
 row_sum row z printable period =
-    let small : unsigned_abs z ≤ 2000000 = near z printable in
+    let small : unsigned_abs z ≤ farthest_value = near z printable in
     let short = least_period row.interval period in
     let long = period_bound row.interval period in
     record {

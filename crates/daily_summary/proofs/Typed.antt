@@ -20,10 +20,12 @@ use Rattle.daily_summary.specs.Readings.{Reading, field_value, with_reading, rea
 use Rattle.daily_summary.specs.Summary.{field_sum, summary_of}
 use Rattle.daily_summary.proofs.Fields.{field_is, printable_at}
 use Rattle.daily_summary.proofs.SumBounds.{abs_add, near, near_times, fits_below, least_period}
+use Rattle.station_base.specs.Limits.{most_rows, farthest_value}
+use Rattle.station_base.specs.Fields.{field_count}
 
 -- a reading of a row that was measured
 record IsRead (r : Reading) : Type 0 where
-  pub value : unsigned_abs r.value ≤ 2000000
+  pub value : unsigned_abs r.value ≤ farthest_value
   pub stamp : IsCivilMinute r.stamp
   pub shortest : 60 ≤ r.seconds
   pub longest : r.seconds ≤ 7200
@@ -70,18 +72,18 @@ greatest_read r (next ∷ rs) one all = by (int_lt r.value (greatest next rs).va
     by false more = one
 
 -- the sums
-total_near : (rs : List Reading) → AreReads rs → unsigned_abs (readings_total rs) ≤ 2000000 * length rs
+total_near : (rs : List Reading) → AreReads rs → unsigned_abs (readings_total rs) ≤ farthest_value * length rs
 total_near [] all = omega arith
-total_near (r ∷ rs) all = let sum = abs_add r.value (readings_total rs) 2000000 (2000000 * length rs) all.0.value (total_near rs all.1) in omega (arith, sum)
+total_near (r ∷ rs) all = let sum = abs_add r.value (readings_total rs) farthest_value (farthest_value * length rs) all.0.value (total_near rs all.1) in omega (arith, sum)
 
 time-cons : (r : Reading) (rs : List Reading) → time (r ∷ rs) ≡ r.seconds + time rs
 time-cons r rs = sum_by-cons (λ (s : Reading). s.seconds) r rs
 
-weighted_near : (rs : List Reading) → AreReads rs → unsigned_abs (weighted rs) ≤ 2000000 * time rs
+weighted_near : (rs : List Reading) → AreReads rs → unsigned_abs (weighted rs) ≤ farthest_value * time rs
 weighted_near [] all = omega arith
 weighted_near (r ∷ rs) all =
     let one = near_times r.value r.seconds all.0.value in
-    let sum = abs_add (r.value *ℤ pos r.seconds) (weighted rs) (2000000 * r.seconds) (2000000 * time rs) one (weighted_near rs all.1) in
+    let sum = abs_add (r.value *ℤ pos r.seconds) (weighted rs) (farthest_value * r.seconds) (farthest_value * time rs) one (weighted_near rs all.1) in
     let more = time-cons r rs in omega (arith, sum, more)
 
 time_short : (rs : List Reading) → AreReads rs → 60 * length rs ≤ time rs
@@ -105,7 +107,7 @@ sum_bounds rows (r ∷ rs) all few = record {
   count = few;
 }
 
-sum_typed : (rs : List Reading) → AreReads rs → length rs ≤ 1048576 → IfSome (field_sum rs) IsTyped
+sum_typed : (rs : List Reading) → AreReads rs → length rs ≤ most_rows → IfSome (field_sum rs) IsTyped
 sum_typed [] all few = tt
 sum_typed (r ∷ rs) all few =
     let lo = least_read r rs all.0 all.1 in let hi = greatest_read r rs all.0 all.1 in
@@ -121,23 +123,23 @@ sum_typed (r ∷ rs) all few =
       sumtime = omega (arith, few, long);
     }
 
-past_end : (rows : List Row) (field : ℕ) → 37 ≤ field → get_or (summary_of rows).fields field None ≡ None
+past_end : (rows : List Row) (field : ℕ) → field_count ≤ field → get_or (summary_of rows).fields field None ≡ None
 unfolding summary_of
-past_end rows field past = get_or-eq_default (summary_of rows).fields None {n = field} (omega (arith, length-map-range_with_len (λ f. field_sum (readings f rows)) 0 37))
+past_end rows field past = get_or-eq_default (summary_of rows).fields None {n = field} (omega (arith, length-map-range_with_len (λ f. field_sum (readings f rows)) 0 field_count))
 
-pub bounds_of : (rows : List Row) → All IsMeasured rows → length rows ≤ 1048576 → IsInBounds (summary_of rows)
+pub bounds_of : (rows : List Row) → All IsMeasured rows → length rows ≤ most_rows → IsInBounds (summary_of rows)
 unfolding summary_of
-bounds_of rows all few = record { rows = few; fields = λ field. by field (cases_lt field 37) }
+bounds_of rows all few = record { rows = few; fields = λ field. by field (cases_lt field field_count) }
   where
-    by : (field : ℕ) → (field < 37) ⊎ (37 ≤ field) → IfSome (get_or (summary_of rows).fields field None) (IsSumOf (length rows))
+    by : (field : ℕ) → (field < field_count) ⊎ (field_count ≤ field) → IfSome (get_or (summary_of rows).fields field None) (IsSumOf (length rows))
     by field (inl h) = subst (λ (o : Option FieldSum). IfSome o (IsSumOf (length rows))) (sym (field_is rows field h)) (sum_bounds (length rows) (readings field rows) (are_read field rows all) (few_readings field rows))
     by field (inr h) = subst (λ (o : Option FieldSum). IfSome o (IsSumOf (length rows))) (sym (past_end rows field h)) tt
 
-pub typed_of : (rows : List Row) → All IsMeasured rows → length rows ≤ 1048576 → AreTyped (summary_of rows)
+pub typed_of : (rows : List Row) → All IsMeasured rows → length rows ≤ most_rows → AreTyped (summary_of rows)
 unfolding summary_of
-typed_of rows all few = record { long = length-map-range_with_len (λ f. field_sum (readings f rows)) 0 37; each = λ field. by field (cases_lt field 37) }
+typed_of rows all few = record { long = length-map-range_with_len (λ f. field_sum (readings f rows)) 0 field_count; each = λ field. by field (cases_lt field field_count) }
   where
-    by : (field : ℕ) → (field < 37) ⊎ (37 ≤ field) → IfSome (get_or (summary_of rows).fields field None) IsTyped
+    by : (field : ℕ) → (field < field_count) ⊎ (field_count ≤ field) → IfSome (get_or (summary_of rows).fields field None) IsTyped
     by field (inl h) =
         let fewer = few_readings field rows in
         subst (λ (o : Option FieldSum). IfSome o IsTyped) (sym (field_is rows field h)) (sum_typed (readings field rows) (are_read field rows all) (omega (arith, fewer, few)))

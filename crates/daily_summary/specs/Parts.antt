@@ -10,6 +10,11 @@ use Rattle.station_base.specs.CivilMinute.{CivilMinute, IsCivilMinute}
 use Rattle.station_base.specs.Stamp.{date_word_of, time_word_of, stamp_of_words}
 use Rattle.daily_summary.specs.declared.field_sum.FieldSum.{FieldSum}
 use Rattle.daily_summary.specs.declared.summary.DaySummary.{DaySummary}
+use Rattle.station_base.specs.Fields.{field_count}
+
+-- the bytes of the entry of a field
+abbrev pub entry_size : ℕ
+entry_size = 44
 
 -- the two words of a stamp
 abbrev pub stamp_bytes : CivilMinute → List ℕ
@@ -17,7 +22,7 @@ stamp_bytes stamp = little_bytes 2 (date_word_of stamp) ++ little_bytes 2 (time_
 
 -- the 44 bytes of a field: the numbers with their low bytes first, or zeros where it has no value
 abbrev pub field_entry : Option FieldSum → List ℕ
-field_entry None = replicate 44 0
+field_entry None = replicate entry_size 0
 field_entry (Some s) =
     little_bytes 4 (cast_unsigned w32 s.least) ++ (stamp_bytes s.least_at
     ++ (little_bytes 4 (cast_unsigned w32 s.greatest) ++ (stamp_bytes s.greatest_at
@@ -32,17 +37,21 @@ entry_at field s = field_entry (slice_index_or s.fields field None)
 abbrev pub part_size : ℕ
 part_size = 132
 
+-- the parts of a summary, each of which has a slot
+abbrev pub part_count : ℕ
+part_count = 13
+
 -- part k: the entries of the fields 3 * k, 3 * k + 1 and 3 * k + 2
 abbrev pub summary_part : ℕ → DaySummary → List ℕ
 summary_part k s = entry_at (3 * k) s ++ entry_at (3 * k + 1) s ++ entry_at (3 * k + 2) s
 
 -- all parts one behind another
 abbrev pub summary_parts : DaySummary → List ℕ
-summary_parts s = flat_map (λ k. summary_part k s) (range_with_len 0 13)
+summary_parts s = flat_map (λ k. summary_part k s) (range_with_len 0 part_count)
 
 -- the entry of a field in the bytes of all parts
 abbrev pub entry_in : ℕ → List ℕ → List ℕ
-entry_in field parts = take 44 (drop (44 * field) parts)
+entry_in field parts = take entry_size (drop (entry_size * field) parts)
 
 -- the stamp that the two words at a place name, if they name one
 abbrev pub stamp_at : ℕ → List ℕ → Option CivilMinute
@@ -84,5 +93,5 @@ pub record IsTyped (s : FieldSum) : Type 0 where
 
 -- the same of each field, of which there are 37
 pub record AreTyped (s : DaySummary) : Type 0 where
-  pub long : length s.fields ≡ 37
+  pub long : length s.fields ≡ field_count
   pub each : (field : ℕ) → IfSome (slice_index_or s.fields field None) IsTyped

@@ -10,6 +10,7 @@ use Rattle.station_base.specs.declared.row.Row.{Row}
 use Rattle.daily_summary.specs.declared.field_sum.FieldSum.{FieldSum}
 use Rattle.daily_summary.specs.declared.summary.DaySummary.{DaySummary}
 use Rattle.daily_summary.specs.Readings.{Reading, readings, least_reading, greatest, readings_total, weighted, time}
+use Rattle.station_base.specs.Fields.{field_count}
 
 -- what readings come to, if there are any
 abbrev pub field_sum : List Reading → Option FieldSum
@@ -28,7 +29,7 @@ field_sum (first ∷ more) = Some (record {
 -- what rows come to in each of the 37 fields, and how many they are
 unfoldable pub summary_of : List Row → DaySummary
 summary_of rows = record {
-  fields = map (λ field. field_sum (readings field rows)) (range_with_len 0 37);
+  fields = map (λ field. field_sum (readings field rows)) (range_with_len 0 field_count);
   rows = length rows;
 }
 

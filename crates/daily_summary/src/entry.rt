@@ -3,13 +3,14 @@ ghost use Rattle.std.specs.Int.{w32, w64, cast_signed};
 ghost use Rattle.std.specs.declared.option.Option.{Option};
 ghost use Rattle.row_slot.specs.Slot.{number_at};
 ghost use Rattle.daily_summary.specs.Bounds.{IsSumOf};
-ghost use Rattle.daily_summary.specs.Parts.{field_entry, stamp_at, sum_in, IsTyped};
+ghost use Rattle.daily_summary.specs.Parts.{field_entry, stamp_at, sum_in, IsTyped, entry_size};
 ghost use Rattle.daily_summary.specs.WellFormed.{BytesAreBlank, IsEntry};
 ghost use Rattle.daily_summary.specs.declared.field_sum.FieldSum.{FieldSum};
+ghost use Rattle.station_base.specs.Limits.{most_rows};
 
 use crate::field_sum::FieldSum;
 use byteorder::{ByteOrder, LittleEndian};
-use station_base::Stamp;
+use station_base::{FARTHEST_VALUE, Stamp};
 
 // The bytes of a field.
 pub(crate) const ENTRY: usize = 44;
@@ -32,7 +33,7 @@ const WSUM: usize = 28;
 const SUMTIME: usize = 36;
 
 // How far a value may be from 0.
-const FARTHEST: u64 = 2_000_000;
+const FARTHEST: u64 = FARTHEST_VALUE as u64;
 
 // The seconds of the shortest interval and of the longest.
 const SHORTEST: u64 = 60;
@@ -70,8 +71,8 @@ fn spelled(sum: &FieldSum) -> [u8; ENTRY]
 // What a field comes to by its bytes; of a field without a value they are zeros. None where no sum of at most so many
 // rows is written so: of a count 0 a byte is not 0, words name no stamp, or a number is beyond its bounds.
 pub(crate) fn entry_in(bytes: &[u8], rows: u32) -> Option<Option<FieldSum>>
-    requires long { length bytes.now ≡ 44 }
-    requires rows { rows ≤ 1048576 }
+    requires long { length bytes.now ≡ entry_size }
+    requires rows { rows ≤ most_rows }
     ensures well_formed { IsSome result ↔ IsEntry rows bytes.now }
     ensures found { IfSome result (λ sum. (field_entry sum ≡ bytes.now) × IfSome sum (IsSumOf rows)) }
     ensures only { (sum : Option FieldSum) → IfSome sum IsTyped → IfSome sum (IsSumOf rows)
@@ -96,7 +97,7 @@ pub(crate) fn is_blank(bytes: &[u8]) -> bool
 
 // The numbers of a field that has a value, where its words name stamps.
 fn sum_in(bytes: &[u8]) -> Option<FieldSum>
-    requires { length bytes.now ≡ 44 }
+    requires { length bytes.now ≡ entry_size }
     ensures { result ≡ sum_in bytes.now }
 {
     let least_at = stamp_at(bytes, LEAST_AT)?;
@@ -157,7 +158,7 @@ fn u32_at(bytes: &[u8], place: usize) -> u32
 
 // Whether the numbers can be those of at most so many rows.
 fn is_sum_of(sum: &FieldSum, rows: u32) -> bool
-    requires { rows ≤ 1048576 }
+    requires { rows ≤ most_rows }
     ensures { IsTrue result ↔ IsSumOf rows sum.now }
 {
     let count = u64::from(sum.count);

@@ -3,6 +3,7 @@ ghost use Rattle.station_base.specs.Period.{IsPeriod};
 ghost use Rattle.station_base.specs.RowLine.{IsPrintable};
 ghost use Rattle.daily_summary.specs.Bounds.{IsSum, IsSumOf};
 ghost use Rattle.daily_summary.specs.Joined.{AreEqualButGreatest, AreEqualButLeast, value_count, joined, merged, sum_of_row, sum_of_value};
+ghost use Rattle.station_base.specs.Limits.{most_rows};
 
 use station_base::{Row, Stamp};
 
@@ -84,7 +85,7 @@ impl FieldSum {
     // Adds a value of a row behind those that were added.
     fn push(&mut self, row: &Row, value: i32)
         requires earlier { IsSum self.old }
-        requires fewer { self.old.count < 1048576 }
+        requires fewer { self.old.count < most_rows }
         requires printable { IsPrintable (Some value) }
         ensures exact { self.new ≡ joined self.old (sum_of_row row.now value) }
         ensures bounds { IsSumOf (self.old.count + 1) self.new }
@@ -102,7 +103,7 @@ impl FieldSum {
     fn join(&mut self, later: &FieldSum)
         requires earlier { IsSum self.old }
         requires later { IsSum later.now }
-        requires few { self.old.count + later.now.count ≤ 1048576 }
+        requires few { self.old.count + later.now.count ≤ most_rows }
         ensures exact { self.new ≡ joined self.old later.now }
         ensures bounds { IsSum self.new }
     {
@@ -118,7 +119,7 @@ impl FieldSum {
 // Adds a value of a row behind those that were added, if the row has it.
 pub(crate) fn add(sum: &mut Option<FieldSum>, row: &Row, value: Option<i32>)
     requires earlier { IfSome sum.old IsSum }
-    requires fewer { value_count sum.old < 1048576 }
+    requires fewer { value_count sum.old < most_rows }
     requires printable { IsPrintable value }
     ensures exact { sum.new ≡ merged sum.old (sum_of_value row.now value) }
     ensures bounds { IfSome sum.new (IsSumOf (value_count sum.old + 1)) }
@@ -136,7 +137,7 @@ pub(crate) fn add(sum: &mut Option<FieldSum>, row: &Row, value: Option<i32>)
 pub(crate) fn merge(sum: &mut Option<FieldSum>, later: &Option<FieldSum>)
     requires earlier { IfSome sum.old IsSum }
     requires later { IfSome later.now IsSum }
-    requires few { value_count sum.old + value_count later.now ≤ 1048576 }
+    requires few { value_count sum.old + value_count later.now ≤ most_rows }
     ensures exact { sum.new ≡ merged sum.old later.now }
     ensures bounds { IfSome sum.new (IsSumOf (value_count sum.old + value_count later.now)) }
 {

@@ -1,11 +1,11 @@
 ghost use Rattle.std.specs.Prelude.{◌≡◌, ◌<◌, ◌↔◌, IfSome, IsSome, Some};
-ghost use Rattle.daily_summary.specs.Parts.{entry_at, summary_part, AreTyped};
+ghost use Rattle.daily_summary.specs.Parts.{entry_at, summary_part, AreTyped, part_count};
 ghost use Rattle.daily_summary.specs.WellFormed.{AreParts, IsStoredAs};
 ghost use Rattle.daily_summary.specs.declared.summary.DaySummary.{DaySummary};
 
 use crate::DaySummary;
 use crate::entry::{ENTRY, entry_in, entry_of, is_blank};
-use station_base::FIELD_COUNT;
+use station_base::{FIELD_COUNT, MOST_ROWS};
 
 /// In how many parts a summary is stored.
 pub const PART_COUNT: usize = 13;
@@ -18,14 +18,11 @@ pub const PARTS_SIZE: usize = PART_COUNT * PART_SIZE;
 
 const FIELDS_OF_PART: usize = 3;
 
-// The most rows of a summary.
-const MOST_ROWS: u32 = 1_048_576;
-
 impl DaySummary {
     /// Part `k` of the summary as it is stored: the entries of the fields `3 * k` to `3 * k + 2`, each of 44 bytes, and
     /// zeros in place of an entry past the last field. There are 13 parts. (The layout is this project's own.)
     pub fn part(&self, k: u8) -> [u8; PART_SIZE]
-        requires { k < 13 }
+        requires { k < part_count }
         ensures { result ≡ summary_part k self.now }
     {
         let mut part = [0; PART_SIZE];

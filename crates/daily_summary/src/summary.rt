@@ -3,6 +3,7 @@ ghost use Rattle.station_base.specs.RowLine.{IsPrintable};
 ghost use Rattle.station_base.specs.declared.row.Row.{Row};
 ghost use Rattle.daily_summary.specs.Bounds.{IsInBounds, IsSum};
 ghost use Rattle.daily_summary.specs.Summary.{summary_of, tenths};
+ghost use Rattle.station_base.specs.Limits.{most_rows};
 
 use crate::field_sum::{FieldSum, add, merge};
 use station_base::{FIELD_COUNT, FieldId, Row};
@@ -33,7 +34,7 @@ impl DaySummary {
     /// one does not count. Of equal extremes the first is kept.
     pub fn add(&mut self, row: &Row)
         requires bounds { IsInBounds self.old }
-        requires fewer { self.old.rows < 1048576 }
+        requires fewer { self.old.rows < most_rows }
         requires printable { All IsPrintable row.now.values }
         ensures summary { (rows : List Row) → self.old ≡ summary_of rows
             → self.new ≡ summary_of (rows ++ row.now ∷ []) }
@@ -50,7 +51,7 @@ impl DaySummary {
     pub fn merge(&mut self, later: &DaySummary)
         requires bounds { IsInBounds self.old }
         requires later { IsInBounds later.now }
-        requires few { self.old.rows + later.now.rows ≤ 1048576 }
+        requires few { self.old.rows + later.now.rows ≤ most_rows }
         ensures summary { (rows more : List Row) → self.old ≡ summary_of rows → later.now ≡ summary_of more
             → self.new ≡ summary_of (rows ++ more) }
         ensures bounds { IsInBounds self.new }
@@ -76,7 +77,7 @@ impl DaySummary {
 // Ten times the weighted sum, divided by the time.
 fn tenths(sum: &FieldSum) -> i64
     requires sum { IsSum sum.now }
-    requires few { sum.now.count ≤ 1048576 }
+    requires few { sum.now.count ≤ most_rows }
     ensures { result ≡ tenths sum.now }
 {
     (10 * sum.wsum).div_euclid(sum.sumtime as i64)

@@ -2,6 +2,10 @@
 use Rattle.std.specs.Prelude.{ℕ, ◌+◌, ℤ, List, ◌++◌, length, take, drop, replicate, slice_index, slice_set}
 use Rattle.std.specs.Int.{w16, from_le_bytes, cast_signed}
 
+-- the bytes of the EEPROM
+abbrev pub eeprom_size : ℕ
+eeprom_size = 4096
+
 -- the signed number of two bytes at this place, the low one first
 abbrev pub signed_at : ℕ → List ℕ → ℤ
 signed_at place memory = cast_signed w16 (from_le_bytes w16 (drop place memory))
@@ -30,9 +34,9 @@ minutes_in memory = slice_index memory 0x2D
 abbrev pub with_period : ℕ → List ℕ → List ℕ
 with_period minutes memory = slice_set memory 0x2D minutes
 
--- 4,096 zeros
+-- all zeros
 unfoldable pub zero_memory : List ℕ
-zero_memory = replicate 4096 0
+zero_memory = replicate eeprom_size 0
 
 -- all 0 but the archive period, which is this one
 abbrev pub new_memory : ℕ → List ℕ

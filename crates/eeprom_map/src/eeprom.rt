@@ -2,7 +2,7 @@ ghost use Rattle.std.specs.Prelude.{◌≡◌, ◌+◌, ◌≤◌, ◌↔◌, Is
 ghost use Rattle.std.specs.Bool.{OnTrue, OnFalse};
 ghost use Rattle.std.specs.Option.{SomeIff};
 ghost use Rattle.station_base.specs.Period.{IsPeriod};
-ghost use Rattle.eeprom_map.specs.Memory.{new_memory, zero_memory, signed_at, latitude_in, longitude_in, elevation_in, setup_in, minutes_in, with_period, with_bytes};
+ghost use Rattle.eeprom_map.specs.Memory.{new_memory, zero_memory, signed_at, latitude_in, longitude_in, elevation_in, setup_in, minutes_in, with_period, with_bytes, eeprom_size};
 ghost use Rattle.eeprom_map.specs.Rain.{collector, rain_unit_of};
 
 use crate::rain::RainUnit;
@@ -42,12 +42,13 @@ pub struct Eeprom {
 
 impl Model for Eeprom {
     ghost use Rattle.std.specs.Prelude.{◌≡◌, List, ℕ, length};
+    ghost use Rattle.eeprom_map.specs.Memory.{eeprom_size};
 
     ghost Value = { List ℕ };
 
     ghost view = { λ eeprom. eeprom.bytes.items };
 
-    ghost invariant = { λ eeprom. length eeprom.bytes.items ≡ 4096 };
+    ghost invariant = { λ eeprom. length eeprom.bytes.items ≡ eeprom_size };
 }
 
 impl Eeprom {
@@ -62,7 +63,7 @@ impl Eeprom {
 
     // The signed number of two bytes at a place.
     fn signed(&self, place: u16) -> i16
-        requires { place + 2 ≤ 4096 }
+        requires { place + 2 ≤ eeprom_size }
         ensures { result ≡ signed_at place self.now }
     {
         let place = usize::from(place);
@@ -119,7 +120,7 @@ impl Eeprom {
 
     /// So many bytes from a place on.
     pub fn bytes(&self, at: u16, count: u16) -> &[u8]
-        requires { at + count ≤ 4096 }
+        requires { at + count ≤ eeprom_size }
         ensures bytes { result.now ≡ take count (drop at self.now) }
         ensures count { length result.now ≡ count }
     {
@@ -129,7 +130,7 @@ impl Eeprom {
 
     /// Puts bytes from a place on, and says whether it did: it does not where they would pass the end of the memory.
     pub fn put(&mut self, at: u16, bytes: &[u8]) -> bool
-        ensures fits { IsTrue result ↔ (at + length bytes.now ≤ 4096) }
+        ensures fits { IsTrue result ↔ (at + length bytes.now ≤ eeprom_size) }
         ensures put { OnTrue result (self.new ≡ with_bytes at bytes.now self.old) }
         ensures refused { OnFalse result (self.new ≡ self.old) }
     {
@@ -146,7 +147,7 @@ impl Eeprom {
 #[tactic(auto, unfolding(crate::specs::Memory::zero_memory))]
 fn zeros(alloc: Global) -> Result<Vec<u8>, OutOfMemory>
     ensures bytes { IfOk result (λ bytes. bytes.items ≡ zero_memory) }
-    ensures size { IfOk result (λ bytes. vec_len bytes ≡ 4096) }
+    ensures size { IfOk result (λ bytes. vec_len bytes ≡ eeprom_size) }
 {
     Ok(vec![in alloc; 0; LENGTH]?)
 }

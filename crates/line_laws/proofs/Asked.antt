@@ -1,7 +1,7 @@
 -- One byte that is said to a console near a dump, and the answer.
 use Rattle.std.proofs.Common.{Option, Some, None, ◌≡◌, ℕ, ◌+◌, ◌-◌, ◌≤◌, if◌then◌else◌, Bool, true, false, List, [], ◌∷◌, length, refl, sym, subst, ◌∙◌, ap, arith}
 use Rattle.std.specs.Prelude.{nat_lt}
-use Rattle.console_model.specs.Console.{Store, ConsoleState, Console, Outcome}
+use Rattle.console_model.specs.Console.{Store, ConsoleState, Console, Outcome, most_held}
 use Rattle.console_ring.specs.declared.plan.Plan.{Plan}
 use Rattle.console_model.specs.declared.signal.Signal.{Signal}
 use Rattle.console_model.specs.Reading.{signal, read_order}
@@ -88,7 +88,7 @@ near_due_by h p low high (Command []) r g d hs i n = tt
 near_due_by h p low high (Command (b ∷ line)) r g d hs i n = n
 near_due_by h p low high Overlong r g d hs i n = n
 near_due_by h p low high (Frame kind got) r g d hs i n = n
-near_due_by h p low high (Dump q sent) r g d hs i n = near_if h p low high (nat_lt (length hs) 64) (hold r (at_state g d hs (Dump q sent) i)) (put r (dump_ended (at_state g d hs (Dump q sent) i))) n tt
+near_due_by h p low high (Dump q sent) r g d hs i n = near_if h p low high (nat_lt (length hs) most_held) (hold r (at_state g d hs (Dump q sent) i)) (put r (dump_ended (at_state g d hs (Dump q sent) i))) n tt
 near_due_by h p low high (Looping k) r g d hs i n = n
 
 rests_due_by : (s : ConsoleState) (r : List ℕ) (g : List (List ℕ)) (d : Store) (hs : List (List ℕ)) (i : ℕ) → ConsoleRests s → ConsoleRests (due_in_state s r (at_state g d hs s i)).state
@@ -96,7 +96,7 @@ rests_due_by Asleep r g d hs i n = tt
 rests_due_by (Command line) r g d hs i n = n
 rests_due_by Overlong r g d hs i n = n
 rests_due_by (Frame kind got) r g d hs i n = n
-rests_due_by (Dump q sent) r g d hs i n = rests_if (nat_lt (length hs) 64) (hold r (at_state g d hs (Dump q sent) i)) (put r (dump_ended (at_state g d hs (Dump q sent) i))) tt refl
+rests_due_by (Dump q sent) r g d hs i n = rests_if (nat_lt (length hs) most_held) (hold r (at_state g d hs (Dump q sent) i)) (put r (dump_ended (at_state g d hs (Dump q sent) i))) tt refl
 rests_due_by (Looping k) r g d hs i n = n
 
 near_way : (h : List (List ℕ)) (p : Plan) (low high : ℕ) (way : Option CivilMinute) (r : List ℕ) (c : Console) → Near h p low high (due_in_state c.state r c) → Near h p low high c → Near h p low high (due_by way r c)

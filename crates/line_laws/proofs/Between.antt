@@ -1,7 +1,7 @@
 -- Between attempts a calm line stays calm: at a tick, and at a record that falls due.
 use Rattle.std.proofs.Common.{Option, Some, None, ◌≡◌, ℕ, ◌+◌, ◌≤◌, ◌==◌, ◌%◌, if◌then◌else◌, Bool, true, false, List, [], ◌∷◌, length, refl, sym, ◌∙◌, ap, subst, arith}
 use Rattle.std.specs.Prelude.{nat_lt}
-use Rattle.console_model.specs.Console.{Store, ConsoleState, Console, Outcome}
+use Rattle.console_model.specs.Console.{Store, ConsoleState, Console, Outcome, most_held}
 use Rattle.console_model.specs.declared.reply.ReplyKind.{ReplyKind}
 use Rattle.console_model.specs.Console.ConsoleState.{Asleep, Command, Overlong, Frame, Dump, Looping}
 use Rattle.console_model.specs.declared.reply.ReplyKind.TheVariants.{Nothing, Code, Test, Wake, Ack, AckFrame, Page, Packet}
@@ -82,7 +82,7 @@ due_stays (Command []) r g d hs i b = (b, omega arith)
 due_stays (Command (c ∷ line)) r g d hs i b = (b, omega arith)
 due_stays Overlong r g d hs i b = (b, omega arith)
 due_stays (Frame kind got) r g d hs i b = (b, omega arith)
-due_stays (Dump p sent) r g d hs i b = record_if (Stays (Dump p sent) i) (nat_lt (length hs) 64) (hold r (at_state g d hs (Dump p sent) i)) (put r (dump_ended (at_state g d hs (Dump p sent) i))) (tt, omega arith) (tt, omega arith)
+due_stays (Dump p sent) r g d hs i b = record_if (Stays (Dump p sent) i) (nat_lt (length hs) most_held) (hold r (at_state g d hs (Dump p sent) i)) (put r (dump_ended (at_state g d hs (Dump p sent) i))) (tt, omega arith) (tt, omega arith)
 due_stays (Looping n) r g d hs i b = absurd b
 
 way_stays : (s : ConsoleState) (i : ℕ) (way : Option CivilMinute) (r : List ℕ) (c : Console) → Stays s i (due_in_state c.state r c) → Stays s i c → Stays s i (due_by way r c)

@@ -2,7 +2,7 @@
 use Rattle.std.proofs.Common.{Option, ◌≡◌, ℕ, ◌+◌, ◌-◌, ◌<◌, ◌==◌, if◌then◌else◌, Bool, true, false, ◌||◌, inl, inr, List, [], ◌∷◌, ◌++◌, length, Some, None, refl, sym, ◌∙◌, ap, subst, arith, append_assoc, append-nil}
 use Rattle.std.specs.Prelude.{nat_lt, take, IfSome, IsSomeAnd}
 use Rattle.std.proofs.lemmas.Option.{same_Some}
-use Rattle.console_model.specs.Console.{Store, ConsoleState, Console, Outcome, Begun}
+use Rattle.console_model.specs.Console.{Store, ConsoleState, Console, Outcome, Begun, most_held}
 use Rattle.console_ring.specs.declared.plan.Plan.{Plan}
 use Rattle.console_model.specs.declared.reply.ReplyKind.{ReplyKind}
 use Rattle.console_model.specs.declared.signal.Signal.{Signal}
@@ -297,7 +297,7 @@ fallen_in Asleep r g d hs i rest all t e = fallen_put r Asleep g d hs i rest all
 fallen_in (Command line) r g d hs i rest all t e = fallen_put r (Command line) g d hs i rest all t t e
 fallen_in Overlong r g d hs i rest all t e = fallen_put r Overlong g d hs i rest all t t e
 fallen_in (Frame kind got) r g d hs i rest all t e = fallen_put r (Frame kind got) g d hs i rest all t t e
-fallen_in (Dump p sent) r g d hs i rest all t e = fallen_if rest all (nat_lt (length hs) 64) (hold r (at_state g d hs (Dump p sent) i)) (put r (dump_ended (at_state g d hs (Dump p sent) i)))
+fallen_in (Dump p sent) r g d hs i rest all t e = fallen_if rest all (nat_lt (length hs) most_held) (hold r (at_state g d hs (Dump p sent) i)) (put r (dump_ended (at_state g d hs (Dump p sent) i)))
     (ap (λ x. x ++ rest) (sym (append_assoc g hs (r ∷ []))) ∙ append_assoc (g ++ hs) (r ∷ []) rest ∙ e, tt)
     (ap (λ x. x ++ rest) (append-nil ((g ++ hs) ++ r ∷ [])) ∙ append_assoc (g ++ hs) (r ∷ []) rest ∙ e, refl)
 fallen_in (Looping n) r g d hs i rest all t e = fallen_put r (Looping n) g d hs i rest all t t e

@@ -2,7 +2,7 @@
 use Rattle.std.proofs.Common.{◌≡◌, ℕ, suc, ◌+◌, ◌<◌, ◌≤◌, if◌then◌else◌, Bool, true, false, ◌⊎◌, inl, inr, List, [], ◌∷◌, ◌++◌, length, Option, Some, None, refl, sym, ◌∙◌, ap, subst, arith, append-nil, length-append}
 use Rattle.std.specs.Prelude.{nat_lt}
 use Rattle.std.proofs.lemmas.Option.{same_Some}
-use Rattle.console_model.specs.Console.{Store, ConsoleState, Console, Outcome}
+use Rattle.console_model.specs.Console.{Store, ConsoleState, Console, Outcome, most_held}
 use Rattle.console_ring.specs.declared.plan.Plan.{Plan}
 use Rattle.console_model.specs.declared.reply.ReplyKind.{ReplyKind}
 use Rattle.dmpaft_pump.specs.Command.{dmpaft}
@@ -271,7 +271,7 @@ held_room : (P : Console → Type 0) (t : Bool) (a b : Console) → t ≡ true �
 held_room P true a b e x = x
 held_room P false a b e x = absurd cc
 
-pub due_dump : (rs : List (List ℕ)) (p : Plan) (k : ℕ) (g : List (List ℕ)) (d : Store) (i : ℕ) (hs : List (List ℕ)) → length hs + length rs ≤ 64 → Held p k g d i (length hs + length rs) (due_all rs (at_state g d hs (Dump p k) i))
+pub due_dump : (rs : List (List ℕ)) (p : Plan) (k : ℕ) (g : List (List ℕ)) (d : Store) (i : ℕ) (hs : List (List ℕ)) → length hs + length rs ≤ most_held → Held p k g d i (length hs + length rs) (due_all rs (at_state g d hs (Dump p k) i))
 due_dump [] p k g d i hs n = (hs, omega arith, refl)
 due_dump (r ∷ rs) p k g d i hs n =
     let c = at_state g d hs (Dump p k) i in
@@ -279,7 +279,7 @@ due_dump (r ∷ rs) p k g d i hs n =
     (due_dump rs p k g d i (hs ++ r ∷ []) (omega (arith, length-append hs (r ∷ [])))) in
     let b : Held p k g d i (length hs + length (r ∷ rs)) (due_all rs c) = held_more p k g d i (length hs + length rs) (length hs + length (r ∷ rs)) (due_all rs c) (omega arith) (due_dump rs p k g d i hs (omega arith)) in
     held_way (λ x. Held p k g d i (length hs + length (r ∷ rs)) (due_all rs x)) (in_the_way r c) r c
-    (held_room (λ x. Held p k g d i (length hs + length (r ∷ rs)) (due_all rs x)) (nat_lt (length hs) 64) (hold r c) (put r (dump_ended c)) (grind arith) a) b
+    (held_room (λ x. Held p k g d i (length hs + length (r ∷ rs)) (due_all rs x)) (nat_lt (length hs) most_held) (hold r c) (put r (dump_ended c)) (grind arith) a) b
 
 messages_joins : (k : ReplyKind) (f : Fates) (o : Outcome) (w : Line) → (joins k f o w).messages ≡ w.messages
 messages_joins Nothing f o w = refl

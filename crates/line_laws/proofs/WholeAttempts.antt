@@ -2,7 +2,7 @@
 use Rattle.std.proofs.Common.{◌≡◌, ℕ, zero, suc, ◌+◌, ◌-◌, ◌<◌, ◌≤◌, ◌==◌, ◌%◌, if◌then◌else◌, Bool, true, false, ◌&&◌, ◌⊎◌, inl, inr, List, [], ◌∷◌, ◌++◌, length, Some, refl, sym, ◌∙◌, ap, subst, arith, append_assoc, append-nil}
 use Rattle.std.specs.Prelude.{nat_lt}
 use Rattle.std.proofs.lemmas.Option.{same_Some}
-use Rattle.console_model.specs.Console.{Store, ConsoleState, Console}
+use Rattle.console_model.specs.Console.{Store, ConsoleState, Console, most_held}
 use Rattle.console_ring.specs.declared.plan.Plan.{Plan}
 use Rattle.dmpaft_driver.specs.Attempt.{AskFloods, TakesPage, Misses, Pages, Heads, Requests, Attempt, End, esc}
 use Rattle.dmpaft_pump.specs.Command.{dmpaft}
@@ -160,7 +160,7 @@ module _ (frame : List ℕ) (good : is_good frame ≡ true) (f : Fates) (ok : Ar
       absurd (misses_clean g p most_askings k t trouble w v (omega arith) misses (a (omega arith)) (ap (λ x. console_talk f x w) (sym split) ∙ e) h)
 
   -- the header comes, and the console is in the dump of its plan
-  start_dump : (g : List (List ℕ)) (d : Store) (p : Plan) (t : Bool) (rs : List (List ℕ)) (c : Console) → c ≡ due_all rs (at_state g d [] (if t then Command [] else Dump p 0) 0) → length rs ≤ 64 → t ≡ false → Held p 0 g d 0 (0 + length rs) c
+  start_dump : (g : List (List ℕ)) (d : Store) (p : Plan) (t : Bool) (rs : List (List ℕ)) (c : Console) → c ≡ due_all rs (at_state g d [] (if t then Command [] else Dump p 0) 0) → length rs ≤ most_held → t ≡ false → Held p 0 g d 0 (0 + length rs) c
   start_dump g d p true rs c e l z = absurd cc
   start_dump g d p false rs c e l z = subst (Held p 0 g d 0 (0 + length rs)) (sym e) (due_dump rs p 0 g d 0 [] (omega arith))
 
@@ -199,7 +199,7 @@ module _ (frame : List ℕ) (good : is_good frame ≡ true) (f : Fates) (ok : Ar
               held = c.0;
               idle = 0 + quiets t;
               console = s.console;
-              room = λ m. subst (λ k. length c.0 + mids_count f k m ≤ 64) (sym n) (omega (arith, c.1, ok.few u.messages (suc m)));
+              room = λ m. subst (λ k. length c.0 + mids_count f k m ≤ most_held) (sym n) (omega (arith, c.1, ok.few u.messages (suc m)));
               flight = closed_empty v.flight (l.closed (subst EndsInByte fl q.closed)) b.1;
               begun = l.begun ∙ ap (λ x. x.begun) y;
               records = records;

@@ -12,12 +12,13 @@ use Rattle.packed_rows.specs.Packed.{joined_slots, IsReadBack, AreReadBack}
 use Rattle.packed_rows.specs.Rising.{stamp_exceeds, rows_rise, last_row_stamp, last_stamp_after}
 use Rattle.packed_rows.specs.Rows.{slots_after}
 use Rattle.packed_rows.proofs.RowLaws.{read_back-push}
+use Rattle.daily_summary.specs.Parts.{part_count}
 
 pub joined_append : (xs ys : List (List ℕ)) → joined_slots (xs ++ ys) ≡ joined_slots xs ++ joined_slots ys
 joined_append [] ys = refl
 joined_append (x ∷ xs) ys = ap (λ (b : List ℕ). x ++ b) (joined_append xs ys) ∙ sym (append_assoc x (joined_slots xs) (joined_slots ys))
 
-pub small_closings : (b : Bool) → closings b ≤ 13
+pub small_closings : (b : Bool) → closings b ≤ part_count
 small_closings true = omega arith
 small_closings false = omega arith
 

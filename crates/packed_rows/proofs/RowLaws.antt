@@ -18,6 +18,7 @@ use Rattle.packed_rows.specs.Days.{day_of_row, is_day, with_day, days_from, days
 use Rattle.packed_rows.specs.Rising.{stamp_exceeds, RowsRiseAfter, rows_rise, last_stamp_after, last_row_stamp}
 use Rattle.packed_rows.specs.Rows.{RowsOf, holds, damaged, may_follow, is_closing, is_right, rows_with_row, shown_with, slot_judged, rows_from, slots_after, slots_of, slot_total}
 use Rattle.packed_rows.specs.Packed.{IsReadBack, AreReadBack}
+use Rattle.daily_summary.specs.Parts.{part_count}
 
 -- each slot is right behind what stands before it
 abbrev pub AreRight : List Row → ℕ → List (List ℕ) → Type 0
@@ -112,14 +113,14 @@ step_some rows shown slot slots row some is more =
     (ap (is_right rows shown slot) some ∙ is, subst (λ (o : Option Row). AreRight (rows_with_row rows o) (shown_with shown o) slots) (sym some) more)
 
 -- the thirteen slots that close a day, from one on
-closing_right : (rows : List Row) (k m : ℕ) (more : List (List ℕ)) → 0 < length rows → k + m ≤ 13 → AreRight rows (k + m) more →
+closing_right : (rows : List Row) (k m : ℕ) (more : List (List ℕ)) → 0 < length rows → k + m ≤ part_count → AreRight rows (k + m) more →
     AreRight rows k (map (λ j. closing_slot rows j) (range_with_len k m) ++ more)
 closing_right rows k zero more some few right = subst (λ (n : ℕ). AreRight rows n more) (let e : k + 0 ≡ k = omega arith in e) right
 closing_right rows k (suc m) more some few right =
     let slot : List ℕ = closing_slot rows k in
     step_none rows k slot (map (λ j. closing_slot rows j) (range_with_len (k + 1) m) ++ more) (no_row _ k _)
-    (and_from (nat_lt 0 (length rows) && nat_lt k 13) (bytes_eq (unmarked slot) slot)
-    (and_from (nat_lt 0 (length rows)) (nat_lt k 13) (lt-ltb 0 (length rows) some) (lt-ltb k 13 (omega arith))) (same_bytes _ _ (unmarked_summary _ k _)))
+    (and_from (nat_lt 0 (length rows) && nat_lt k part_count) (bytes_eq (unmarked slot) slot)
+    (and_from (nat_lt 0 (length rows)) (nat_lt k part_count) (lt-ltb 0 (length rows) some) (lt-ltb k part_count (omega arith))) (same_bytes _ _ (unmarked_summary _ k _)))
     (closing_right rows (k + 1) m more some (omega arith) (subst (λ (n : ℕ). AreRight rows n more) (let e : k + suc m ≡ k + 1 + m = omega arith in e) right))
 
 closing_rows : (rows : List Row) (k m : ℕ) (more : List (List ℕ)) → rows_to rows (map (λ j. closing_slot rows j) (range_with_len k m) ++ more) ≡ rows_to rows more
@@ -162,8 +163,8 @@ one_row before row more back rises right = by (begins_day (last_row_stamp before
     by : (b : Bool) → begins_day (last_row_stamp before) row.stamp ≡ b → AreRight before 0 (map (λ k. closing_slot before k) (range_with_len 0 (closings (begins_day (last_row_stamp before) row.stamp))) ++ slot_of row ∷ more)
     by true is =
         subst (λ (b : Bool). AreRight before 0 (map (λ k. closing_slot before k) (range_with_len 0 (closings b)) ++ slot_of row ∷ more)) (sym is)
-        (closing_right before 0 13 (slot_of row ∷ more) (some_before before row true is refl) (omega arith)
-        (step_some before 13 (slot_of row) more row back.back (follows before 13 row rises (ap closings (sym is))) right))
+        (closing_right before 0 part_count (slot_of row ∷ more) (some_before before row true is refl) (omega arith)
+        (step_some before part_count (slot_of row) more row back.back (follows before part_count row rises (ap closings (sym is))) right))
     by false is =
         subst (λ (b : Bool). AreRight before 0 (map (λ k. closing_slot before k) (range_with_len 0 (closings b)) ++ slot_of row ∷ more)) (sym is)
         (step_some before 0 (slot_of row) more row back.back (follows before 0 row rises (ap closings (sym is))) right)
@@ -216,7 +217,7 @@ day_stamp last (row ∷ rows) = day_stamp (Some row.stamp) rows
 some_days : (row : Row) (rows : List Row) → 1 ≤ length (days_of (row ∷ rows))
 some_days row rows = omega arith
 
-total_by : (a b : ℕ) (d1 d2 n1 n2 : ℕ) (t : Bool) → n2 ≡ n1 + 1 → 1 ≤ d1 → d2 ≡ d1 + one_if t → n2 + 13 * (d2 - 1) ≡ n1 + 13 * (d1 - 1) + 1 + closings (not t)
+total_by : (a b : ℕ) (d1 d2 n1 n2 : ℕ) (t : Bool) → n2 ≡ n1 + 1 → 1 ≤ d1 → d2 ≡ d1 + one_if t → n2 + part_count * (d2 - 1) ≡ n1 + part_count * (d1 - 1) + 1 + closings (not t)
 unfolding one_if
 total_by a b d1 d2 n1 n2 true en some ed = omega arith
 total_by a b d1 d2 n1 n2 false en some ed = omega arith

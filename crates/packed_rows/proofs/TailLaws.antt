@@ -18,6 +18,7 @@ use Rattle.packed_rows.specs.Rows.{is_closing}
 use Rattle.packed_rows.specs.Into.{minutes_into}
 use Rattle.packed_rows.specs.Tail.{EndsRows}
 use Rattle.packed_rows.proofs.RowLaws.{last_join, rise_join}
+use Rattle.daily_summary.specs.Parts.{part_count}
 
 day_le : (m n : ℕ) → nat_lt m n ≡ true → (m - 1) / 1440 ≤ (n - 1) / 1440
 day_le m n e = let lt : m < n = grind (arith, nat_tests) in omega arith
@@ -161,9 +162,9 @@ few_more last running before after row rises few some same later one = by (begin
     by false is = let e = ap (λ (s : DaySummary). s.rows) (same is) in let f = into_step last row.stamp running.rows rises is some few in omega (arith, e, f, one)
 
 -- nothing closes where no row stands, or thirteen slots do
-pub not_closing : (rows : List Row) (shown : ℕ) (slot : List ℕ) → (rows ≡ []) ⊎ (13 ≤ shown) → false ≡ is_closing rows shown slot
-not_closing rows shown slot (inl e) = ap (λ (r : List Row). nat_lt 0 (length r) && nat_lt shown 13 && bytes_eq (unmarked slot) (closing_slot r shown)) (sym e)
-not_closing rows shown slot (inr le) = by (nat_lt 0 (length rows)) (nat_lt shown 13) (bytes_eq (unmarked slot) (closing_slot rows shown)) (let e : nat_lt shown 13 ≡ false = grind (arith, nat_tests) in e)
+pub not_closing : (rows : List Row) (shown : ℕ) (slot : List ℕ) → (rows ≡ []) ⊎ (part_count ≤ shown) → false ≡ is_closing rows shown slot
+not_closing rows shown slot (inl e) = ap (λ (r : List Row). nat_lt 0 (length r) && nat_lt shown part_count && bytes_eq (unmarked slot) (closing_slot r shown)) (sym e)
+not_closing rows shown slot (inr le) = by (nat_lt 0 (length rows)) (nat_lt shown part_count) (bytes_eq (unmarked slot) (closing_slot rows shown)) (let e : nat_lt shown part_count ≡ false = grind (arith, nat_tests) in e)
   where
     by : (a b c : Bool) → b ≡ false → false ≡ (a && b && c)
     by true true c e = absurd cc

@@ -14,6 +14,7 @@ use Rattle.gated_log.specs.declared.version.Version.TheVariants.{First, Second}
 use Rattle.packed_rows.specs.Closed.{IsClosedAt}
 use Rattle.packed_rows.specs.Closing.{closing_slot, summary_slot}
 use Rattle.packed_rows.specs.Rows.{rows_from, rows_of_log, rows_of, is_known, as_read, is_right}
+use Rattle.daily_summary.specs.Parts.{part_count}
 
 -- in the second version each slot is read as it stands
 pub read_second : (slots : List (List ℕ)) → map (as_read Second) slots ≡ slots
@@ -70,7 +71,7 @@ no_bytes rows shown = refl
 
 -- a slot without bytes fits nowhere
 none_right : (rows : List Row) (shown : ℕ) → is_right rows shown [] (row_in_slot []) ≡ false
-none_right rows shown = ap (is_right rows shown []) no_row ∙ and_right (nat_lt 0 (length rows) && nat_lt shown 13) (bytes_eq [] (closing_slot rows shown)) (no_bytes rows shown)
+none_right rows shown = ap (is_right rows shown []) no_row ∙ and_right (nat_lt 0 (length rows) && nat_lt shown part_count) (bytes_eq [] (closing_slot rows shown)) (no_bytes rows shown)
 
 pub unknown_wrong : (known : Bool) (rows : List Row) (shown : ℕ) (slot : List ℕ) → known ≡ false → is_right rows shown (cond known slot []) (row_in_slot (cond known slot [])) ≡ false
 unknown_wrong known rows shown slot is = ap (λ (b : Bool). is_right rows shown (cond b slot []) (row_in_slot (cond b slot []))) is ∙ none_right rows shown

@@ -8,7 +8,7 @@ use Rattle.byteorder.specs.Endian.{little_bytes}
 use Rattle.station_base.specs.declared.row.Row.{Row}
 use Rattle.station_base.specs.CivilMinute.{CivilMinute, archive_day_of}
 use Rattle.daily_summary.specs.declared.summary.DaySummary.{DaySummary}
-use Rattle.daily_summary.specs.Parts.{part_size, summary_part}
+use Rattle.daily_summary.specs.Parts.{part_size, summary_part, part_count}
 use Rattle.daily_summary.specs.Summary.{summary_of, rows_of_day}
 use Rattle.gated_log.specs.Layout.{slot_size}
 use Rattle.packed_rows.specs.Rising.{last_row_stamp}
@@ -43,7 +43,7 @@ closing_slot rows k = summary_slot (last_day rows) k (summary_of (last_day_rows 
 
 -- all thirteen
 abbrev pub closing_slots : List Row → List (List ℕ)
-closing_slots rows = map (λ k. closing_slot rows k) (range_with_len 0 13)
+closing_slots rows = map (λ k. closing_slot rows k) (range_with_len 0 part_count)
 
 -- a row of this stamp begins a later day than the last row's
 abbrev pub begins_day : Option CivilMinute → CivilMinute → Bool
@@ -52,7 +52,7 @@ begins_day (Some last) stamp = not (nat_eq (archive_day_of last) (archive_day_of
 
 -- how many summary slots stand before a row of this stamp
 abbrev pub closings : Bool → ℕ
-closings true = 13
+closings true = part_count
 closings false = 0
 
 -- those that stand before a row behind these rows

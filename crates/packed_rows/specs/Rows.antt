@@ -14,6 +14,7 @@ use Rattle.gated_log.specs.Layout.{slot_size}
 use Rattle.packed_rows.specs.Closing.{closing_before, closing_slot, closings, begins_day}
 use Rattle.packed_rows.specs.Days.{days_of}
 use Rattle.packed_rows.specs.Rising.{stamp_exceeds, last_row_stamp}
+use Rattle.daily_summary.specs.Parts.{part_count}
 
 -- the rows of a file, or why it has none: it is no archive, or it is damaged at a place
 pub data RowsOf : Type 0 where
@@ -30,7 +31,7 @@ may_follow rows shown row =
 -- the slot is the next of the thirteen that close the last row's day; gate and batch word are not tested
 abbrev pub is_closing : List Row → ℕ → List ℕ → Bool
 is_closing rows shown slot =
-    nat_lt 0 (length rows) && nat_lt shown 13 && bytes_eq (unmarked slot) (closing_slot rows shown)
+    nat_lt 0 (length rows) && nat_lt shown part_count && bytes_eq (unmarked slot) (closing_slot rows shown)
 
 -- the slot may stand behind these rows and so many summary slots
 abbrev pub is_right : List Row → ℕ → List ℕ → Option Row → Bool
@@ -93,4 +94,4 @@ slots_of rows = slots_after [] rows
 
 -- how many slots rows take: one each, and thirteen for each archive day but the last
 abbrev pub slot_total : List Row → ℕ
-slot_total rows = length rows + 13 * (length (days_of rows) - 1)
+slot_total rows = length rows + part_count * (length (days_of rows) - 1)

@@ -10,6 +10,7 @@ ghost use Rattle.packed_rows.specs.Packed.{IsReadBack};
 ghost use Rattle.packed_rows.specs.Rising.{stamp_exceeds, last_row_stamp};
 ghost use Rattle.packed_rows.specs.Rows.{may_follow, is_closing, is_known, as_read};
 ghost use Rattle.gated_log.specs.Log.{unmarked};
+ghost use Rattle.daily_summary.specs.Parts.{part_count};
 ghost use Rattle.packed_rows.specs.Into.{minutes_into};
 ghost use Rattle.std.proofs.Props.{props};
 
@@ -103,7 +104,7 @@ impl Tail {
 
     /// Slot `k` of those that close the day.
     pub fn closing_slot(&self, k: u8) -> [u8; SLOT_SIZE]
-        requires { k < 13 }
+        requires { k < part_count }
         ensures { (rows : List Row) → EndsRows self.now rows → 0 < length rows → result ≡ closing_slot rows k }
     {
         let day = match self.last {
@@ -204,7 +205,7 @@ pub fn without_marks(slot: &[u8; SLOT_SIZE]) -> [u8; SLOT_SIZE]
 // The slot of part `k` of a day's summary.
 #[tactic(auto, unfolding(crate::specs::Closing::summary_slot))]
 fn summary_slot(day: DayNumber, k: u8, summary: &DaySummary) -> [u8; SLOT_SIZE]
-    requires { k < 13 }
+    requires { k < part_count }
     ensures { result ≡ summary_slot day.0 k summary.now }
 {
     let mut slot = [0; SLOT_SIZE];

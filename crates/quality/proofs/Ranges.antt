@@ -8,6 +8,7 @@ use Rattle.jiff_core.proofs.SignedLemmas.{signed_arith}
 use Rattle.settings_file.specs.declared.calibration.Calibration.{Calibration}
 use Rattle.settings_file.specs.Calibration.{IsCalibration}
 use Rattle.quality.specs.Corrected.{scaled}
+use Rattle.station_base.specs.Limits.{farthest_value}
 
 -- a number is within m where its size is at most m
 within_from_abs : (m : ℕ) (z : ℤ) → unsigned_abs z ≤ m → IsWithin m z
@@ -36,5 +37,5 @@ scaled_within c v is within =
     quotient_within 1048560 (v *ℤ c.num) c.den (omega (arith, is.den_from, signed_arith)) (product_within v c.num within is.num_from is.num_to)
 
 -- a small number is stored in 32 bits
-pub fits_within : (m : ℕ) (z : ℤ) → m ≤ 2000000 → IsWithin m z → FitsSigned w32 z
+pub fits_within : (m : ℕ) (z : ℤ) → m ≤ farthest_value → IsWithin m z → FitsSigned w32 z
 fits_within m z small within = fits_signed_from_abs w32 z (omega (arith, abs_from_within m z within))

@@ -8,6 +8,7 @@ use native.Mathlib.Nat as nat
 use Rattle.station_base.specs.FieldSet.{is_member, has_value, AreMissing}
 use Rattle.station_base.proofs.FieldSets.{missing_where}
 use Rattle.quality.specs.Corrected.{is_taken, taken, was_taken}
+use Rattle.station_base.specs.Fields.{field_count}
 
 lowest : (n : ℕ) → is_member n 0 ≡ (n % 2 == 1)
 lowest n = let same : n / 2 ^ 0 % 2 ≡ n % 2 = omega arith in ap (λ (m : ℕ). m == 1) same
@@ -43,8 +44,8 @@ apart true false = refl
 apart false b = refl
 
 -- they have no value
-pub taken_missing : (n : ℕ) (before after : List (Option ℤ)) → n < 2 ^ 37
-    → ((field : ℕ) → field < 37 → is_member n field ≡ was_taken before after field) → AreMissing n after
+pub taken_missing : (n : ℕ) (before after : List (Option ℤ)) → n < 2 ^ field_count
+    → ((field : ℕ) → field < field_count → is_member n field ≡ was_taken before after field) → AreMissing n after
 taken_missing n before after small each = missing_where n after small (λ field few.
     ap (λ (b : Bool). not (b && has_value after field)) (each field few) ∙ apart (has_value before field) (has_value after field))
 
@@ -93,8 +94,8 @@ named_more before after i set more named added kept others field = by (field == 
         others field differs ∙ named field ∙ ap (λ (b : Bool). b && was_taken before after field) (same_below field i differs)
 
 -- in the end each field is told
-pub named_all : (before after : List (Option ℤ)) (i set : ℕ) → AreNamed before after i set → 37 ≤ i
-    → (field : ℕ) → field < 37 → is_member set field ≡ was_taken before after field
+pub named_all : (before after : List (Option ℤ)) (i set : ℕ) → AreNamed before after i set → field_count ≤ i
+    → (field : ℕ) → field < field_count → is_member set field ≡ was_taken before after field
 named_all before after i set named all field few =
     let below : nat_lt field i ≡ true = grind (arith, nat_tests) in
     named field ∙ ap (λ (b : Bool). b && was_taken before after field) below

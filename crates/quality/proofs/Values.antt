@@ -6,6 +6,7 @@ use Rattle.station_base.specs.RowLine.{IsPrintable}
 use Rattle.settings_file.specs.StationSettings.{StationSettings, calibration_of, limits_of}
 use Rattle.station_base.specs.CivilMinute.{CivilMinute}
 use Rattle.quality.specs.Corrected.{corrected_value, corrected_values}
+use Rattle.station_base.specs.Fields.{field_count}
 
 -- what becomes of a value of the field of this number
 abbrev pub corrected_at : StationSettings → CivilMinute → ℕ → Option ℤ → Option ℤ
@@ -21,13 +22,13 @@ corrected_values-append s t field (x ∷ vs) v =
 
 -- the first values are corrected
 pub record AreCorrected (s : StationSettings) (t : CivilMinute) (count : ℕ) (values corrected : List (Option ℤ)) : Type 0 where
-  pub room : length corrected ≡ 37
+  pub room : length corrected ≡ field_count
   pub same : take count corrected ≡ corrected_values s t 0 (take count values)
   pub printable : All IsPrintable (take count corrected)
 
 -- and one more
 pub AreCorrected-more : (s : StationSettings) (t : CivilMinute) (i : ℕ) (values corrected : List (Option ℤ)) (w : Option ℤ)
-    → AreCorrected s t i values corrected → i < length values → i < 37 → w ≡ corrected_at s t i (get_or values i None) → IsPrintable w
+    → AreCorrected s t i values corrected → i < length values → i < field_count → w ≡ corrected_at s t i (get_or values i None) → IsPrintable w
     → AreCorrected s t (i + 1) values (set corrected i w)
 AreCorrected-more s t i values corrected w so_far within below exact printable =
     let room : i < length corrected = omega (arith, so_far.room) in
@@ -43,14 +44,14 @@ AreCorrected-more s t i values corrected w so_far within below exact printable =
 
 -- at the end all are corrected
 pub AreCorrected-all : (s : StationSettings) (t : CivilMinute) (i : ℕ) (values corrected : List (Option ℤ))
-    → AreCorrected s t i values corrected → length values ≡ 37 → 37 ≤ i → corrected ≡ corrected_values s t 0 values
+    → AreCorrected s t i values corrected → length values ≡ field_count → field_count ≤ i → corrected ≡ corrected_values s t 0 values
 AreCorrected-all s t i values corrected so_far count end =
     let all : take i values ≡ values = take_all i values (omega arith) in
     let whole : take i corrected ≡ corrected = take_all i corrected (omega (arith, so_far.room)) in
     rw (all, whole) at so_far.same
 
 pub AreCorrected-printable : (s : StationSettings) (t : CivilMinute) (i : ℕ) (values corrected : List (Option ℤ))
-    → AreCorrected s t i values corrected → 37 ≤ i → All IsPrintable corrected
+    → AreCorrected s t i values corrected → field_count ≤ i → All IsPrintable corrected
 AreCorrected-printable s t i values corrected so_far end =
     let whole : take i corrected ≡ corrected = take_all i corrected (omega (arith, so_far.room)) in
     rw whole at so_far.printable

@@ -5,6 +5,8 @@ ghost use Rattle.station_base.specs.FieldSet.{is_member, AreMissing};
 ghost use Rattle.station_base.specs.RowLine.{IsPrintable};
 ghost use Rattle.settings_file.specs.Calibration.{IsCalibration};
 ghost use Rattle.quality.specs.Corrected.{IsReading, IsUnlimited, calibrated, scaled, is_kept, corrected_value, corrected_values, is_taken, taken, was_taken, corrected_row};
+ghost use Rattle.station_base.specs.Fields.{field_count};
+ghost use Rattle.station_base.specs.Limits.{farthest_value};
 
 use settings_file::{Calibration, Limits, Settings};
 use station_base::{FIELD_COUNT, FieldId, FieldSet, Row, Stamp};
@@ -19,7 +21,7 @@ pub fn corrected(settings: &Settings, row: &Row) -> Row
     ensures exact { result ≡ corrected_row settings.now row.now }
     ensures printable { All IsPrintable result.values }
     ensures missing { AreMissing result.limited result.values }
-    ensures named { (field : ℕ) → field < 37
+    ensures named { (field : ℕ) → field < field_count
         → is_member result.limited field ≡ was_taken row.now.values result.values field }
 {
     let values = corrected_values(settings, row.stamp, &row.values);
@@ -56,7 +58,7 @@ fn corrected_values(
 // The fields that had a value and have none now, as the bits of a set.
 fn taken(before: &[Option<i32>; FIELD_COUNT], after: &[Option<i32>; FIELD_COUNT]) -> u64
     ensures exact { result ≡ taken before.now after.now }
-    ensures named { (field : ℕ) → field < 37 → is_member result field ≡ was_taken before.now after.now field }
+    ensures named { (field : ℕ) → field < field_count → is_member result field ≡ was_taken before.now after.now field }
     ensures missing { AreMissing result after.now }
 {
     let mut fields = FieldSet::empty();
@@ -98,7 +100,7 @@ fn calibrate(calibration: Calibration, value: i32) -> i32
     requires calibration { IsCalibration calibration }
     requires reading { IsWithin 65535 value }
     ensures exact { result ≡ calibrated calibration value }
-    ensures printable { IsWithin 2000000 result }
+    ensures printable { IsWithin farthest_value result }
 {
     scale(calibration, value) + calibration.add
 }

@@ -5,6 +5,10 @@ use Rattle.station_base.specs.declared.day.DayNumber.{DayNumber}
 use Rattle.query_service.specs.declared.request.Request.{Request}
 use Rattle.query_service.specs.declared.request.Request.TheVariants.{Count, Last, Rows, Day, Unknown}
 
+-- the bytes of a request that is known, at most
+abbrev pub longest_request : ℕ
+longest_request = 64
+
 -- FIRST LAST
 abbrev pub day_span_text : DayNumber → DayNumber → List ℕ
 day_span_text first last = day_text first.0 ++ (codes " " ++ day_text last.0)
@@ -35,7 +39,7 @@ Means line (Rows first last) = IsRequest line (Rows first last)
 Means line (Day day) = IsRequest line (Day day)
 Means line Unknown = (request : Request) → IsRequest line request → ⊥
 
--- A line asks for what the table has for it; one of more than 64 bytes asks for nothing that is known.
+-- A line asks for what the table has for it; one that is longer than a request asks for nothing that is known.
 pub record LineAsks (line : List ℕ) (request : Request) : Type 0 where
-  pub long : 64 < length line → request ≡ Unknown
-  pub short : length line ≤ 64 → Means line request
+  pub long : longest_request < length line → request ≡ Unknown
+  pub short : length line ≤ longest_request → Means line request

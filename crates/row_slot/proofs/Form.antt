@@ -16,12 +16,13 @@ use Rattle.row_slot.specs.Slot.{is_marked, stamp_in_slot, interval_in, presence_
 use Rattle.row_slot.specs.WellFormed.{IsWellFormed}
 use Rattle.row_slot.proofs.Fields.{AreFields, has_value, number_of, fields_of, some_at, some_read}
 use Rattle.row_slot.proofs.Slots.{AreMarks, AreParts, is_marked-marks, marks-is_marked, parts-row_in}
+use Rattle.station_base.specs.Fields.{field_count}
 
 -- the number of a field, by its place in the slot
 place_of : (slot : List ℕ) (field : ℕ) → number_of (drop 20 slot) field ≡ signed_number_in (drop (20 + 4 * field) slot)
 place_of slot field = ap signed_number_in (drop-drop (4 * field) 20 slot)
 
-fields_in : (slot : List ℕ) → AreFields 37 (presence_in slot) (drop 20 slot) → (field : ℕ) → field < 37 →
+fields_in : (slot : List ℕ) → AreFields field_count (presence_in slot) (drop 20 slot) → (field : ℕ) → field < field_count →
     is_allowed (has_value (presence_in slot) field) (signed_number_in (drop (20 + 4 * field) slot)) ≡ true
 fields_in slot are field within = ap (is_allowed (has_value (presence_in slot) field)) (sym (place_of slot field)) ∙ are.allowed field within
 
@@ -31,10 +32,10 @@ not_one b (suc zero) small is none = absurd (false≢true (sym none ∙ sym is))
 not_one b (suc (suc bit)) small is none = absurd (omega arith)
 
 -- a field that limits made missing has no value, and so no presence bit
-missing_in : (slot : List ℕ) (row : Row) → AreParts slot row → (field : ℕ) → field < 37 → is_member (limited_in slot) field ≡ true → bit_at (presence_in slot) field ≡ 0
+missing_in : (slot : List ℕ) (row : Row) → AreParts slot row → (field : ℕ) → field < field_count → is_member (limited_in slot) field ≡ true → bit_at (presence_in slot) field ≡ 0
 missing_in slot row parts field within member =
     let free = missing_free row.limited row.values parts.missing field within in
-    let some = some_at 37 (presence_in slot) (drop 20 slot) row.values parts.values field within in
+    let some = some_at field_count (presence_in slot) (drop 20 slot) row.values parts.values field within in
     let one : is_member row.limited field ≡ true = ap (λ (n : ℕ). is_member n field) (sym parts.limited) ∙ member in
     not_one (is_some (get_or row.values field None)) (bit_at (presence_in slot) field) (bit_at-lt (presence_in slot) field) (sym some) (none_of (is_member row.limited field) (is_some (get_or row.values field None)) one free)
   where
@@ -47,7 +48,7 @@ read_formed : (slot : List ℕ) (row : Row) → row_in_slot slot ≡ Some row �
 read_formed slot row is =
     let parts : AreParts slot row = parts-row_in slot row is in
     let marks : AreMarks slot = marks-is_marked slot parts.marked in
-    let fields : AreFields 37 (presence_in slot) (drop 20 slot) = fields_of 37 (presence_in slot) (drop 20 slot) row.values parts.values in
+    let fields : AreFields field_count (presence_in slot) (drop 20 slot) = fields_of field_count (presence_in slot) (drop 20 slot) row.values parts.values in
     record {
       gate = marks.gate;
       kind = marks.kind;
@@ -74,7 +75,7 @@ missing_of : (slot : List ℕ) → IsWellFormed slot → (values : List (Option 
 missing_of slot is values read =
     missing_where (limited_in slot) values is.limited
     (λ field within. free (is_member (limited_in slot) field) (is_some (get_or values field None)) (λ member.
-    some_at 37 (presence_in slot) (drop 20 slot) values read field within ∙ ap (λ (n : ℕ). n == 1) (is.missing field within member)))
+    some_at field_count (presence_in slot) (drop 20 slot) values read field within ∙ ap (λ (n : ℕ). n == 1) (is.missing field within member)))
   where
     free : (a b : Bool) → (a ≡ true → b ≡ false) → not (a && b) ≡ true
     free true b none = rw (none refl) refl
@@ -84,13 +85,13 @@ formed_read : (slot : List ℕ) → IsWellFormed slot → IsSome (row_in_slot sl
 unfolding row_in_slot
 formed_read slot is =
     let marks : AreMarks slot = record { kind = is.kind; gate = is.gate; batch = is.batch; spare = is.spare } in
-    let fields : AreFields 37 (presence_in slot) (drop 20 slot) = record {
+    let fields : AreFields field_count (presence_in slot) (drop 20 slot) = record {
       below = is.presence;
       allowed = λ field within. ap (is_allowed (has_value (presence_in slot) field)) (place_of slot field) ∙ is.values field within;
     }
     in
     some_row (is_marked slot) (is_period (interval_in slot)) (stamp_in_slot slot) (interval_in slot) (values_in slot) (limited_in slot)
-    (is_marked-marks slot marks) is.stamp is.interval (some_read 37 (presence_in slot) (drop 20 slot) fields) (missing_of slot is)
+    (is_marked-marks slot marks) is.stamp is.interval (some_read field_count (presence_in slot) (drop 20 slot) fields) (missing_of slot is)
 
 -- a slot is read as a row exactly where it is well-formed
 pub read_where_formed : (slot : List ℕ) (is_row : Bool) (row : Row) → row_in_slot slot ≡ then_some is_row row → (is_row ≡ true) ↔ IsWellFormed slot

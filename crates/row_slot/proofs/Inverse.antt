@@ -17,16 +17,17 @@ use Rattle.row_slot.specs.Values.{bit_of, presence_of, numbers_of, spelled_numbe
 use Rattle.causes.specs.Lists.{AreBytes}
 use Rattle.causes.proofs.Bytes.{bytes_behind}
 use Rattle.row_slot.proofs.Bytes.{number_again, number_read}
+use Rattle.station_base.specs.Limits.{farthest_value}
 
 -- a value within the bound
 record IsNear (z : ℤ) : Type 0 where
-  pub from : neg_ℤ (pos 2000000) ≤ℤ z
-  pub to : z ≤ℤ pos 2000000
+  pub from : neg_ℤ (pos farthest_value) ≤ℤ z
+  pub to : z ≤ℤ pos farthest_value
 
 near_of : (z : ℤ) → IsPrintable (Some z) → IsNear z
 near_of z printable = let within = printable z refl in record { from = within.0; to = within.1 }
 
-small_of : (z : ℤ) → IsNear z → unsigned_abs z ≤ 2000000
+small_of : (z : ℤ) → IsNear z → unsigned_abs z ≤ farthest_value
 small_of (pos n) near = omega (arith, ints, near.to)
 small_of (negsuc n) near = omega (arith, ints, near.from)
 
@@ -35,7 +36,7 @@ allowed_of z near = let small = small_of z near in grind (arith, nat_tests)
 
 printable_of : (z : ℤ) → is_allowed true z ≡ true → IsPrintable (Some z)
 printable_of z test =
-    let small : unsigned_abs z ≤ 2000000 = grind (arith, nat_tests) in
+    let small : unsigned_abs z ≤ farthest_value = grind (arith, nat_tests) in
     printable_some z (omega (arith, ints), omega (arith, ints))
 
 zero_of : (z : ℤ) → is_allowed false z ≡ true → z ≡ pos 0

@@ -6,6 +6,7 @@ use Rattle.std.proofs.Math.Nat.{pow-suc, pow-le-pow_right, mul-le-mul_right, mod
 use Rattle.std.proofs.lemmas.List.{length-take-le}
 use Rattle.std.proofs.lemmas.Nat.{or_comm, or_shifted}
 use Rattle.row_slot.specs.Values.{bit_of, presence_of}
+use Rattle.station_base.specs.Fields.{field_count}
 
 bit_small : (value : Option ℤ) → bit_of value ≤ 1
 bit_small None = omega arith
@@ -28,15 +29,15 @@ more (value ∷ values) (suc i) d within =
     let rest = more values i d (omega arith) in
     rw (pow-suc 2 i) (omega (arith, rest))
 
-shifted : (bit i : ℕ) → bit ≤ 1 → i < 37 → bit * 2 ^ i % 2 ^ 64 ≡ bit * 2 ^ i
+shifted : (bit i : ℕ) → bit ≤ 1 → i < field_count → bit * 2 ^ i % 2 ^ 64 ≡ bit * 2 ^ i
 shifted bit i small few =
-    let at_most : i ≤ 37 = omega arith in
-    let pow : 2 ^ i ≤ 2 ^ 37 = pow-le-pow_right (omega arith) at_most in
+    let at_most : i ≤ field_count = omega arith in
+    let pow : 2 ^ i ≤ 2 ^ field_count = pow-le-pow_right (omega arith) at_most in
     let product : bit * 2 ^ i ≤ 1 * 2 ^ i = mul-le-mul_right (2 ^ i) small in
     mod-eq_of_lt (omega arith)
 
 -- the same as it is made: the bit of the field is set
-pub presence_more : (values : List (Option ℤ)) (i bit presence : ℕ) (d : Option ℤ) → i < 37 → length values ≡ 37 → bit ≡ bit_of (get_or values i d) →
+pub presence_more : (values : List (Option ℤ)) (i bit presence : ℕ) (d : Option ℤ) → i < field_count → length values ≡ field_count → bit ≡ bit_of (get_or values i d) →
     presence ≡ presence_of (take i values) → bit_or presence (bit * 2 ^ i % 2 ^ 64) ≡ presence_of (take (i + 1) values)
 presence_more values i bit presence d within long is so_far =
     let small : bit ≤ 1 = omega (arith, bit_small (get_or values i d)) in

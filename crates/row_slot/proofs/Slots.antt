@@ -24,12 +24,13 @@ use Rattle.causes.proofs.Bytes.{bytes_behind}
 use Rattle.row_slot.proofs.Bytes.{bytes_again}
 use Rattle.row_slot.proofs.Inverse.{AreTold, values_back, values_again}
 use Rattle.row_slot.proofs.Presence.{presence_below}
+use Rattle.station_base.specs.Fields.{field_count}
 
 -- a row that can be written: of a stamp, a period and 37 values within the bound
 pub record IsWritable (row : Row) : Type 0 where
   pub civil : IsCivilMinute row.stamp
   pub period : IsPeriod row.interval
-  pub long : length row.values ≡ 37
+  pub long : length row.values ≡ field_count
   pub printable : All IsPrintable row.values
   pub missing : AreMissing row.limited row.values
 
@@ -91,17 +92,17 @@ marks-is_marked slot marked =
     record { kind = parts.0; gate = parts.1; batch = parts.2; spare = parts.3 }
 
 -- the last bytes of a written slot
-rest_of : (row : Row) → length row.values ≡ 37 → drop 168 (slot_of row) ≡ little_bytes 8 row.limited
+rest_of : (row : Row) → length row.values ≡ field_count → drop 168 (slot_of row) ≡ little_bytes 8 row.limited
 unfolding slot_of
 rest_of row long =
     let values : length (spelled_numbers (numbers_of row.values)) ≡ 148 = omega (arith, spelled_long row.values) in
     ap (λ (n : ℕ). drop n (spelled_numbers (numbers_of row.values) ++ little_bytes 8 row.limited)) (sym values) ∙ drop-append_seam (spelled_numbers (numbers_of row.values)) (little_bytes 8 row.limited)
 
-marks_written : (row : Row) → length row.values ≡ 37 → AreMarks (slot_of row)
+marks_written : (row : Row) → length row.values ≡ field_count → AreMarks (slot_of row)
 unfolding slot_of
 marks_written row long = record { kind = refl; gate = refl; batch = refl; spare = refl }
 
-limited_written : (row : Row) → length row.values ≡ 37 → row.limited < 2 ^ 37 → limited_in (slot_of row) ≡ row.limited
+limited_written : (row : Row) → length row.values ≡ field_count → row.limited < 2 ^ field_count → limited_in (slot_of row) ≡ row.limited
 limited_written row long below =
     ap (little_number 8) (rest_of row long ∙ sym (append-nil (little_bytes 8 row.limited))) ∙ little_number-reads_back 8 row.limited [] (omega arith)
 
@@ -117,12 +118,12 @@ unfolding slot_of
 interval_written row period =
     little_number-reads_back 2 row.interval (drop 10 (slot_of row)) (omega (arith, period_bound row.interval period))
 
-values_written : (row : Row) → length row.values ≡ 37 → All IsPrintable row.values → values_in (slot_of row) ≡ Some row.values
+values_written : (row : Row) → length row.values ≡ field_count → All IsPrintable row.values → values_in (slot_of row) ≡ Some row.values
 unfolding slot_of
 values_written row long printable =
-    let below : presence_of row.values < 2 ^ 37 = subst (λ (n : ℕ). presence_of row.values < 2 ^ n) long (presence_below row.values) in
+    let below : presence_of row.values < 2 ^ field_count = subst (λ (n : ℕ). presence_of row.values < 2 ^ n) long (presence_below row.values) in
     let presence : presence_in (slot_of row) ≡ presence_of row.values = little_number-reads_back 8 (presence_of row.values) (drop 20 (slot_of row)) (omega arith) in
-    ap (λ (n : ℕ). slot_values_in 37 n (drop 20 (slot_of row))) presence
+    ap (λ (n : ℕ). slot_values_in field_count n (drop 20 (slot_of row))) presence
     ∙ ap (λ (n : ℕ). slot_values_in n (presence_of row.values) (drop 20 (slot_of row))) (sym long)
     ∙ values_back row.values (little_bytes 8 row.limited) printable
 
@@ -193,8 +194,8 @@ slot_of-row_in slot row long fits is =
     let parts : AreParts slot row = parts-row_in slot row is in
     let marks : AreMarks slot = marks-is_marked slot parts.marked in
     let words = words_of-stamp (number_at 2 4 slot) (number_at 2 6 slot) row.stamp parts.stamp in
-    let told : AreTold 37 (presence_in slot) (drop 20 slot) row.values =
-    values_again 37 (presence_in slot) (drop 20 slot) row.values (omega (arith, length-drop 20 slot)) (bytes_behind 20 slot fits) parts.values in
+    let told : AreTold field_count (presence_in slot) (drop 20 slot) row.values =
+    values_again field_count (presence_in slot) (drop 20 slot) row.values (omega (arith, length-drop 20 slot)) (bytes_behind 20 slot fits) parts.values in
     let values : drop 20 slot ≡ spelled_numbers (numbers_of row.values) ++ drop 168 slot =
     sym (take-append-drop 148 (drop 20 slot)) ∙ ap (λ (xs : List ℕ). xs ++ drop 148 (drop 20 slot)) (sym told.numbers)
     ∙ ap (λ (xs : List ℕ). spelled_numbers (numbers_of row.values) ++ xs) (drop-drop 148 20 slot) in
@@ -217,7 +218,7 @@ slot_of-row_in slot row long fits is =
 pub printable-row_in : (slot : List ℕ) (row : Row) → length slot ≡ row_size → AreBytes slot → row_in_slot slot ≡ Some row → All IsPrintable row.values
 printable-row_in slot row long fits is =
     let parts : AreParts slot row = parts-row_in slot row is in
-    (values_again 37 (presence_in slot) (drop 20 slot) row.values (omega (arith, length-drop 20 slot)) (bytes_behind 20 slot fits) parts.values).printable
+    (values_again field_count (presence_in slot) (drop 20 slot) row.values (omega (arith, length-drop 20 slot)) (bytes_behind 20 slot fits) parts.values).printable
 
 -- and a field that limits made missing has none
 pub missing-row_in : (slot : List ℕ) (row : Row) → row_in_slot slot ≡ Some row → AreMissing row.limited row.values

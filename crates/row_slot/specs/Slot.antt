@@ -9,6 +9,7 @@ use Rattle.station_base.specs.FieldSet.{are_missing}
 use Rattle.station_base.specs.Period.{is_period}
 use Rattle.station_base.specs.Stamp.{date_word_of, time_word_of, stamp_of_words}
 use Rattle.row_slot.specs.Values.{presence_of, numbers_of, spelled_numbers, slot_values_in}
+use Rattle.station_base.specs.Fields.{field_count}
 
 -- the bytes of a row, which fill a slot of the archive's log
 abbrev pub row_size : ℕ
@@ -48,7 +49,7 @@ presence_in slot = number_at 8 12 slot
 
 -- the values of the fields, where each is allowed
 abbrev pub values_in : List ℕ → Option (List (Option ℤ))
-values_in slot = slot_values_in 37 (presence_in slot) (drop 20 slot)
+values_in slot = slot_values_in field_count (presence_in slot) (drop 20 slot)
 
 -- the bits of the fields that limits made missing
 abbrev pub limited_in : List ℕ → ℕ

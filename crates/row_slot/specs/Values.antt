@@ -6,6 +6,7 @@ use Rattle.std.specs.Int.{w32, cast_signed, cast_unsigned}
 use Rattle.std.specs.Option.{unwrap_or}
 use Rattle.std.specs.declared.option.Option.{Option}
 use Rattle.byteorder.specs.Endian.{little_bytes, little_number}
+use Rattle.station_base.specs.Limits.{farthest_value}
 
 -- 1 where there is a value
 abbrev pub bit_of : Option ℤ → ℕ
@@ -31,7 +32,7 @@ signed_number_in bytes = cast_signed w32 (little_number 4 bytes)
 
 -- a value lies within 2,000,000 either way, and where it is missing the number is 0
 abbrev pub is_allowed : Bool → ℤ → Bool
-is_allowed true number = nat_le (unsigned_abs number) 2000000
+is_allowed true number = nat_le (unsigned_abs number) farthest_value
 is_allowed false number = unsigned_abs number == 0
 
 -- a value that is allowed before the others, where these are

@@ -6,10 +6,7 @@ ghost use Rattle.row_slot.specs.Values.{is_allowed, signed_number_in, numbers_of
 
 use crate::layout::{LIMITED, PRESENCE, ROW_SIZE, VALUES};
 use byteorder::{ByteOrder, LittleEndian};
-use station_base::{FIELD_COUNT, FieldSet};
-
-// How far from 0 a value may lie.
-const GREATEST: u32 = 2_000_000;
+use station_base::{FARTHEST_VALUE, FIELD_COUNT, FieldSet};
 
 const NUMBER_SIZE: usize = 4;
 
@@ -96,7 +93,7 @@ fn is_allowed(has_value: bool, number: i32) -> bool
     ensures { result ≡ is_allowed has_value number }
 {
     if has_value {
-        number.unsigned_abs() <= GREATEST
+        number.unsigned_abs() <= FARTHEST_VALUE
     } else {
         number == 0
     }

@@ -15,6 +15,7 @@ use Rattle.schedule_file.specs.declared.schedule.step.Step as Seen
 use Rattle.schedule_file.specs.Pieces.{lines_of}
 use Rattle.schedule_file.specs.Reading.{said_with_form, read_lines, said_by_text}
 use Rattle.schedule_file.proofs.Kept.{steps_kept}
+use Rattle.schedule_file.specs.Limits.{most_records, most_mids}
 
 -- the kinds behind some, where none of all applies
 least_behind : (ks more : List Kind) → first_applying (ks ++ more) ≡ None → first_applying more ≡ None
@@ -36,11 +37,11 @@ rest_fails true kind rest h = cc
 rest_fails false kind rest h = h
 
 -- an accepted line leaves at most 20,000 records
-few_after : (period : ℕ) (s : Said) (form : Form) → s.records ≤ 20000 → first_applying (kinds period s form) ≡ None → (said_with_form period s form).records ≤ 20000
+few_after : (period : ℕ) (s : Said) (form : Form) → s.records ≤ most_records → first_applying (kinds period s form) ≡ None → (said_with_form period s form).records ≤ most_records
 few_after period s (Due told) few none =
-    ltb-false 20000 (s.records + 1) (first_fails (nat_lt 20000 (s.records + 1)) 10 None (least_behind (told_kinds period s told 1) (count_kinds s 1) none))
+    ltb-false most_records (s.records + 1) (first_fails (nat_lt most_records (s.records + 1)) 10 None (least_behind (told_kinds period s told 1) (count_kinds s 1) none))
 few_after period s (Run first count) few none =
-    ltb-false 20000 (s.records + count) (first_fails (nat_lt 20000 (s.records + count)) 10 None (least_behind (told_kinds period s first count) (count_kinds s count) none))
+    ltb-false most_records (s.records + count) (first_fails (nat_lt most_records (s.records + count)) 10 None (least_behind (told_kinds period s first count) (count_kinds s count) none))
 few_after period s (Idle ticks) few none = few
 few_after period s Open few none = few
 few_after period s Round few none = few
@@ -49,16 +50,16 @@ few_after period s (Reply number fate) few none = few
 few_after period s (Late number waits place) few none = few
 few_after period s (Mid number told) few none =
     let misplaced : Bool = not (is_in_round s.turn) || list_any is_due s.since in
-    let behind : List Kind = kind_if 13 (is_below_last s.details.mids number) ∷ kind_if 14 (nat_le 64 (length s.details.mids)) ∷ [] in
-    let more = least_behind (told_kinds period s told 1) (kind_if 8 misplaced ∷ kind_if 10 (nat_lt 20000 (s.records + 1)) ∷ behind) none in
-    let rest = rest_fails misplaced 8 (first_applying (kind_if 10 (nat_lt 20000 (s.records + 1)) ∷ behind)) more in
-    ltb-false 20000 (s.records + 1) (first_fails (nat_lt 20000 (s.records + 1)) 10 (first_applying behind) rest)
+    let behind : List Kind = kind_if 13 (is_below_last s.details.mids number) ∷ kind_if 14 (nat_le most_mids (length s.details.mids)) ∷ [] in
+    let more = least_behind (told_kinds period s told 1) (kind_if 8 misplaced ∷ kind_if 10 (nat_lt most_records (s.records + 1)) ∷ behind) none in
+    let rest = rest_fails misplaced 8 (first_applying (kind_if 10 (nat_lt most_records (s.records + 1)) ∷ behind)) more in
+    ltb-false most_records (s.records + 1) (first_fails (nat_lt most_records (s.records + 1)) 10 (first_applying behind) rest)
 few_after period s (Stop stop) few none = few
 
 -- an accepted schedule has at most 20,000 records
-pub few_records : (bytes : List ℕ) (period : ℕ) (said : Said) → said_by_text bytes period ≡ Ok said → said.records ≤ 20000
+pub few_records : (bytes : List ℕ) (period : ℕ) (said : Said) → said_by_text bytes period ≡ Ok said → said.records ≤ most_records
 few_records bytes period said read =
-    steps_kept period (λ (s : Said). s.records ≤ 20000) (λ words form is s few none. few_after period s form few none) bytes said (lit≤ tt) read
+    steps_kept period (λ (s : Said). s.records ≤ most_records) (λ words form is s few none. few_after period s form few none) bytes said (lit≤ tt) read
 
 records_join : (xs ys : List ScheduleStep) → records_in_steps (xs ++ ys) ≡ records_in_steps xs + records_in_steps ys
 records_join [] ys = omega arith
@@ -99,10 +100,10 @@ counted_after period s (Reply number fate) c none = c
 counted_after period s (Late number waits place) c none = c
 counted_after period s (Mid number told) c none =
     let misplaced : Bool = not (is_in_round s.turn) || list_any is_due s.since in
-    let behind : List Kind = kind_if 13 (is_below_last s.details.mids number) ∷ kind_if 14 (nat_le 64 (length s.details.mids)) ∷ [] in
-    let more = least_behind (told_kinds period s told 1) (kind_if 8 misplaced ∷ kind_if 10 (nat_lt 20000 (s.records + 1)) ∷ behind) none in
+    let behind : List Kind = kind_if 13 (is_below_last s.details.mids number) ∷ kind_if 14 (nat_le most_mids (length s.details.mids)) ∷ [] in
+    let more = least_behind (told_kinds period s told 1) (kind_if 8 misplaced ∷ kind_if 10 (nat_lt most_records (s.records + 1)) ∷ behind) none in
     let within = in_round (is_in_round s.turn) (list_any is_due s.since)
-    (first_fails misplaced 8 (first_applying (kind_if 10 (nat_lt 20000 (s.records + 1)) ∷ behind)) more) in
+    (first_fails misplaced 8 (first_applying (kind_if 10 (nat_lt most_records (s.records + 1)) ∷ behind)) more) in
     let x : MidRecord = record { number = number; record_read = record_told period told } in
     let grown : records_within s.turn (length (s.details.mids ++ x ∷ [])) ≡ records_within s.turn (length s.details.mids) + 1 =
     ap (records_within s.turn) (length-append s.details.mids (x ∷ [])) ∙ one_within s.turn (length s.details.mids) within in

@@ -12,6 +12,7 @@ use Rattle.schedule_file.specs.declared.fates.Mid.{Mid}
 use Rattle.schedule_file.specs.Steps.{Said, Details, MidRecord, mid_seen, details_seen}
 use Rattle.schedule_file.specs.Kinds.{is_below_last, is_in_round, is_due, Kind, kind_if, first_applying, told_kinds}
 use Rattle.schedule_file.specs.Reading.{read_schedule_line, read_lines, accept, said_with_form, said_or}
+use Rattle.schedule_file.specs.Limits.{most_records, most_mids}
 
 -- a line that was read
 pub line_more : (period n : ℕ) (line : List ℕ) (lines : List (List ℕ)) (s t : Said) → read_schedule_line period n line s ≡ Ok t
@@ -65,12 +66,12 @@ not_from m n lt = go (nat_le m n) refl
 
 -- a record that falls due in a round
 pub mid_accepted : (period number : ℕ) (s : Said) (told : Told) → first_applying (told_kinds period s told 1) ≡ None → is_in_round s.turn ≡ true
-    → list_any is_due s.since ≡ false → s.records + 1 ≤ 20000 → is_below_last s.details.mids number ≡ false → length s.details.mids < 64
+    → list_any is_due s.since ≡ false → s.records + 1 ≤ most_records → is_below_last s.details.mids number ≡ false → length s.details.mids < most_mids
     → accept period s (form.Mid number told) ≡ Ok (said_with_form period s (form.Mid number told))
 mid_accepted period number s told none in_round no_due few not_below room =
-    let more : List Kind = kind_if 8 (not (is_in_round s.turn) || list_any is_due s.since) ∷ kind_if 10 (nat_lt 20000 (s.records + 1))
-    ∷ kind_if 13 (is_below_last s.details.mids number) ∷ kind_if 14 (nat_le 64 (length s.details.mids)) ∷ [] in
-    let rest : first_applying more ≡ None = rw (in_round, no_due, not_above 20000 (s.records + 1) few, not_below, not_from 64 (length s.details.mids) room) refl in
+    let more : List Kind = kind_if 8 (not (is_in_round s.turn) || list_any is_due s.since) ∷ kind_if 10 (nat_lt most_records (s.records + 1))
+    ∷ kind_if 13 (is_below_last s.details.mids number) ∷ kind_if 14 (nat_le most_mids (length s.details.mids)) ∷ [] in
+    let rest : first_applying more ≡ None = rw (in_round, no_due, not_above most_records (s.records + 1) few, not_below, not_from most_mids (length s.details.mids) room) refl in
     ap (λ k. said_or k (said_with_form period s (form.Mid number told))) (least_more (told_kinds period s told 1) more none ∙ rest)
 
 -- fates with other mids

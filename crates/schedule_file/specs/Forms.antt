@@ -3,7 +3,7 @@ use Rattle.std.specs.Prelude.{ℕ, ℤ, ◌≤◌, Bool, true, false, not, if◌
 use Rattle.std.specs.Prelude.{slice_index_or, slice_set, Some, None, Result, Ok, Err, option_map, codes}
 use Rattle.std.specs.declared.option.Option.{Option}
 use Rattle.std.specs.Str.{bytes_eq}
-use Rattle.station_base.specs.Fields.{field_named}
+use Rattle.station_base.specs.Fields.{field_named, field_count}
 use Rattle.archive_record.specs.Record.{unmeasured}
 use Rattle.archive_record.specs.Table.{places}
 use Rattle.numerals.specs.Then.{◌>>=◌, only_if}
@@ -16,7 +16,7 @@ use Rattle.schedule_file.specs.Words.{named_in, date_in_word, clock_of, minute_a
 
 -- no field is named
 abbrev pub none_taken : List Bool
-none_taken = replicate 37 false
+none_taken = replicate field_count false
 
 -- a field that is not named has no value, or 0 where no mark tells that
 abbrev pub no_values : List (Option ℤ)

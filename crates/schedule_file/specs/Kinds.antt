@@ -14,6 +14,7 @@ use Rattle.schedule_file.specs.declared.schedule.turn.Turn.{Turn}
 use Rattle.schedule_file.specs.declared.schedule.turn.Turn.TheVariants.{Neither, InRound}
 use Rattle.schedule_file.specs.Lists.{entry_of}
 use Rattle.schedule_file.specs.Steps.{MidRecord, ScheduleStep, DueStep, RunStep, Said}
+use Rattle.schedule_file.specs.Limits.{most_records, most_turns, most_mids}
 
 -- kind 5: the stamp, or that of the last of so many records, is no stamp
 abbrev pub is_no_stamp : ℕ → Option CivilMinute → ℕ → Bool
@@ -73,11 +74,11 @@ told_kinds period s told count =
 
 -- too many records
 abbrev pub count_kinds : Said → ℕ → List Kind
-count_kinds s count = kind_if 10 (nat_lt 20000 (s.records + count)) ∷ []
+count_kinds s count = kind_if 10 (nat_lt most_records (s.records + count)) ∷ []
 
 -- too many `open` and `round`
 abbrev pub turn_kinds : Said → List Kind
-turn_kinds s = kind_if 11 (nat_lt 200 (s.turns + 1)) ∷ []
+turn_kinds s = kind_if 11 (nat_lt most_turns (s.turns + 1)) ∷ []
 
 -- the kinds from 5 to 14 that a line of this form can have, in their order
 abbrev pub kinds : ℕ → Said → Form → List Kind
@@ -93,9 +94,9 @@ kinds period s (Late number waits place) =
 kinds period s (Mid number told) =
     told_kinds period s told 1
     ++ kind_if 8 (not (is_in_round s.turn) || list_any is_due s.since)
-    ∷ kind_if 10 (nat_lt 20000 (s.records + 1))
+    ∷ kind_if 10 (nat_lt most_records (s.records + 1))
     ∷ kind_if 13 (is_below_last s.details.mids number)
-    ∷ kind_if 14 (nat_le 64 (length s.details.mids))
+    ∷ kind_if 14 (nat_le most_mids (length s.details.mids))
     ∷ []
 kinds period s (Stop stop) = kind_if 8 (is_neither s.turn) ∷ kind_if 9 (is_some s.stop) ∷ []
 

@@ -10,3 +10,4 @@ pub mod Reading
 pub mod Naming
 pub mod Reader
 pub mod Answer
+pub mod Limits

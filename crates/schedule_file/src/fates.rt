@@ -1,6 +1,7 @@
 ghost use Rattle.std.specs.Prelude.{◌≡◌, ◌≤◌, true, vec_len};
 ghost use Rattle.archive_record.specs.Record.{IsRecord, reads_as_row};
 ghost use Rattle.schedule_file.specs.InOrder.{is_in_order};
+ghost use Rattle.schedule_file.specs.Limits.{most_mids};
 
 use crate::fate::Fate;
 use archive_record::Rec52;
@@ -41,6 +42,6 @@ pub struct Fates {
     pub lates: BTreeMap<u32, Late>,
     /// The records that fall due in the round, in the order of their messages.
     pub mids: Vec<Mid>,
-    ghost few: { vec_len mids ≤ 64 },
+    ghost few: { vec_len mids ≤ most_mids },
     ghost ordered: { is_in_order (λ m. m.number) 0 mids.items ≡ true },
 }

@@ -37,6 +37,7 @@ use Rattle.schedule_replay.specs.Telling.{Telling}
 use Rattle.schedule_replay.specs.Turns.{BreaksRun, CutsRun, EndsRun}
 use Rattle.schedule_replay.proofs.Ahead.{is_opened}
 use Rattle.schedule_replay.proofs.RoundLaws.{after_rounds, front_whole, opened_rounds, opened_rows, said_first}
+use Rattle.schedule_file.specs.Limits.{most_records, most_turns}
 
 pub runs_more : (settings : StationSettings) (xs : List ReplayStep) (x : ReplayStep) (s u v : Stage) (is now : List Item) → Runs settings xs s is u → Does settings x u now v → Runs settings (xs ++ x ∷ []) s (is ++ now) v
 runs_more settings [] x s u v is now (none, same) h = (v, now, [], ap (λ z. z ++ now) none ∙ sym (append-nil now), subst (λ (z : Stage). Does settings x z now v) same h, (refl, refl))
@@ -110,7 +111,7 @@ stop_in period (code.Open stop) h = h
 stop_in period (code.Round fates stop) h = h
 
 may_take : (settings : StationSettings) (eeprom : List ℕ) (packet : LoopPacket) (xs ys : List ReplayStep) (x : ReplayStep) (is : List Item) (s : Stage) → IsSchedule (xs ++ x ∷ ys) → Runs settings xs (start eeprom packet) is s → MayStop x
-    → lines (xs ++ x ∷ ys) ≤ 200 → s.archive.changes ≤ 4 * length s.archive.rows + 7 * lines xs → MayTake (length (records (xs ++ x ∷ ys))) settings x s
+    → lines (xs ++ x ∷ ys) ≤ most_turns → s.archive.changes ≤ 4 * length s.archive.rows + 7 * lines xs → MayTake (length (records (xs ++ x ∷ ys))) settings x s
 may_take settings eeprom packet xs ys (ReplayStep.Due rs) is s ok runs stop few changes = tt
 may_take settings eeprom packet xs ys (ReplayStep.Idle n) is s ok runs stop few changes = tt
 may_take settings eeprom packet xs ys (ReplayStep.Open k) is s ok runs stop few changes = stop
@@ -119,8 +120,8 @@ may_take settings eeprom packet xs ys (ReplayStep.Round f left k) is s ok runs s
     (stop, round_in_run settings eeprom packet xs ys f left k ok is s runs, omega (arith, few, changes, e))
 
 -- a run of a schedule may take its next step
-pub stands_there : (settings : StationSettings) (eeprom : List ℕ) (packet : LoopPacket) (xs ys : List ReplayStep) (x : ReplayStep) (is : List Item) (s : Stage) (openings : ℕ) (disk : Stopping MemDisk) → IsSchedule (xs ++ x ∷ ys) → lines (xs ++ x ∷ ys) ≤ 200
-    → length (records (xs ++ x ∷ ys)) ≤ 20000 → MayStop x → IsRoomFor (length (records (xs ++ x ∷ ys))) (stopping_limits disk) → Runs settings xs (start eeprom packet) is s → openings ≤ lines xs
+pub stands_there : (settings : StationSettings) (eeprom : List ℕ) (packet : LoopPacket) (xs ys : List ReplayStep) (x : ReplayStep) (is : List Item) (s : Stage) (openings : ℕ) (disk : Stopping MemDisk) → IsSchedule (xs ++ x ∷ ys) → lines (xs ++ x ∷ ys) ≤ most_turns
+    → length (records (xs ++ x ∷ ys)) ≤ most_records → MayStop x → IsRoomFor (length (records (xs ++ x ∷ ys))) (stopping_limits disk) → Runs settings xs (start eeprom packet) is s → openings ≤ lines xs
     → StandsThere (length (records (xs ++ x ∷ ys))) openings settings x s disk
 stands_there settings eeprom packet xs ys x is s openings disk ok few records_few stop room runs openings_few =
     let n = length (records (xs ++ x ∷ ys)) in
@@ -261,8 +262,8 @@ steps_all period xs i less = ap (steps_for period) (take_all i xs less)
 -- What is so of the steps of a schedule, in a run with these settings over a disk with this room.
 pub record IsReady (settings : StationSettings) (xs : List code_step.Step) (disk : Stopping MemDisk) : Type 0 where
   pub ok : IsSchedule (steps_for settings.period xs)
-  pub few_lines : lines (steps_for settings.period xs) ≤ 200
-  pub few_records : length (records (steps_for settings.period xs)) ≤ 20000
+  pub few_lines : lines (steps_for settings.period xs) ≤ most_turns
+  pub few_records : length (records (steps_for settings.period xs)) ≤ most_records
   pub ranges : AllByRecursion (IsInRange settings.period) xs
   pub room : IsRoomFor (length (records (steps_for settings.period xs))) (stopping_limits disk)
 
@@ -297,7 +298,7 @@ module _ (settings : StationSettings) (eeprom : List ℕ) (packet : LoopPacket) 
       let e = steps_split p xs i d less in
       subst (λ (z : List ReplayStep). StandsThere (length (records z)) openings settings (step_of p (get_or xs i d)) s disk) e
       (stands_there settings eeprom packet (steps_for p (take i xs)) (steps_for p (drop (suc i) xs)) (step_of p (get_or xs i d)) given s openings disk
-      (subst IsSchedule (sym e) r.ok) (subst (λ (z : List ReplayStep). lines z ≤ 200) (sym e) r.few_lines) (subst (λ (z : List ReplayStep). length (records z) ≤ 20000) (sym e) r.few_records)
+      (subst IsSchedule (sym e) r.ok) (subst (λ (z : List ReplayStep). lines z ≤ most_turns) (sym e) r.few_lines) (subst (λ (z : List ReplayStep). length (records z) ≤ most_records) (sym e) r.few_records)
       (stop_in p (get_or xs i d) (in_range_at p xs i d less r.ranges))
       (subst (λ (z : List ReplayStep). IsRoomFor (length (records z)) (stopping_limits disk)) (sym e) (subst (IsRoomFor (length (records (steps_for p xs)))) (sym limits) r.room)) runs few)
 

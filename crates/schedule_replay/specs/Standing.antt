@@ -27,6 +27,7 @@ use Rattle.round_play.specs.Opening.{CanOpen, stopping_limits}
 use Rattle.round_play.specs.Played.{PlayedHost, RoundIsCounted, MayPlay}
 use Rattle.round_play.specs.Resting.{AtRest, SessionGoesOn, IsRoomFor}
 use Rattle.schedule_replay.specs.Telling.{Telling}
+use Rattle.schedule_file.specs.Limits.{most_records, most_turns}
 
 -- by whether the run is open: its session goes on, or it has none
 abbrev pub HasSession : Bool → StationSettings → List Row → Option Session → Stopping MemDisk → Type 0
@@ -66,8 +67,8 @@ pub record HasRunRoom (records openings : ℕ) (s : Stage) (disk : Stopping MemD
   pub room : IsRoomFor records (stopping_limits disk)
   pub changes : s.archive.changes ≤ 4 * length s.archive.rows + 1400
   pub rows : length s.archive.rows ≤ records
-  pub records_are : records ≤ 20000
-  pub few : openings ≤ 200
+  pub records_are : records ≤ most_records
+  pub few : openings ≤ most_turns
 
 -- what is so of a step that comes next in a run of so many records
 abbrev pub MayTake : ℕ → StationSettings → ReplayStep → Stage → Type 0

@@ -29,6 +29,7 @@ use Rattle.schedule_file.proofs.Kept.{steps_kept}
 use Rattle.schedule_steps.proofs.ReadForms.{form_counts}
 use Rattle.archive_record.proofs.MovedStamps.{row_of}
 use Rattle.schedule_steps.proofs.RisingRecords.{Rise, rise_join, records_join, rise_follows, run_is}
+use Rattle.schedule_file.specs.Limits.{most_records, most_turns}
 
 -- all records of a round are to fall due after its beginning, and their stamps rise
 mids_are : (period a b : ℕ) (xs : List Mid) → MidsFall a (map (mid_seen period) xs) b
@@ -125,8 +126,8 @@ taken period long (code.Round fates stop ∷ steps) a b fall has =
     }
 
 -- Steps whose records fall due one after another keep the rules of a run, where they are few.
-pub falling_accepted : (period b : ℕ) (steps : List code_step.Step) → 1 ≤ period → AllFall period 0 (steps_seen period steps) b → AllByRecursion HasRecord steps → lines_in (steps_seen period steps) ≤ 200
-    → records_in_steps (steps_seen period steps) ≤ 20000 → AreAccepted period steps × (length (records (steps_for period steps)) ≡ records_in_steps (steps_seen period steps))
+pub falling_accepted : (period b : ℕ) (steps : List code_step.Step) → 1 ≤ period → AllFall period 0 (steps_seen period steps) b → AllByRecursion HasRecord steps → lines_in (steps_seen period steps) ≤ most_turns
+    → records_in_steps (steps_seen period steps) ≤ most_records → AreAccepted period steps × (length (records (steps_for period steps)) ≡ records_in_steps (steps_seen period steps))
 falling_accepted period b steps long fall has few_lines few =
     let t = taken period long steps 0 b fall has in
     let rules : IsSchedule (steps_for period steps) = record { each = t.each; rises = rise_follows b (records (steps_for period steps)) t.rise; are_records = t.are } in

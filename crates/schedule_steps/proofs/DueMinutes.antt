@@ -21,6 +21,7 @@ use Rattle.schedule_file.specs.Steps.ScheduleStep.{DueStep, RunStep, IdleStep, O
 use Rattle.schedule_file.proofs.Limits.{first_fails, rest_fails}
 use Rattle.station_replay.specs.Stopped.{IsStop}
 use Rattle.schedule_steps.proofs.ReadForms.{CountsFromOne}
+use Rattle.schedule_file.specs.Limits.{most_records, most_turns, most_mids}
 
 -- a record that is read so falls due after minute a, and at minute b
 pub record FallsAt (a : ℕ) (read : RecordRead) (b : ℕ) : Type 0 where
@@ -144,7 +145,7 @@ pub record IsFalling (period : ℕ) (s : Said) : Type 0 where
   pub since : AllFall period within s.since s.newest
   pub between : AreBetween s.since
   pub lines : lines_in s.before + lines_in (turn_steps s.turn s.details s.stop) ≡ s.turns
-  pub few : s.turns ≤ 200
+  pub few : s.turns ≤ most_turns
 
 -- all that was said
 pub all_fall : (period : ℕ) (s : Said) → IsFalling period s → AllFall period 0 (steps_said s) s.newest
@@ -208,7 +209,7 @@ turn_falls period a Opening = record { minute = a; first = open_falls a None tt;
 turn_falls period a InRound = record { minute = a; first = open_falls a None tt; rest = refl }
 
 -- an `open` or a `round` more
-turned : (period : ℕ) (s : Said) (t : Turn) → lines_in (turn_steps t no_details None) ≡ 1 → IsFalling period s → s.turns + 1 ≤ 200
+turned : (period : ℕ) (s : Said) (t : Turn) → lines_in (turn_steps t no_details None) ≡ 1 → IsFalling period s → s.turns + 1 ≤ most_turns
     → IsFalling period (record s { before = steps_said s; turn = t; details = no_details; stop = None; since = []; turns = s.turns + 1 })
 turned period s t one f few = record {
   behind = s.newest;
@@ -300,15 +301,15 @@ falling_after period s (Idle ticks) counts f none =
     let more = with_one period s f (IdleStep ticks) s.newest refl tt in
     record { behind = f.behind; within = f.within; before = f.before; turn = f.turn; since = more.0; between = more.1; lines = f.lines; few = f.few }
 falling_after period s Open counts f none =
-    turned period s Opening refl f (ltb-false 200 (s.turns + 1) (first_fails (nat_lt 200 (s.turns + 1)) 11 None none))
+    turned period s Opening refl f (ltb-false most_turns (s.turns + 1) (first_fails (nat_lt most_turns (s.turns + 1)) 11 None none))
 falling_after period s Round counts f none =
-    turned period s InRound refl f (ltb-false 200 (s.turns + 1) (first_fails (nat_lt 200 (s.turns + 1)) 11 None none))
+    turned period s InRound refl f (ltb-false most_turns (s.turns + 1) (first_fails (nat_lt most_turns (s.turns + 1)) 11 None none))
 falling_after period s (Host number fate) counts f none = with_details period s _ refl f
 falling_after period s (Reply number fate) counts f none = with_details period s _ refl f
 falling_after period s (Late number waits place) counts f none = with_details period s _ refl f
 falling_after period s (Mid number told) counts f none =
     let misplaced : Bool = not (is_in_round s.turn) || list_any is_due s.since in
-    let behind : List Kind = kind_if 10 (nat_lt 20000 (s.records + 1)) ∷ kind_if 13 (is_below_last s.details.mids number) ∷ kind_if 14 (nat_le 64 (length s.details.mids)) ∷ [] in
+    let behind : List Kind = kind_if 10 (nat_lt most_records (s.records + 1)) ∷ kind_if 13 (is_below_last s.details.mids number) ∷ kind_if 14 (nat_le most_mids (length s.details.mids)) ∷ [] in
     let is = is_told period s told 1 (kind_if 8 misplaced ∷ behind) none in
     let placed = in_round (is_in_round s.turn) (list_any is_due s.since) (first_fails misplaced 8 (first_applying behind) is.1) in
     let x : MidRecord = record { number = number; record_read = record_told period told } in

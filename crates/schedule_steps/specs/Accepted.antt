@@ -10,6 +10,7 @@ use Rattle.station_replay.specs.Room.{lines}
 use Rattle.station_replay.specs.Stopped.{IsStop}
 use Rattle.schedule_steps.specs.Runs.{IsRun}
 use Rattle.schedule_steps.specs.Steps.{steps_for}
+use Rattle.schedule_file.specs.Limits.{most_records, most_turns}
 
 -- a record of the step has its fifty-two bytes
 abbrev pub HasRecord : code_step.Step → Type 0
@@ -32,14 +33,14 @@ IsInRange period (code.Round fates stop) = IsStop stop
 pub record AreAccepted (period : ℕ) (steps : List code_step.Step) : Type 0 where
   pub rules : IsSchedule (steps_for period steps)
   pub ranges : AllByRecursion (IsInRange period) steps
-  pub few_lines : lines (steps_for period steps) ≤ 200
-  pub few_records : length (records (steps_for period steps)) ≤ 20000
+  pub few_lines : lines (steps_for period steps) ≤ most_turns
+  pub few_records : length (records (steps_for period steps)) ≤ most_records
 
 -- Its steps keep the rules of a schedule and are in their ranges, at most 200 of them open a session or make a round,
 -- and its records are as many as it tells, which are at most 20,000.
 pub record ScheduleIsAccepted (schedule : Schedule) : Type 0 where
   pub rules : IsSchedule (steps_for schedule.period schedule.steps.items)
   pub ranges : AllByRecursion (IsInRange schedule.period) schedule.steps.items
-  pub few_lines : lines (steps_for schedule.period schedule.steps.items) ≤ 200
-  pub few_records : length (records (steps_for schedule.period schedule.steps.items)) ≤ 20000
+  pub few_lines : lines (steps_for schedule.period schedule.steps.items) ≤ most_turns
+  pub few_records : length (records (steps_for schedule.period schedule.steps.items)) ≤ most_records
   pub counted : length (records (steps_for schedule.period schedule.steps.items)) ≡ schedule.records

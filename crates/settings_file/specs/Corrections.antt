@@ -4,6 +4,7 @@ use Rattle.settings_file.specs.declared.calibration.Calibration.{Calibration}
 use Rattle.settings_file.specs.declared.limits.Limits.{Limits}
 use Rattle.settings_file.specs.declared.corrections.Corrections.{Corrections}
 use Rattle.settings_file.specs.Named.{AreCalibrations, AreAllLimits}
+use Rattle.station_base.specs.Fields.{field_count}
 
 -- the calibration that is named of a field
 abbrev pub calibration_in : ℕ → Corrections → Option Calibration
@@ -15,7 +16,7 @@ limits_in field named = slice_index_or named.limits field None
 
 -- nothing is named of any field
 abbrev pub nothing_named : Corrections
-nothing_named = record { calibrations = replicate 37 None; limits = replicate 37 None }
+nothing_named = record { calibrations = replicate field_count None; limits = replicate field_count None }
 
 -- the numbers are in their ranges
 pub record AreCorrections (named : Corrections) : Type 0 where

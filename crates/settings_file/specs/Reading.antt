@@ -13,6 +13,7 @@ use Rattle.settings_file.specs.Walk.{Fill, ◌>>=◌, walk}
 use Rattle.settings_file.specs.KeyPlace.{unknown_key}
 use Rattle.settings_file.specs.Sections.{calibrations_key, all_limits_key}
 use Rattle.settings_file.specs.ChangesRead.{changes_of}
+use Rattle.station_base.specs.Limits.{most_rows}
 
 -- `calibration` and `limits` with the tables of their fields, `change` with its changes, `period`, and `rows` from 1 to
 -- 1,048,576
@@ -33,7 +34,7 @@ settings_key at key value s =
       minutes ← period_in_value value
       Ok (record s { period = minutes }))
     else (if bytes_eq key (codes "rows") then (do
-      rows ← whole_number (between (pos 1) (pos 1048576)) at value
+      rows ← whole_number (between (pos 1) (pos most_rows)) at value
       Ok (record s { most = unsigned_abs rows }))
     else Err (unknown_key at)))))
 

@@ -11,6 +11,7 @@ use Rattle.settings_file.specs.Calibration.{uncalibrated}
 use Rattle.settings_file.specs.Limits.{unlimited}
 use Rattle.settings_file.specs.Corrections.{calibration_in, limits_in, nothing_named, AreCorrections}
 use Rattle.settings_file.specs.Changes.{AreChanges, named_by, last_given}
+use Rattle.station_base.specs.Limits.{most_rows}
 
 -- the period in minutes, the most rows, what the file names of each field, and what its changes name from a stamp on
 pub record StationSettings : Type 0 where
@@ -37,10 +38,10 @@ limits_of settings field stamp =
 pub record AreSettings (settings : StationSettings) : Type 0 where
   pub period : IsPeriod settings.period
   pub most_from : 1 ≤ settings.most
-  pub most_to : settings.most ≤ 1048576
+  pub most_to : settings.most ≤ most_rows
   pub own : AreCorrections settings.own
   pub changes : AreChanges settings.changes
 
 -- a period of 5 minutes, 1,048,576 rows, no calibration, no limits and no change
 abbrev pub plain_settings : StationSettings
-plain_settings = record { period = 5; most = 1048576; own = nothing_named; changes = [] }
+plain_settings = record { period = 5; most = most_rows; own = nothing_named; changes = [] }

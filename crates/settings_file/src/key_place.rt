@@ -17,6 +17,7 @@ impl KeyPlace {
     ghost use Rattle.settings_file.specs.KeyPlace.{unknown_key, bad_number};
     ghost use Rattle.settings_file.specs.Values.{table_of};
     ghost use Rattle.settings_file.specs.Fields.{field_at};
+    ghost use Rattle.station_base.specs.Fields.{field_count};
 
     pub(crate) fn unknown_key(&self) -> SettingsFault
         ensures { result ≡ unknown_key self.now }
@@ -41,7 +42,7 @@ impl KeyPlace {
     // The field that the key names.
     pub(crate) fn field(&self, key: &str) -> Result<FieldId, SettingsFault>
         ensures exact { result ≡ field_at self.now key.now }
-        ensures range { IfOk result (λ field. field < 37) }
+        ensures range { IfOk result (λ field. field < field_count) }
     {
         FieldId::by_name(key).ok_or(self.unknown_key())
     }

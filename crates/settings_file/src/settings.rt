@@ -11,13 +11,10 @@ use crate::key_place::KeyPlace;
 use crate::limits::Limits;
 use crate::range::Range;
 use crate::table::{Filled, read_table};
-use station_base::{FieldId, Period, Stamp};
+use station_base::{FieldId, MOST_ROWS, Period, Stamp};
 use std::alloc::Global;
 use std::marker::Model;
 use toml::Value;
-
-// How many rows an archive holds at most, where the file does not say less.
-const MOST_ROWS: u32 = 1_048_576;
 
 const ROWS: Range = Range {
     least: 1,
@@ -56,6 +53,7 @@ impl Settings {
     ghost use Rattle.settings_file.specs.Limits.{AreLimits};
     ghost use Rattle.settings_file.specs.StationSettings.{plain_settings, calibration_of, limits_of};
     ghost use Rattle.settings_file.specs.Reading.{settings_of};
+    ghost use Rattle.station_base.specs.Limits.{most_rows};
 
     /// The settings of an empty file: a period of 5 minutes, at most 1,048,576 rows, no calibration, no limits and no
     /// change.
@@ -96,7 +94,7 @@ impl Settings {
     pub fn most(&self) -> u32
         ensures value { result ≡ self.now.most }
         ensures from { 1 ≤ result }
-        ensures to { result ≤ 1048576 }
+        ensures to { result ≤ most_rows }
     {
         self.most
     }

@@ -7,9 +7,13 @@ use Rattle.loop_packet.specs.Part.{word_in}
 use Rattle.loop_packet.specs.Reading.{TellsPacket}
 use Rattle.soft_record.specs.declared.entry.Entry.{Entry}
 
+-- the bytes of an entry: two words, the second and a packet
+abbrev pub packet_entry_size : ℕ
+packet_entry_size = 104
+
 -- the bytes are the words of date and time, the second of the minute, and a packet
 pub record SpellsEntry (bytes : List ℕ) (e : Entry) : Type 0 where
-  pub size : length bytes ≡ 104
+  pub size : length bytes ≡ packet_entry_size
   pub stamp : stamp_of_words (word_in bytes) (word_in (drop 2 bytes)) ≡ Some e.stamp
   pub second : slice_index bytes 4 ≡ e.second
   pub packet : TellsPacket (drop 5 bytes) (Ok e.packet)

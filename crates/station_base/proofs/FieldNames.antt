@@ -5,7 +5,7 @@ use Rattle.std.specs.List.{position, position_from}
 use Rattle.std.proofs.lemmas.Iterator.Adapters.{position_from-zero}
 use Rattle.std.proofs.lemmas.List.Quantifiers.{position-Some}
 use Rattle.std.proofs.lemmas.Slice.Eq.{bytes_eq-Decides}
-use Rattle.station_base.specs.Fields.{fields, FieldText, field, name_of, field_named}
+use Rattle.station_base.specs.Fields.{fields, FieldText, field, name_of, field_named, field_count}
 
 -- where a test passes somewhere, it passes first somewhere
 is_some-position_from : {A : Type 0} (p : A → Bool) (k : ℕ) (xs : List A) (i : ℕ) (d : A) → i < length xs → p (get_or xs i d) ≡ true → IsSome (position_from p k xs)
@@ -16,7 +16,7 @@ is_some-position_from p k (x ∷ xs) (suc i) d below passes =
     elim (p x) as (λ b. is_some (cond b (Some k) (position_from p (k + 1) xs)) ≡ true) [ true ↦ refl | false ↦ rest ]
 
 -- there are 37 fields
-length-fields : length fields ≡ 37
+length-fields : length fields ≡ field_count
 unfolding fields
 length-fields = refl
 
@@ -25,7 +25,7 @@ module _ (name : List ℕ) where
   is_called text = bytes_eq text.name name
 
   -- where the definition finds a field, it is of that name
-  from_named : (found : Option ℕ) → ((f : ℕ) → f < 37 → name_of f ≡ name → found ≡ Some f)
+  from_named : (found : Option ℕ) → ((f : ℕ) → f < field_count → name_of f ≡ name → found ≡ Some f)
       → (f : ℕ) → field_named name ≡ Some f → found ≡ Some f
   unfolding field_named
   from_named found only f e =
@@ -33,7 +33,7 @@ module _ (name : List ℕ) where
       only f (rw length-fields at within) ((bytes_eq-Decides _ _).0 called)
 
   -- where it finds none, there is no field of that name
-  none_named : (f : ℕ) → f < 37 → name_of f ≡ name → field_named name ≡ None → ⊥
+  none_named : (f : ℕ) → f < field_count → name_of f ≡ name → field_named name ≡ None → ⊥
   unfolding field_named
   none_named f within called none =
       let some = is_some-position_from is_called 0 fields f (field [] []) (rw length-fields within) ((bytes_eq-Decides _ _).1 called) in
@@ -41,17 +41,17 @@ module _ (name : List ℕ) where
       let no : is_some (position is_called fields) ≡ false = rw none in
       cc
 
-found_none : (name : List ℕ) (found : Option ℕ) → IfSome found (λ f. name_of f ≡ name) → IfSome found (λ f. f < 37)
+found_none : (name : List ℕ) (found : Option ℕ) → IfSome found (λ f. name_of f ≡ name) → IfSome found (λ f. f < field_count)
     → field_named name ≡ None → found ≡ None
 found_none name None named below none = refl
 found_none name (Some f) named below none = absurd (none_named name f below named none)
 
-found_is : (name : List ℕ) (found : Option ℕ) → IfSome found (λ f. name_of f ≡ name) → IfSome found (λ f. f < 37)
-    → ((f : ℕ) → f < 37 → name_of f ≡ name → found ≡ Some f) → (q : Option ℕ) → field_named name ≡ q → found ≡ q
+found_is : (name : List ℕ) (found : Option ℕ) → IfSome found (λ f. name_of f ≡ name) → IfSome found (λ f. f < field_count)
+    → ((f : ℕ) → f < field_count → name_of f ≡ name → found ≡ Some f) → (q : Option ℕ) → field_named name ≡ q → found ≡ q
 found_is name found named below only None e = found_none name found named below e
 found_is name found named below only (Some f) e = from_named name found only f e
 
 -- a search that finds a field of that name, and none but the one, finds what the definition does
-pub is_field_named : (name : List ℕ) (found : Option ℕ) → IfSome found (λ f. name_of f ≡ name) → IfSome found (λ f. f < 37)
-    → ((f : ℕ) → f < 37 → name_of f ≡ name → found ≡ Some f) → found ≡ field_named name
+pub is_field_named : (name : List ℕ) (found : Option ℕ) → IfSome found (λ f. name_of f ≡ name) → IfSome found (λ f. f < field_count)
+    → ((f : ℕ) → f < field_count → name_of f ≡ name → found ≡ Some f) → found ≡ field_named name
 is_field_named name found named below only = found_is name found named below only (field_named name) refl

@@ -11,6 +11,7 @@ use Rattle.std.proofs.lemmas.List.FromFn.{length-range_with_len, get_or-range_wi
 use Rattle.std.proofs.lemmas.List.Sums.{AllPass-from_list_all, list_all-from_AllPass}
 use Rattle.std.proofs.lemmas.Nat.Bits.{bit_at-zero, bit_at_set_same, bit_at_set_other}
 use Rattle.station_base.specs.FieldSet.{is_member, has_value, are_missing, AreMissing}
+use Rattle.station_base.specs.Fields.{field_count}
 
 -- a field is not one of them, or has no value
 abbrev pub is_free : ℕ → List (Option ℤ) → ℕ → Bool
@@ -33,23 +34,23 @@ each_free p n all field small =
     (All-get_or P (range_with_len 0 n) field 0 (omega (arith, length-range_with_len 0 n)) (AllPass-from_list_all p (range_with_len 0 n) all))
 
 -- fields that are there, each of which is free, are missing
-pub missing_where : (bits : ℕ) (values : List (Option ℤ)) → bits < 2 ^ 37 → ((field : ℕ) → field < 37 → is_free bits values field ≡ true) → AreMissing bits values
+pub missing_where : (bits : ℕ) (values : List (Option ℤ)) → bits < 2 ^ field_count → ((field : ℕ) → field < field_count → is_free bits values field ≡ true) → AreMissing bits values
 unfolding are_missing
-missing_where bits values small each = both (nat_lt bits (2 ^ 37)) _ (lt-ltb bits (2 ^ 37) small) (all_free (is_free bits values) 37 each)
+missing_where bits values small each = both (nat_lt bits (2 ^ field_count)) _ (lt-ltb bits (2 ^ field_count) small) (all_free (is_free bits values) field_count each)
   where
     both : (a b : Bool) → a ≡ true → b ≡ true → (a && b) ≡ true
     both a b x y = rw (x, y) refl
 
 -- and the other way round
-pub missing_below : (bits : ℕ) (values : List (Option ℤ)) → AreMissing bits values → bits < 2 ^ 37
+pub missing_below : (bits : ℕ) (values : List (Option ℤ)) → AreMissing bits values → bits < 2 ^ field_count
 unfolding are_missing
-missing_below bits values are = ltb-true bits (2 ^ 37) (and_parts (nat_lt bits (2 ^ 37)) _ are).0
+missing_below bits values are = ltb-true bits (2 ^ field_count) (and_parts (nat_lt bits (2 ^ field_count)) _ are).0
 
-pub missing_free : (bits : ℕ) (values : List (Option ℤ)) → AreMissing bits values → (field : ℕ) → field < 37 → is_free bits values field ≡ true
+pub missing_free : (bits : ℕ) (values : List (Option ℤ)) → AreMissing bits values → (field : ℕ) → field < field_count → is_free bits values field ≡ true
 unfolding are_missing
-missing_free bits values are field small = each_free (is_free bits values) 37 (and_parts (nat_lt bits (2 ^ 37)) _ are).1 field small
+missing_free bits values are field small = each_free (is_free bits values) field_count (and_parts (nat_lt bits (2 ^ field_count)) _ are).1 field small
 
-pub not_below : (bits : ℕ) (values : List (Option ℤ)) → (bits < 2 ^ 37 → ⊥) → are_missing bits values ≡ false
+pub not_below : (bits : ℕ) (values : List (Option ℤ)) → (bits < 2 ^ field_count → ⊥) → are_missing bits values ≡ false
 not_below bits values above = refuted (are_missing bits values) (λ are. above (missing_below bits values are))
   where
     refuted : (b : Bool) → (b ≡ true → ⊥) → b ≡ false
@@ -57,7 +58,7 @@ not_below bits values above = refuted (are_missing bits values) (λ are. above (
     refuted false not_so = refl
 
 -- a field with a value is not missing
-pub not_missing : (bits : ℕ) (values : List (Option ℤ)) (field : ℕ) → field < 37 → is_member bits field ≡ true → is_some (get_or values field None) ≡ true →
+pub not_missing : (bits : ℕ) (values : List (Option ℤ)) (field : ℕ) → field < field_count → is_member bits field ≡ true → is_some (get_or values field None) ≡ true →
     are_missing bits values ≡ false
 not_missing bits values field small member some = refuted (are_missing bits values) (λ are. false≢true (sym (taken (is_member bits field) (has_value values field) member some) ∙ missing_free bits values are field small))
   where
@@ -87,16 +88,16 @@ pub none_missing_of : (bits : ℕ) (values : List (Option ℤ)) → bits ≡ 0 �
 none_missing_of bits values none = rw none (none_missing values)
 
 -- one field more is a field that is there
-pub one_more : (bits field : ℕ) → bits < 2 ^ 37 → field < 37 → bit_or bits (1 * 2 ^ field % 2 ^ 64) < 2 ^ 37
+pub one_more : (bits field : ℕ) → bits < 2 ^ field_count → field < field_count → bit_or bits (1 * 2 ^ field % 2 ^ 64) < 2 ^ field_count
 one_more bits field small few =
     let at_most : field ≤ 36 = omega arith in
     let pow : 2 ^ field ≤ 2 ^ 36 = pow-le-pow_right (omega arith) at_most in
     let same : 1 * 2 ^ field % 2 ^ 64 ≡ 1 * 2 ^ field = mod-eq_of_lt (omega arith) in
-    rw same (or_lt 37 bits (1 * 2 ^ field) small (omega arith))
+    rw same (or_lt field_count bits (1 * 2 ^ field) small (omega arith))
 
 -- it is one of them then, and the others are as before
-pub member_added : (bits field : ℕ) → field < 37 → is_member (bit_or bits (1 * 2 ^ field % 2 ^ 64)) field ≡ true
+pub member_added : (bits field : ℕ) → field < field_count → is_member (bit_or bits (1 * 2 ^ field % 2 ^ 64)) field ≡ true
 member_added bits field few = ap (λ (n : ℕ). n == 1) (bit_at_set_same w64 bits field (omega arith))
 
-pub member_kept : (bits field other : ℕ) → field < 37 → other ≢ field → is_member (bit_or bits (1 * 2 ^ field % 2 ^ 64)) other ≡ is_member bits other
+pub member_kept : (bits field other : ℕ) → field < field_count → other ≢ field → is_member (bit_or bits (1 * 2 ^ field % 2 ^ 64)) other ≡ is_member bits other
 member_kept bits field other few differs = ap (λ (n : ℕ). n == 1) (bit_at_set_other w64 bits field (omega arith) other differs)

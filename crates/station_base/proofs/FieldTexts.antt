@@ -4,7 +4,7 @@ use Rattle.std.proofs.lemmas.Bool.Decides.{nat_tests}
 use Rattle.std.specs.List.{range_with_len}
 use Rattle.std.proofs.lemmas.List.FromFn.{get_or-map-range_with_len}
 use Rattle.std.proofs.lemmas.List.{get_or-map}
-use Rattle.station_base.specs.Fields.{FieldText, fields, field, field_text, name_of, field_unit}
+use Rattle.station_base.specs.Fields.{FieldText, fields, field, field_text, name_of, field_unit, field_count}
 
 -- a name and a unit, which stand in the code's table
 abbrev pub Texts : Type 0
@@ -29,29 +29,29 @@ place : List ℕ → Option ℕ
 place text = position (bytes_eq text) (map (λ field. field.name) fields)
 
 -- each name stands at the number of its field
-names_places : map (λ index. place (name_of index)) (range_with_len 0 37) ≡ map Some (range_with_len 0 37)
+names_places : map (λ index. place (name_of index)) (range_with_len 0 field_count) ≡ map Some (range_with_len 0 field_count)
 unfolding place fields
 names_places = refl
 
-name_place : (i : ℕ) → i < 37 → place (name_of i) ≡ Some i
+name_place : (i : ℕ) → i < field_count → place (name_of i) ≡ Some i
 name_place i small =
-    sym (get_or-map-range_with_len (λ index. place (name_of index)) 0 37 i i None small (omega arith))
+    sym (get_or-map-range_with_len (λ index. place (name_of index)) 0 field_count i i None small (omega arith))
     ∙ ap (λ all. get_or all i None) names_places
-    ∙ get_or-map-range_with_len Some 0 37 i i None small (omega arith)
+    ∙ get_or-map-range_with_len Some 0 field_count i i None small (omega arith)
 
 -- so no two fields have one name
-pub names_differ : (i j : ℕ) → i < 37 → j < 37 → name_of i ≡ name_of j → Some i ≡ Some j
+pub names_differ : (i j : ℕ) → i < field_count → j < field_count → name_of i ≡ name_of j → Some i ≡ Some j
 names_differ i j i_small j_small same = sym (name_place i i_small) ∙ ap place same ∙ name_place j j_small
 
 -- a name has at most thirteen letters
-names_short : map (λ index. nat_le (length (name_of index)) 13) (range_with_len 0 37) ≡ map (λ _. true) (range_with_len 0 37)
+names_short : map (λ index. nat_le (length (name_of index)) 13) (range_with_len 0 field_count) ≡ map (λ _. true) (range_with_len 0 field_count)
 unfolding fields
 names_short = refl
 
-pub name_width : (i : ℕ) → i < 37 → length (name_of i) ≤ 13
+pub name_width : (i : ℕ) → i < field_count → length (name_of i) ≤ 13
 name_width i small =
     let test : nat_le (length (name_of i)) 13 ≡ true =
-    sym (get_or-map-range_with_len (λ index. nat_le (length (name_of index)) 13) 0 37 i i true small (omega arith))
+    sym (get_or-map-range_with_len (λ index. nat_le (length (name_of index)) 13) 0 field_count i i true small (omega arith))
     ∙ ap (λ all. get_or all i true) names_short
-    ∙ get_or-map-range_with_len (λ _. true) 0 37 i i true small (omega arith) in
+    ∙ get_or-map-range_with_len (λ _. true) 0 field_count i i true small (omega arith) in
     grind (arith, nat_tests)

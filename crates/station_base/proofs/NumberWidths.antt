@@ -5,6 +5,7 @@ use Rattle.std.specs.Fmt.{signed_decimal}
 use Rattle.jiff.specs.Words.{IsWithin}
 use Rattle.jiff_core.proofs.SignedLemmas.{signed_arith, back_small}
 use Rattle.station_base.specs.NumberText.{number_text, signed_text}
+use Rattle.station_base.specs.Limits.{farthest_value}
 
 -- the text of a signed number is the one that std prints
 pub signed_text_is : (z : ℤ) → signed_text z ≡ signed_decimal z
@@ -23,12 +24,12 @@ unfolding number_text
 number_text_short n small = length-decimal-le 3 n (lit< tt) small (omega arith)
 
 -- one up to two million has at most seven, and eight with its sign
-pub signed_text_width : (z : ℤ) → IsWithin 2000000 z → length (signed_text z) ≤ 8
+pub signed_text_width : (z : ℤ) → IsWithin farthest_value z → length (signed_text z) ≤ 8
 unfolding number_text
 signed_text_width (pos n) within = omega (arith, length-decimal-le 7 n (lit< tt) (omega (arith, signed_arith)) (omega (arith, signed_arith)))
 signed_text_width (negsuc n) within = omega (arith, length-decimal-le 7 (suc n) (lit< tt) (omega (arith, signed_arith)) (omega (arith, signed_arith)))
 
 -- a number that a row line has room for is stored in 32 bits
-pub printable_back : (z : ℤ) → IsWithin 2000000 z → to_z w32 (of_z w32 z) ≡ z
+pub printable_back : (z : ℤ) → IsWithin farthest_value z → to_z w32 (of_z w32 z) ≡ z
 printable_back (pos n) within = back_small w32 (pos n) (omega (arith, signed_arith))
 printable_back (negsuc n) within = back_small w32 (negsuc n) (omega (arith, signed_arith))

@@ -3,6 +3,10 @@ use Rattle.std.specs.Prelude.{ℕ, List, [], ◌∷◌, codes, slice_index_or, b
 use Rattle.std.specs.declared.option.Option.{Option}
 use Rattle.std.specs.List.{position}
 
+-- how many fields a record has
+abbrev pub field_count : ℕ
+field_count = 37
+
 -- A field: its name, and the unit in which it is counted.
 pub record FieldText : Type 0 where
   pub name : List ℕ

@@ -5,14 +5,15 @@ use Rattle.std.specs.declared.option.Option.{Option}
 use Rattle.jiff.specs.Words.{IsWithin}
 use Rattle.station_base.specs.declared.row.Row.{Row}
 use Rattle.station_base.specs.CivilMinute.{first_minute}
-use Rattle.station_base.specs.Fields.{name_of}
+use Rattle.station_base.specs.Fields.{name_of, field_count}
 use Rattle.station_base.specs.FieldSet.{is_member}
 use Rattle.station_base.specs.NumberText.{number_text, signed_text}
 use Rattle.station_base.specs.Stamp.{stamp_text}
+use Rattle.station_base.specs.Limits.{farthest_value}
 
 -- the row of the first minute without a value, which fills places that hold no row yet
 abbrev pub blank_row : Row
-blank_row = record { stamp = first_minute; interval = 1; values = replicate 37 None; limited = 0 }
+blank_row = record { stamp = first_minute; interval = 1; values = replicate field_count None; limited = 0 }
 
 -- no value, or one within a bound either way
 abbrev pub IsValueWithin : ℕ → Option ℤ → Type 0
@@ -20,7 +21,7 @@ IsValueWithin bound value = ForSome value (IsWithin bound)
 
 -- a number that a row line has room for
 abbrev pub IsPrintable : Option ℤ → Type 0
-IsPrintable = IsValueWithin 2000000
+IsPrintable = IsValueWithin farthest_value
 
 -- what is told of a field: its value, or that limits made it missing
 abbrev pub value_text : Bool → ℕ → Option ℤ → List ℕ

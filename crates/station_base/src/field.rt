@@ -1,6 +1,6 @@
 ghost use Rattle.std.specs.Prelude.{◌≡◌, ◌<◌, ℕ, IfSome};
 ghost use Rattle.std.specs.Option.{SomeIff};
-ghost use Rattle.station_base.specs.Fields.{field_named, name_of, field_unit};
+ghost use Rattle.station_base.specs.Fields.{field_named, name_of, field_unit, field_count};
 
 use std::marker::Model;
 
@@ -56,12 +56,13 @@ pub struct FieldId {
 
 impl Model for FieldId {
     ghost use Rattle.std.specs.Prelude.{ℕ, ◌<◌};
+    ghost use Rattle.station_base.specs.Fields.{field_count};
 
     ghost Value = { ℕ };
 
     ghost view = { λ f. f.index };
 
-    ghost invariant = { λ f. f.index < 37 };
+    ghost invariant = { λ f. f.index < field_count };
 
     ghost inverse = { λ index. record { index = index } };
 }
@@ -69,7 +70,7 @@ impl Model for FieldId {
 impl FieldId {
     /// The field of that number, where it is below 37.
     pub fn from_index(index: usize) -> Option<FieldId>
-        ensures { SomeIff result (index < 37) index }
+        ensures { SomeIff result (index < field_count) index }
     {
         if index < FIELD_COUNT {
             Some(FieldId { index })
@@ -81,8 +82,8 @@ impl FieldId {
     /// The field that is called so, in exactly this spelling.
     pub fn by_name(text: &str) -> Option<FieldId>
         ensures exact { result ≡ field_named text.now }
-        ensures found { IfSome result (λ field. (field < 37) × (name_of field ≡ text.now)) }
-        ensures only { (field : ℕ) → field < 37 → name_of field ≡ text.now → result ≡ Some field }
+        ensures found { IfSome result (λ field. (field < field_count) × (name_of field ≡ text.now)) }
+        ensures only { (field : ℕ) → field < field_count → name_of field ≡ text.now → result ≡ Some field }
     {
         FieldId::by_bytes(text.as_bytes())
     }
@@ -90,8 +91,8 @@ impl FieldId {
     /// The field whose name has exactly these bytes.
     pub fn by_bytes(name: &[u8]) -> Option<FieldId>
         ensures exact { result ≡ field_named name.now }
-        ensures found { IfSome result (λ field. (field < 37) × (name_of field ≡ name.now)) }
-        ensures only { (field : ℕ) → field < 37 → name_of field ≡ name.now → result ≡ Some field }
+        ensures found { IfSome result (λ field. (field < field_count) × (name_of field ≡ name.now)) }
+        ensures only { (field : ℕ) → field < field_count → name_of field ≡ name.now → result ≡ Some field }
     {
         for index in 0..FIELD_COUNT {
             let field = FieldId { index };
@@ -105,7 +106,7 @@ impl FieldId {
     /// The number of the field.
     pub fn index(&self) -> usize
         ensures index { result ≡ self.now }
-        ensures range { result < 37 }
+        ensures range { result < field_count }
     {
         self.index
     }

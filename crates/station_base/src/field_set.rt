@@ -1,6 +1,7 @@
 ghost use Rattle.std.specs.Prelude.{◌≡◌, ◌≢◌, ◌<◌, ◌^◌, ℕ, true};
 ghost use Rattle.std.specs.Option.{SomeIff};
 ghost use Rattle.station_base.specs.FieldSet.{is_member, are_missing};
+ghost use Rattle.station_base.specs.Fields.{field_count};
 
 use crate::field::{FIELD_COUNT, FieldId};
 use std::marker::Model;
@@ -13,12 +14,13 @@ pub struct FieldSet {
 
 impl Model for FieldSet {
     ghost use Rattle.std.specs.Prelude.{ℕ, ◌<◌, ◌^◌};
+    ghost use Rattle.station_base.specs.Fields.{field_count};
 
     ghost Value = { ℕ };
 
     ghost view = { λ s. s.bits };
 
-    ghost invariant = { λ s. s.bits < 2 ^ 37 };
+    ghost invariant = { λ s. s.bits < 2 ^ field_count };
 
     ghost inverse = { λ bits. record { bits = bits } };
 }
@@ -33,7 +35,7 @@ impl FieldSet {
 
     /// The fields of a number, where no bit from 37 on is set.
     pub fn from_bits(bits: u64) -> Option<FieldSet>
-        ensures { SomeIff result (bits < 2 ^ 37) bits }
+        ensures { SomeIff result (bits < 2 ^ field_count) bits }
     {
         if bits >> FIELD_COUNT == 0 {
             Some(FieldSet { bits })
@@ -45,7 +47,7 @@ impl FieldSet {
     /// The number of these fields.
     pub fn bits(&self) -> u64
         ensures bits { result ≡ self.now }
-        ensures range { result < 2 ^ 37 }
+        ensures range { result < 2 ^ field_count }
     {
         self.bits
     }

@@ -20,6 +20,6 @@ pub use field::{FIELD_COUNT, FieldId};
 pub use field_set::FieldSet;
 pub use laws::{text_names_stamp, words_order_as_time};
 pub use period::Period;
-pub use row::{LINE_ROOM, Row};
+pub use row::{FARTHEST_VALUE, LINE_ROOM, MOST_ROWS, Row};
 pub use stamp::Stamp;
 pub use text::{DIGITS, push_bytes, push_count, push_number, push_signed};

@@ -1,6 +1,7 @@
 ghost use Rattle.std.specs.Prelude.{◌≡◌, ◌+◌, ◌*◌, ◌<◌, ◌≤◌, ◌++◌, All};
 ghost use Rattle.arrayvec.specs.ArrayVec.{array_vec_len};
 ghost use Rattle.station_base.specs.FieldSet.{AreMissing};
+ghost use Rattle.station_base.specs.Fields.{field_count};
 ghost use Rattle.station_base.specs.RowLine.{IsPrintable, value_text, values_text};
 
 use crate::field::{FIELD_COUNT, FieldId};
@@ -9,6 +10,12 @@ use crate::period::Period;
 use crate::stamp::Stamp;
 use crate::text::{push_bytes, push_number, push_signed};
 use arrayvec::ArrayVec;
+
+/// How far a value may be from 0, in the unit of its field.
+pub const FARTHEST_VALUE: u32 = 2_000_000;
+
+/// The most rows of an archive.
+pub const MOST_ROWS: u32 = 1_048_576;
 
 /// The room that a text needs for the line of a row.
 pub const LINE_ROOM: usize = 1024;
@@ -92,7 +99,7 @@ fn push_value<const ROOM: usize>(
     is_limited: bool,
 )
     requires room { array_vec_len line.old + 23 ≤ ROOM }
-    requires field { field < 37 }
+    requires field { field < field_count }
     requires printable { IsPrintable value }
     ensures text { line.new.items ≡ line.old.items ++ value_text is_limited field value }
     ensures length { array_vec_len line.new ≤ array_vec_len line.old + 23 }

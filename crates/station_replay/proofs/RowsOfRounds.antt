@@ -21,6 +21,7 @@ use Rattle.station_replay.specs.Session.{archive_left_after}
 use Rattle.station_replay.proofs.Stamped.{read_front, read_back, batches_read}
 use Rattle.station_replay.proofs.Stops.{rows_kept, left_kept}
 use Rattle.station_replay.proofs.Wanted.{answered_all}
+use Rattle.daily_summary.specs.Parts.{part_count}
 
 -- the rows after batches none of which met a disk fault
 pub rows_after : (settings : StationSettings) (stop : Option Stop) (n : ℕ) (a : Archive) (steps : Handed) → last_answer steps ≢ kept.DiskFault → (archive_left_after settings stop n a steps).rows ≡ rows_after_batches settings a.rows steps
@@ -51,7 +52,7 @@ kept_read Handed.Nothing h = tt
 kept_read (Handed.Kept rows more) h = read_join rows (kept_records more) (read_front rows (all_records more) h) (kept_read more (read_back rows (all_records more) h))
 kept_read (Handed.Refused rows why) h = tt
 
-few_closings : (b : Bool) → closings b ≤ 13
+few_closings : (b : Bool) → closings b ≤ part_count
 few_closings true = omega arith
 few_closings false = omega arith
 

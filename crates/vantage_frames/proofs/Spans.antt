@@ -14,6 +14,7 @@ use Rattle.numerals.specs.Then.{only_if}
 use Rattle.vantage_frames.specs.LineReading.{bytes_in}
 use Rattle.numerals.proofs.PassedTests.{only_if_some, bind_some}
 use Rattle.numerals.proofs.Digits.{number_in_writes, number_in-writes}
+use Rattle.eeprom_map.specs.Memory.{eeprom_size}
 
 abbrev is_space : ℕ → Bool
 is_space byte = byte == 32
@@ -45,10 +46,10 @@ space_splits text space found =
     sym (take-append-drop space text) ∙ ap (λ (rest : List ℕ). take space text ++ rest) behind
 
 -- the parts that are read, one after the other
-parts_span : (text : List ℕ) (space at n place count : ℕ) → position is_space text ≡ Some space → number_in 16 3 (take space text) ≡ Some at → number_in 16 2 (drop (space + 1) text) ≡ Some n → only_if {A = ℕ × ℕ} (nat_lt 0 n && nat_le (at + n) 4096) (at, n) ≡ Some (place, count) → SaysBytes text place count
+parts_span : (text : List ℕ) (space at n place count : ℕ) → position is_space text ≡ Some space → number_in 16 3 (take space text) ≡ Some at → number_in 16 2 (drop (space + 1) text) ≡ Some n → only_if {A = ℕ × ℕ} (nat_lt 0 n && nat_le (at + n) eeprom_size) (at, n) ≡ Some (place, count) → SaysBytes text place count
 parts_span text space at n place count found from bytes passed =
-    let chosen = only_if_some {A = ℕ × ℕ} (nat_lt 0 n && nat_le (at + n) 4096) (at, n) (place, count) passed in
-    let tests = and_parts (nat_lt 0 n) (nat_le (at + n) 4096) chosen.0 in
+    let chosen = only_if_some {A = ℕ × ℕ} (nat_lt 0 n && nat_le (at + n) eeprom_size) (at, n) (place, count) passed in
+    let tests = and_parts (nat_lt 0 n) (nat_le (at + n) eeprom_size) chosen.0 in
     let same_place : at ≡ place = ap (λ (pair : ℕ × ℕ). pair.0) chosen.1 in
     let same_count : n ≡ count = ap (λ (pair : ℕ × ℕ). pair.1) chosen.1 in
     record {
@@ -58,12 +59,12 @@ parts_span text space at n place count found from bytes passed =
       from = rw (← same_place) (number_in_writes 16 3 (take space text) at from);
       bytes = rw (← same_count) (number_in_writes 16 2 (drop (space + 1) text) n bytes);
       some = rw (← same_count) (ltb-true 0 n tests.0);
-      within = rw (← same_place, ← same_count) (leb-true (at + n) 4096 tests.1);
+      within = rw (← same_place, ← same_count) (leb-true (at + n) eeprom_size tests.1);
     }
 
 -- a place and a count, where they are bytes of the EEPROM
 abbrev counted : ℕ → ℕ → Option (ℕ × ℕ)
-counted at n = only_if {A = ℕ × ℕ} (nat_lt 0 n && nat_le (at + n) 4096) (at, n)
+counted at n = only_if {A = ℕ × ℕ} (nat_lt 0 n && nat_le (at + n) eeprom_size) (at, n)
 
 -- what is read behind the space, and what before it and behind it
 abbrev with_count : List ℕ → ℕ → ℕ → Option (ℕ × ℕ)
@@ -82,7 +83,7 @@ bytes_in_spans text place count read =
     parts_span text space.0 at.0 n.0 place count space.1 at.1 n.1 n.2
 
 -- a place and a count with one space between them are read
-bytes_in-parts : (place_digits count_digits : List ℕ) (place count : ℕ) → WritesNumber 16 3 place_digits place → WritesNumber 16 2 count_digits count → 1 ≤ count → place + count ≤ 4096 → bytes_in (place_digits ++ 32 ∷ count_digits) ≡ Some (place, count)
+bytes_in-parts : (place_digits count_digits : List ℕ) (place count : ℕ) → WritesNumber 16 3 place_digits place → WritesNumber 16 2 count_digits count → 1 ≤ count → place + count ≤ eeprom_size → bytes_in (place_digits ++ 32 ∷ count_digits) ≡ Some (place, count)
 unfolding bytes_in
 bytes_in-parts place_digits count_digits place count from bytes some within =
     let text : List ℕ = place_digits ++ 32 ∷ count_digits in
@@ -95,7 +96,7 @@ bytes_in-parts place_digits count_digits place count from bytes some within =
       back,
       number_in-writes 16 2 count_digits count bytes,
       lt-ltb 0 count some,
-      le-leb (place + count) 4096 within,
+      le-leb (place + count) eeprom_size within,
     )
 
 -- what is so spelled is read

@@ -13,6 +13,7 @@ use Rattle.vantage_frames.specs.Line.{IsLineOf, SaysPackets, SaysBytes, SaysPeri
 use Rattle.vantage_frames.specs.LineReading.{LineReadsAs}
 use Rattle.vantage_frames.specs.LineWriting.{AreInEeprom, two_digits, place_digits, bytes_text}
 use Rattle.vantage_frames.proofs.Lines.{command_of-line}
+use Rattle.eeprom_map.specs.Memory.{eeprom_size}
 
 -- a number in decimal digits
 decimal_writes : (most n : ℕ) → 0 < most → n < 10 ^ most → n < 2 ^ 64 → WritesNumber 10 most (decimal n) n
@@ -38,7 +39,7 @@ byte_writes n small =
     }
 
 -- a place in two such digits, or in three
-place_writes : (n : ℕ) → n < 4096 → WritesNumber 16 3 (place_digits n) n
+place_writes : (n : ℕ) → n < eeprom_size → WritesNumber 16 3 (place_digits n) n
 place_writes n small = elim (nat_lt n 256) as (λ short. nat_lt n 256 ≡ short → WritesNumber 16 3 (if short then two_digits n else digit_glyph true (n / 256) ∷ two_digits (n % 256)) n) [
   | true ↦ λ is. let byte = byte_writes n (ltb-true n 256 is) in record { numeral = byte.numeral; short = lit≤ tt; value = byte.value }
   | false ↦ λ is.

@@ -7,6 +7,7 @@ use Rattle.vantage_frames.specs.declared.command.Command.TheVariants.{Test, Kind
 use Rattle.vantage_frames.specs.declared.command.Command.TheVariants.{EepromRead, EepromWrite, EepromAll}
 use Rattle.vantage_frames.specs.declared.command.Command.TheVariants.{TimeGet, TimeSet, SetPeriod, ClearLog}
 use Rattle.numerals.specs.Numeral.{WritesNumber}
+use Rattle.eeprom_map.specs.Memory.{eeprom_size}
 
 -- the line is this name, and then a text that says so
 abbrev pub HasBehind : List ℕ → List ℕ → (List ℕ → Type 0) → Type 0
@@ -25,7 +26,7 @@ pub record SaysBytes (text : List ℕ) (place count : ℕ) : Type 0 where
   pub from : WritesNumber 16 3 place_digits place
   pub bytes : WritesNumber 16 2 count_digits count
   pub some : 1 ≤ count
-  pub within : place + count ≤ 4096
+  pub within : place + count ≤ eeprom_size
 
 -- A period in minutes, in decimal digits of which the first is not 0.
 pub record SaysPeriod (text : List ℕ) (minutes : ℕ) : Type 0 where

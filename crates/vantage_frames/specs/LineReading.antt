@@ -12,6 +12,7 @@ use Rattle.vantage_frames.specs.declared.command.Command.TheVariants.{TimeGet, T
 use Rattle.numerals.specs.Numeral.{number_in}
 use Rattle.numerals.specs.Then.{◌>>=◌, only_if}
 use Rattle.vantage_frames.specs.Line.{IsLineOf}
+use Rattle.eeprom_map.specs.Memory.{eeprom_size}
 
 -- a line is read as the command of which it is a line, or as nothing where it is a line of none
 abbrev pub LineReadsAs : List ℕ → Option Command → Type 0
@@ -46,7 +47,7 @@ bytes_in text = do
   space ← position (λ byte. byte == 32) text
   at ← number_in 16 3 (take space text)
   count ← number_in 16 2 (drop (space + 1) text)
-  only_if (nat_lt 0 count && nat_le (at + count) 4096) (at, count)
+  only_if (nat_lt 0 count && nat_le (at + count) eeprom_size) (at, count)
 
 -- a period, behind the name
 unfoldable pub period_in : List ℕ → Option ℕ

@@ -5,10 +5,11 @@ use Rattle.vantage_frames.specs.declared.command.Command.{Command}
 use Rattle.vantage_frames.specs.declared.command.Command.TheVariants.{Test, Kind, LoopFor, DumpAfter}
 use Rattle.vantage_frames.specs.declared.command.Command.TheVariants.{EepromRead, EepromWrite, EepromAll}
 use Rattle.vantage_frames.specs.declared.command.Command.TheVariants.{TimeGet, TimeSet, SetPeriod, ClearLog}
+use Rattle.eeprom_map.specs.Memory.{eeprom_size}
 
 -- there are bytes, and they lie within the 4,096 of the EEPROM
 abbrev pub AreInEeprom : ℕ → ℕ → Type 0
-AreInEeprom place count = (1 ≤ count) × (place + count ≤ 4096)
+AreInEeprom place count = (1 ≤ count) × (place + count ≤ eeprom_size)
 
 -- a line can say the numbers of the command
 abbrev pub CanBeSaid : Command → Type 0

@@ -1,8 +1,5 @@
 use station_base::Period;
 
-// The bytes of the console's EEPROM.
-pub const EEPROM_SIZE: u16 = 4096;
-
 /// A command of a console, each of which is one line (Davis serial manual, "Commands"; the ranges of the numbers are this
 /// project's profile).
 #[derive(Clone, Copy, Debug, PartialEq, Eq)]

@@ -3,8 +3,9 @@ ghost use Rattle.vantage_frames.specs.declared.command.Command.{Command};
 ghost use Rattle.vantage_frames.specs.Line.{IsLineOf};
 ghost use Rattle.vantage_frames.specs.LineReading.{LineReadsAs, command_of, plain_command_of, numbered_command_of, packets_in, bytes_in, period_in};
 
-use crate::command::{Command, EEPROM_SIZE};
+use crate::command::Command;
 use crate::names;
+use eeprom_map::EEPROM_SIZE;
 use numerals::{DECIMAL, HEXADECIMAL, read_number};
 use station_base::Period;
 

@@ -4,6 +4,7 @@ ghost use Rattle.arrayvec.specs.ArrayVec.{array_vec_len};
 ghost use Rattle.vantage_frames.specs.Line.{IsLineOf};
 ghost use Rattle.vantage_frames.specs.LineReading.{LineReadsAs};
 ghost use Rattle.vantage_frames.specs.LineWriting.{AreInEeprom, CanBeSaid, bytes_text, line_of, place_digits, two_digits};
+ghost use Rattle.eeprom_map.specs.Memory.{eeprom_size};
 
 use crate::command::Command;
 use crate::names;
@@ -92,7 +93,7 @@ fn with_bytes(name: &[u8], at: u16, count: u8) -> Line
 
 // Appends a place: two hexadecimal digits, or three where it needs them.
 fn push_place(line: &mut Line, place: u16)
-    requires place { place < 4096 }
+    requires place { place < eeprom_size }
     requires room { array_vec_len line.old ≤ 8 }
     ensures text { line.new.items ≡ line.old.items ++ place_digits place }
     ensures short { array_vec_len line.new ≤ 11 }

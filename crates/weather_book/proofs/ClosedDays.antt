@@ -15,6 +15,7 @@ use Rattle.packed_rows.specs.Rising.{last_row_stamp}
 use Rattle.packed_rows.specs.Rows.{may_follow, is_closing, is_right, rows_with_row, shown_with, slot_total, rows_from, holds}
 use Rattle.weather_book.proofs.Places.{found, with_found, splits, rows_found, right_front, found_join, last_get}
 use Rattle.packed_rows.proofs.RowLaws.{AreRight, rows_to, shown_to, from_holds, count_right, follow_shown}
+use Rattle.daily_summary.specs.Parts.{part_count}
 
 -- right slots without a row are the next that close the day of the rows before
 record NoRow (rows : List Row) (shown : ℕ) (xs : List (List ℕ)) (after : List Row) (t : ℕ) : Type 0 where
@@ -70,17 +71,17 @@ front_take front n row rows lt is =
     sym (take-append_seam front (row ∷ [])) ∙ ap (λ (k : ℕ). take k (front ++ row ∷ [])) (l ∙ sym m) ∙ ap (take (length (take n rows))) e ∙ take-append_seam (take n rows) (get_or rows n row ∷ [])
 
 closing_is : (rows : List Row) (j : ℕ) (slot : List ℕ) → is_closing rows j slot ≡ true → unmarked slot ≡ closing_slot rows j
-closing_is rows j slot is = (bytes_eq-Decides (unmarked slot) (closing_slot rows j)).0 (and_parts (nat_lt 0 (length rows) && nat_lt j 13) (bytes_eq (unmarked slot) (closing_slot rows j)) is).1
+closing_is rows j slot is = (bytes_eq-Decides (unmarked slot) (closing_slot rows j)).0 (and_parts (nat_lt 0 (length rows) && nat_lt j part_count) (bytes_eq (unmarked slot) (closing_slot rows j)) is).1
 
 no_rows : (rows : List Row) (j : ℕ) (slot : List ℕ) → rows ≡ [] → is_closing rows j slot ≡ true → ⊥
 no_rows rows j slot none is =
-    let some : nat_lt 0 (length rows) ≡ true = (and_parts (nat_lt 0 (length rows)) (nat_lt j 13) (and_parts (nat_lt 0 (length rows) && nat_lt j 13) (bytes_eq (unmarked slot) (closing_slot rows j)) is).0).0 in
+    let some : nat_lt 0 (length rows) ≡ true = (and_parts (nat_lt 0 (length rows)) (nat_lt j part_count) (and_parts (nat_lt 0 (length rows) && nat_lt j part_count) (bytes_eq (unmarked slot) (closing_slot rows j)) is).0).0 in
     let zero_is : nat_lt 0 (length rows) ≡ false = ap (λ (rs : List Row). nat_lt 0 (length rs)) none in cc
 
 -- the thirteen slots before a row that begins a later day close the day of the rows before it
 pub record AreClosing (slots : List (List ℕ)) (place : ℕ) (rows : List Row) : Type 0 where
-  pub each : (j : ℕ) → j < 13 → unmarked (get_or slots (place + j) []) ≡ closing_slot rows j
-  pub within : place + 13 ≤ length slots
+  pub each : (j : ℕ) → j < part_count → unmarked (get_or slots (place + j) []) ≡ closing_slot rows j
+  pub within : place + part_count ≤ length slots
 
 pub closing_at : (slots : List (List ℕ)) (rows : List Row) (n place : ℕ) → rows_from [] 0 0 slots ≡ holds rows → n < length rows →
     ((row : Row) → slice_get rows n ≡ Some row → begins_day (last_row_stamp (take n rows)) row.stamp ≡ true) → place ≡ slot_total (take n rows) → AreClosing slots place (take n rows)
@@ -96,12 +97,12 @@ closing_at slots rows n place are lt begins at =
     let row_is : slice_get rows n ≡ Some s.row = last_get (found s.front) n s.row rows lt taken in
     let may : may_follow (rows_to [] s.front) (shown_to 0 s.front) s.row ≡ true =
     ap (is_right (rows_to [] s.front) (shown_to 0 s.front) s.slot) (sym s.is) ∙ right_last [] 0 s.front s.slot right_to in
-    let thirteen : shown_to 0 s.front ≡ 13 =
+    let thirteen : shown_to 0 s.front ≡ part_count =
     follow_shown (rows_to [] s.front) (shown_to 0 s.front) s.row may ∙ ap (λ (rs : List Row). closings (begins_day (last_row_stamp rs) s.row.stamp)) before ∙ ap closings (begins s.row row_is) in
     let count = count_right [] 0 s.front right in
     by s.front s.slot s.behind s.parts before thirteen (let e = ap slot_total before in omega (arith, count, e, at, thirteen)) (closes [] 0 s.front right)
   where
-    by : (front : List (List ℕ)) (slot : List ℕ) (behind : List (List ℕ)) → slots ≡ front ++ slot ∷ behind → rows_to [] front ≡ take n rows → shown_to 0 front ≡ 13 → length front ≡ place + 13 →
+    by : (front : List (List ℕ)) (slot : List ℕ) (behind : List (List ℕ)) → slots ≡ front ++ slot ∷ behind → rows_to [] front ≡ take n rows → shown_to 0 front ≡ part_count → length front ≡ place + part_count →
         NoRow [] 0 front (rows_to [] front) (shown_to 0 front) ⊎ Closes front (rows_to [] front) (shown_to 0 front) → AreClosing slots place (take n rows)
     by front slot behind parts before thirteen long (inl none) =
         absurd (no_rows [] 0 (get_or front 0 []) refl (none.each 0 (let e = none.count in omega (arith, e, thirteen))))

@@ -27,6 +27,7 @@ use Rattle.packed_rows.proofs.DayRows.{splits, day_count, last_day_is, few_of}
 use Rattle.weather_book.proofs.Measured.{all_measured}
 use Rattle.packed_rows.proofs.RowLaws.{last_join, rise_front, rise_behind, total_push}
 use Rattle.packed_rows.proofs.DayLaws.{later_day, still_beyond}
+use Rattle.daily_summary.specs.Parts.{part_count}
 
 -- the last row is past a day where an earlier one is
 last_past : (s : CivilMinute) (rows : List Row) (f : ℤ) → rows_rise (Some s) rows ≡ true → int_le (pos (archive_day_of s)) f ≡ false → int_le (day_of_stamp (last_stamp_after (Some s) rows)) f ≡ false
@@ -83,7 +84,7 @@ over_by day rows front row more n up back some count parts all none past =
     ap (λ (k : ℕ). take k rows) (let l = length-append front (row ∷ []) in let e : n + 1 ≡ length (front ++ row ∷ []) = omega (arith, l, count) in e)
     ∙ ap (take (length (front ++ row ∷ []))) (parts ∙ sym (append_assoc front (row ∷ []) more)) ∙ take-append_seam (front ++ row ∷ []) more in
     let pushed = total_push front row in
-    let thirteen : closings (begins_day (last_row_stamp front) row.stamp) ≡ 13 = ap closings begins in
+    let thirteen : closings (begins_day (last_row_stamp front) row.stamp) ≡ part_count = ap closings begins in
     let few = few_of day rows up in
     let all_were : All IsMeasured (rows_of_day day.0 rows) = All-filter (is_of_day day.0) IsMeasured rows (all_measured rows back) in
     record {

@@ -16,6 +16,7 @@ use Rattle.packed_rows.specs.Rising.{stamp_exceeds, last_stamp_after, last_row_s
 use Rattle.packed_rows.specs.Tail.{EndsRows}
 use Rattle.packed_rows.proofs.TailLaws.{later_day, other_nat}
 use Rattle.packed_rows.proofs.RowLaws.{day_after, day_stamp, begins_by, read_back-push}
+use Rattle.daily_summary.specs.Parts.{part_count}
 
 entry_of : ℕ → Row → DayEntry
 entry_of n row = record { day = record { 0 = day_of_row row }; first = n }
@@ -151,6 +152,6 @@ entries_days last n [] = refl
 entries_days last n (row ∷ rows) = length_with (is_day last (day_of_row row)) _ (day_of_row row) (entries_from (Some (day_of_row row)) (n + 1) rows) (days_from (Some (day_of_row row)) rows) (entries_days (Some (day_of_row row)) (n + 1) rows)
 
 -- how many slots the rows take, by what is kept
-pub total_kept : (entries : List DayEntry) (count : ℕ) (tail : Tail) (rows : List Row) → KeepsOf entries count tail rows → slot_total rows ≡ count + 13 * (length entries - 1)
+pub total_kept : (entries : List DayEntry) (count : ℕ) (tail : Tail) (rows : List Row) → KeepsOf entries count tail rows → slot_total rows ≡ count + part_count * (length entries - 1)
 total_kept entries count tail rows keeps =
     let e = entries_days None 0 rows in let f = ap length keeps.days in let g = keeps.count_is in omega (arith, e, f, g)

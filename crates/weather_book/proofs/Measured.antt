@@ -16,10 +16,12 @@ use Rattle.row_slot.proofs.Inverse.{parts_of, end_of}
 use Rattle.row_slot.proofs.Slots.{parts-row_in}
 use Rattle.daily_summary.specs.Measured.{IsMeasured}
 use Rattle.packed_rows.specs.Packed.{IsReadBack, AreReadBack}
+use Rattle.station_base.specs.Fields.{field_count}
+use Rattle.station_base.specs.Limits.{farthest_value}
 
-within_bound : (z : ℤ) → nat_le (unsigned_abs z) 2000000 ≡ true → IsPrintable (Some z)
+within_bound : (z : ℤ) → nat_le (unsigned_abs z) farthest_value ≡ true → IsPrintable (Some z)
 within_bound z is =
-    let le : unsigned_abs z ≤ 2000000 = grind (arith, nat_tests) in
+    let le : unsigned_abs z ≤ farthest_value = grind (arith, nat_tests) in
     printable_some z (omega (arith, ints), omega (arith, ints))
 
 allowed_printable : (some : Bool) (z : ℤ) → is_allowed some z ≡ true → IsPrintable (then_some some z)
@@ -43,7 +45,7 @@ measured row back =
     record {
       stamp = stamp_civil (number_at 2 4 (slot_of row)) (number_at 2 6 (slot_of row)) row.stamp parts.stamp;
       interval = subst (λ (n : ℕ). is_period n ≡ true) parts.interval parts.period;
-      values = values_printable 37 (presence_in (slot_of row)) (drop 20 (slot_of row)) row.values parts.values;
+      values = values_printable field_count (presence_in (slot_of row)) (drop 20 (slot_of row)) row.values parts.values;
     }
 
 pub all_measured : (rows : List Row) → AreReadBack rows → All IsMeasured rows

@@ -9,7 +9,7 @@ use Rattle.packed_rows.specs.Closed.{IsClosedAt, part_at, parts_at}
 use borrow.Rule.Slice.PartMut.{put_mid}
 use Rattle.daily_summary.specs.declared.summary.DaySummary.{DaySummary}
 use Rattle.daily_summary.specs.Bounds.{IsInBounds}
-use Rattle.daily_summary.specs.Parts.{part_size, summary_part, summary_parts}
+use Rattle.daily_summary.specs.Parts.{part_size, summary_part, summary_parts, part_count}
 use Rattle.daily_summary.specs.WellFormed.{IsStoredAs}
 use Rattle.daily_summary.proofs.PartsLaws.{part_long}
 use Rattle.gated_log.specs.Log.{unmarked}
@@ -49,12 +49,12 @@ same_parts (suc n) a f g each =
     ap (λ (xs : List ℕ). xs ++ flat_map f (range_with_len (a + 1) n)) first ∙ ap (λ (xs : List ℕ). g a ++ xs) rest
 
 -- the parts in slots that close a day are those of its summary
-pub parts_read : (slots : List (List ℕ)) (place : ℕ) (day : ℤ) (s : DaySummary) (bytes : List ℕ) → length bytes ≡ 13 * slot_size → AreSlots slots place bytes → IsClosedAt slots place day s → parts_at bytes ≡ summary_parts s
+pub parts_read : (slots : List (List ℕ)) (place : ℕ) (day : ℤ) (s : DaySummary) (bytes : List ℕ) → length bytes ≡ part_count * slot_size → AreSlots slots place bytes → IsClosedAt slots place day s → parts_at bytes ≡ summary_parts s
 parts_read slots place day s bytes long are closed =
-    same_parts 13 0 (part_at bytes) (λ k. summary_part k s)
+    same_parts part_count 0 (part_at bytes) (λ k. summary_part k s)
     (λ i h. ap (part_at bytes) (let e : 0 + i ≡ i = omega arith in e) ∙ one i h ∙ ap (λ (k : ℕ). summary_part k s) (let e : i ≡ 0 + i = omega arith in e))
   where
-    one : (i : ℕ) → i < 13 → part_at bytes i ≡ summary_part i s
+    one : (i : ℕ) → i < part_count → part_at bytes i ≡ summary_part i s
     one i h =
         let slot_bytes : List ℕ = take slot_size (drop (slot_size * i) bytes) in
         let inner : take part_size (drop part_place slot_bytes) ≡ part_at bytes i =
@@ -63,12 +63,12 @@ parts_read slots place day s bytes long are closed =
 
 -- so many parts in front of zeros in place of those that are still to be copied
 pub record AreCopied (bytes : List ℕ) (count : ℕ) (parts : List ℕ) : Type 0 where
-  pub parts_are : parts ≡ flat_map (part_at bytes) (range_with_len 0 count) ++ drop (part_size * count) (replicate (13 * part_size) 0)
+  pub parts_are : parts ≡ flat_map (part_at bytes) (range_with_len 0 count) ++ drop (part_size * count) (replicate (part_count * part_size) 0)
 
-part_at_long : (bytes : List ℕ) (k : ℕ) → length bytes ≡ 13 * slot_size → k < 13 → length (part_at bytes k) ≡ part_size
+part_at_long : (bytes : List ℕ) (k : ℕ) → length bytes ≡ part_count * slot_size → k < part_count → length (part_at bytes k) ≡ part_size
 part_at_long bytes k long lt = let a = length-take part_size (drop (slot_size * k + part_place) bytes) in let b = length-drop (slot_size * k + part_place) bytes in omega (arith, a, b, long, lt)
 
-front_size : (bytes : List ℕ) (a n : ℕ) → length bytes ≡ 13 * slot_size → a + n ≤ 13 → length (flat_map (part_at bytes) (range_with_len a n)) ≡ part_size * n
+front_size : (bytes : List ℕ) (a n : ℕ) → length bytes ≡ part_count * slot_size → a + n ≤ part_count → length (flat_map (part_at bytes) (range_with_len a n)) ≡ part_size * n
 front_size bytes a zero long le = refl
 front_size bytes a (suc n) long le =
     let one = part_at_long bytes a long (omega arith) in let rest = front_size bytes (a + 1) n long (omega arith) in
@@ -81,11 +81,11 @@ more_parts bytes a (suc n) =
     ap (λ (xs : List ℕ). part_at bytes a ++ xs) (more_parts bytes (a + 1) n) ∙ sym (append_assoc (part_at bytes a) rest (part_at bytes (a + 1 + n)))
     ∙ ap (λ (k : ℕ). (part_at bytes a ++ rest) ++ part_at bytes k) (let e : a + 1 + n ≡ a + suc n = omega arith in e)
 
-pub one_copied : (bytes : List ℕ) (count size : ℕ) (parts new : List ℕ) → length bytes ≡ 13 * slot_size → count < 13 → size ≡ part_size → AreCopied bytes count parts → new ≡ part_at bytes count →
+pub one_copied : (bytes : List ℕ) (count size : ℕ) (parts new : List ℕ) → length bytes ≡ part_count * slot_size → count < part_count → size ≡ part_size → AreCopied bytes count parts → new ≡ part_at bytes count →
     AreCopied bytes (count + 1) (put_mid (part_size * count) size parts new)
 one_copied bytes count size parts new long lt sized are new_is =
     let front : List ℕ = flat_map (part_at bytes) (range_with_len 0 count) in
-    let blank : List ℕ = replicate (13 * part_size) 0 in
+    let blank : List ℕ = replicate (part_count * part_size) 0 in
     record {
       parts_are =
           ap (λ (n : ℕ). put_mid (part_size * count) n parts new) sized ∙ ap (λ (xs : List ℕ). put_mid (part_size * count) part_size xs new) are.parts_are
@@ -97,7 +97,7 @@ one_copied bytes count size parts new long lt sized are new_is =
           ∙ ap (λ (xs : List ℕ). xs ++ drop (part_size * (count + 1)) blank) (sym (more_parts bytes 0 count) ∙ ap (λ (k : ℕ). flat_map (part_at bytes) (range_with_len 0 k)) (let e : suc count ≡ count + 1 = omega arith in e));
     }
 
-pub all_copied : (bytes : List ℕ) (count : ℕ) (parts : List ℕ) → count ≡ 13 → AreCopied bytes count parts → parts ≡ parts_at bytes
+pub all_copied : (bytes : List ℕ) (count : ℕ) (parts : List ℕ) → count ≡ part_count → AreCopied bytes count parts → parts ≡ parts_at bytes
 all_copied bytes count parts all are =
     let thirteen = subst (λ (n : ℕ). AreCopied bytes n parts) all are in
     thirteen.parts_are ∙ append-nil (parts_at bytes)

@@ -9,8 +9,10 @@ ghost use Rattle.weather_book.specs.Kept.{KeepsOf};
 ghost use Rattle.packed_rows.specs.Packed.{IsReadBack, AreReadBack};
 ghost use Rattle.packed_rows.specs.Rising.{stamp_exceeds, rows_rise, last_stamp_after};
 ghost use Rattle.packed_rows.specs.Rows.{slot_total};
+ghost use Rattle.daily_summary.specs.Parts.{part_count};
 
 use causes::OutOfMemory;
+use daily_summary::PART_COUNT;
 use packed_rows::Tail;
 use station_base::{DayNumber, Row};
 use std::alloc::Global;
@@ -151,12 +153,12 @@ impl Kept {
     // The number of the slot of row `n`.
     pub fn place(&self, n: u64) -> u64
         requires within { n < self.now.count }
-        requires room { self.now.count + 13 * (vec_len self.now.days - 1) < 2 ^ 64 }
+        requires room { self.now.count + part_count * (vec_len self.now.days - 1) < 2 ^ 64 }
         ensures rows { (rows : List Row) → KeepsOf self.now.days.items self.now.count self.now.tail rows
             → result + 1 ≡ slot_total (take (n + 1) rows) }
-        ensures within { result ≤ n + 13 * (vec_len self.now.days - 1) }
+        ensures within { result ≤ n + part_count * (vec_len self.now.days - 1) }
     {
-        n + 13 * self.days_begun(n).saturating_sub(1)
+        n + PART_COUNT as u64 * self.days_begun(n).saturating_sub(1)
     }
 }
 

@@ -18,6 +18,7 @@ ghost use Rattle.packed_rows.specs.Packed.{AreRowsAt};
 ghost use Rattle.weather_book.specs.ReadBack.{row_back, rows_back};
 ghost use Rattle.packed_rows.specs.Rows.{as_read};
 ghost use Rattle.weather_book.specs.Start.{OnRows, OnSummary, day_failed, has_no_rows, rows_failed};
+ghost use Rattle.daily_summary.specs.Parts.{part_count};
 
 use crate::{DayAnswer, RowsAnswer};
 use arrayvec::ArrayVec;
@@ -142,7 +143,7 @@ pub(crate) fn read_summary<D: Disk>(
     place: u64,
     rows: u32,
 ) -> DayAnswer
-    requires within { place + 13 ≤ slot_count log.now }
+    requires within { place + part_count ≤ slot_count log.now }
     ensures summary { OnSummary result (λ s. (slots : List (List ℕ)) (day : ℤ) (t : DaySummary)
         → StandsToRead D.medium (slot_count log.now) disk.old slots
         → IsClosedAt slots place day t → t.rows ≡ rows → WhereTold (D.medium.seen disk.old) (λ _. s ≡ t)) }

@@ -20,6 +20,7 @@ use Rattle.weather_reports.specs.Months.{is_of_month, month_text, months_from}
 use Rattle.weather_reports.specs.Report.{month_lines, rows_of_days}
 use Rattle.weather_reports.proofs.AscendingDays.{later_number}
 use Rattle.weather_reports.proofs.MonthSpan.{month_span}
+use Rattle.station_base.specs.Limits.{most_rows}
 
 -- its lines are those of its days
 of_days : (rows : List Row) (day : ℤ) (days : List ℤ) (m : Month) → MonthIsBegun rows (day ∷ days) (Some m)
@@ -64,7 +65,7 @@ month_begins rows day s is = (refl, is ∙ ap summary_of (sym (append-nil (rows_
 pub few_together : (book : Book) (month : Option Month) (day : DayNumber) (n more : ℕ) → IfSome month MonthIsInOrder → IsDayNumber day.0 → more ≤ 1441
     → ((rows : List Row) → BookStandsFor book rows → IfSome month (HasFewRows rows n))
     → ((rows : List Row) → BookStandsFor book rows → slice_get (days_of rows) n ≡ Some day.0)
-    → IfSome month (λ m. month_text m.first.0 ≡ month_text day.0 → m.summary.rows + more ≤ 1048576)
+    → IfSome month (λ m. month_text m.first.0 ≡ month_text day.0 → m.summary.rows + more ≤ most_rows)
 few_together book None day n more order range small few at = tt
 few_together book (Some m) day n more order range small few at = λ same.
     ∥∥₁_elim (some_rows book) (hlevel props) (λ p.

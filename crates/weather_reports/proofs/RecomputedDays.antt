@@ -27,6 +27,7 @@ use Rattle.weather_reports.specs.Recomputed.{AreDayLines, ComesBefore, DayLine, 
 use Rattle.weather_reports.specs.Report.{all_day_lines, day_lines}
 use Rattle.weather_reports.specs.Reported.{text_of_lines}
 use Rattle.weather_reports.proofs.AscendingDays.{above}
+use Rattle.station_base.specs.Fields.{field_count}
 
 abbrev line_at : ℤ → ℕ → FieldSum → DayLine
 line_at day field s = record { day = day; field = field; told = s }
@@ -170,9 +171,9 @@ field_told rows day field up =
       sumtime = ap time (sym e);
     }
 
-fields_long : (rows : List Row) → length (summary_of rows).fields ≡ 37
+fields_long : (rows : List Row) → length (summary_of rows).fields ≡ field_count
 unfolding summary_of
-fields_long rows = length-map-range_with_len (λ field. field_sum (readings field rows)) 0 37
+fields_long rows = length-map-range_with_len (λ field. field_sum (readings field rows)) 0 field_count
 
 day_told : (rows : List Row) (day : ℤ) → RowsRiseAfter None rows → All (IsRecomputed rows) (told_in rows day)
 day_told rows day up =
@@ -279,7 +280,7 @@ line_there rows (d ∷ days) day line (suc k, within, at) told =
 own_day : (n : ℕ) → int_eq (pos n) (pos n) ≡ true
 own_day n = grind (arith, nat_tests)
 
-value_told : (rows : List Row) (row : Row) (field : ℕ) → Contains rows row → field < 37 → (v : ℤ) → field_value field row ≡ Some v → FieldIsTold (flat_map (told_in rows) (days_of rows)) (day_of_row row) field
+value_told : (rows : List Row) (row : Row) (field : ℕ) → Contains rows row → field < field_count → (v : ℤ) → field_value field row ≡ Some v → FieldIsTold (flat_map (told_in rows) (days_of rows)) (day_of_row row) field
 value_told rows row field there small v is =
     let day = day_of_row row in let here = rows_of_day day rows in
     let mine : Contains here row = filtered_there (is_of_day day) rows row (own_day (archive_day_of row.stamp)) there in

@@ -10,6 +10,7 @@ use Rattle.daily_summary.specs.Summary.{rows_of_day}
 use Rattle.packed_rows.specs.Days.{day_of_row}
 use Rattle.weather_reports.specs.Line.{sum_line}
 use Rattle.weather_reports.specs.Reported.{text_of_lines}
+use Rattle.station_base.specs.Fields.{field_count}
 
 -- A line: the day, the field by its number, and what is told of it.
 pub record DayLine : Type 0 where
@@ -46,5 +47,5 @@ pub record AreDayLines (rows : List Row) (text : List ℕ) : Type 0 where
   pub text_is : text ≡ text_of_lines (map printed_line lines)
   pub in_order : AllPairs ComesBefore lines
   pub recomputed : All (IsRecomputed rows) lines
-  pub all : (row : Row) (field : ℕ) → Contains rows row → field < 37 → IsSome (field_value field row)
+  pub all : (row : Row) (field : ℕ) → Contains rows row → field < field_count → IsSome (field_value field row)
       → FieldIsTold lines (day_of_row row) field

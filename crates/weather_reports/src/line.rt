@@ -3,6 +3,7 @@ ghost use Rattle.std.specs.Fmt.{signed_decimal};
 ghost use Rattle.arrayvec.specs.ArrayVec.{array_vec_len};
 ghost use Rattle.station_base.specs.Stamp.{stamp_text};
 ghost use Rattle.weather_reports.specs.Line.{sum_line, sum_text};
+ghost use Rattle.station_base.specs.Fields.{field_count};
 
 use arrayvec::ArrayVec;
 use daily_summary::FieldSum;
@@ -31,7 +32,7 @@ const SUM: usize = 200;
 pub fn push_sum_line(pending: &mut Pending, head: &[u8], field: FieldId, sum: &FieldSum)
     requires room { array_vec_len pending.old < PIECE }
     requires head { length head.now ≤ HEAD }
-    requires field { field < 37 }
+    requires field { field < field_count }
     ensures { pending.new.items ≡ pending.old.items ++ sum_line head.now field sum.now }
 {
     push_bytes(pending, head);

@@ -10,6 +10,7 @@ ghost use Rattle.weather_reports.specs.Begun.{MonthGrows, MonthIsBegun, MonthIsI
 ghost use Rattle.weather_reports.specs.Months.{is_of_month, month_text};
 ghost use Rattle.weather_reports.specs.Reported.{text_of_lines};
 ghost use Rattle.weather_reports.specs.Wrote.{Prints};
+ghost use Rattle.station_base.specs.Limits.{most_rows};
 
 use crate::line::{PIECE, Pending};
 use crate::printing::print_sums;
@@ -57,7 +58,7 @@ pub fn join(month: &mut Option<Month>, day: DayNumber, summary: &DaySummary) -> 
     requires month { IfSome month.old MonthIsInOrder }
     requires summary { IsInBounds summary.now }
     requires few { IfSome month.old (λ m. month_text m.first.0 ≡ month_text day.0
-        → m.summary.rows + summary.now.rows ≤ 1048576) }
+        → m.summary.rows + summary.now.rows ≤ most_rows) }
     ensures month { IfSome month.new MonthIsInOrder }
     ensures joined { result ≡ true → (rows : List Row) (begun : List ℤ) → MonthIsBegun rows begun month.old
         → summary.now ≡ summary_of (rows_of_day day.0 rows)

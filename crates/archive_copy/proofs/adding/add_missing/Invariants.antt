@@ -11,6 +11,7 @@ use Rattle.archive_copy.proofs.Batches.{AddedSo}
 use Rattle.archive_copy.specs.Adding.{HasSome, batch_count}
 use Rattle.archive_copy.specs.Reading.{IsAhead}
 use Rattle.archive_copy.proofs.adding.add_missing.Given as goal
+use Rattle.station_base.specs.Limits.{most_rows}
 
 -- the rows up to a number are added, and what was begun and what is still to be begun come to the whole
 abbrev pub invariant-loop-reader : goal.invariant-loop-reader
@@ -20,7 +21,7 @@ invariant-loop-reader g l = record {
   within : l.reader.at ≤ l.count;
   ahead : IsAhead g.D.Disk.medium l.theirs l.from l.reader;
   fresh : book_is_stale l.mine ≡ false;
-  most : most_rows_of l.mine ≡ 1048576;
+  most : most_rows_of l.mine ≡ most_rows;
   moved : g.E.Disk.medium.moment l.to + 4 * batch_count (l.count - l.reader.at)
       ≡ g.E.Disk.medium.moment l.initial.to + 4 * batch_count (l.count - len_of l.fn.mine);
   stays : Stays g.D.Disk.medium l.initial.from l.from;

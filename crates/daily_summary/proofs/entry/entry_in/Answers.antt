@@ -3,7 +3,7 @@ use Rattle.daily_summary.specs.declared.field_sum.FieldSum.{FieldSum}
 use Rattle.daily_summary.specs.Bounds.{IsSumOf}
 use Rattle.std.specs.Prelude.{IfSome}
 use Rattle.std.proofs.lemmas.Bool.{false≢true}
-use Rattle.daily_summary.specs.Parts.{field_entry, sum_in, IsTyped}
+use Rattle.daily_summary.specs.Parts.{field_entry, sum_in, IsTyped, entry_size}
 use Rattle.daily_summary.specs.WellFormed.{BytesAreBlank}
 use Rattle.daily_summary.proofs.Entries.{zeros, all_zeros, count_read, blank_entry, filled_entry, no_entry, read_by, read_of, sum_read, entry_again}
 use Rattle.daily_summary.proofs.entry.entry_in.Goals as goal
@@ -11,18 +11,18 @@ use Rattle.daily_summary.proofs.entry.entry_in.Goals as goal
 pub returns-then-is_blank-clause-well_formed : goal.returns-then-is_blank-clause-well_formed
 returns-then-is_blank-clause-well_formed c =
     let blank : BytesAreBlank c.args.bytes.now = c.is_blank.ensures.0 c.if-is_blank.true in
-    (λ some. blank_entry c.args.rows c.args.bytes.now (zeros c.args.bytes.now 44 c.requires.long blank) blank, λ entry. refl)
+    (λ some. blank_entry c.args.rows c.args.bytes.now (zeros c.args.bytes.now entry_size c.requires.long blank) blank, λ entry. refl)
 
 pub returns-then-is_blank-clause-found : goal.returns-then-is_blank-clause-found
-returns-then-is_blank-clause-found c = (sym (zeros c.args.bytes.now 44 c.requires.long (c.is_blank.ensures.0 c.if-is_blank.true)), tt)
+returns-then-is_blank-clause-found c = (sym (zeros c.args.bytes.now entry_size c.requires.long (c.is_blank.ensures.0 c.if-is_blank.true)), tt)
 
-none_only : (rows : ℕ) (b : List ℕ) (sum : Option FieldSum) → b ≡ replicate 44 0 → IfSome sum IsTyped → IfSome sum (IsSumOf rows) → field_entry sum ≡ b → (let none : Option (Option FieldSum) = Some None in none ≡ Some sum)
+none_only : (rows : ℕ) (b : List ℕ) (sum : Option FieldSum) → b ≡ replicate entry_size 0 → IfSome sum IsTyped → IfSome sum (IsSumOf rows) → field_entry sum ≡ b → (let none : Option (Option FieldSum) = Some None in none ≡ Some sum)
 none_only rows b None blank typed within same = refl
 none_only rows b (Some s) blank typed within same = let none = count_read s b typed same blank in let some = within.sum_is.some in absurd (omega arith)
 
 pub returns-then-is_blank-clause-only : goal.returns-then-is_blank-clause-only
 returns-then-is_blank-clause-only c sum typed within same =
-    none_only c.args.rows c.args.bytes.now sum (zeros c.args.bytes.now 44 c.requires.long (c.is_blank.ensures.0 c.if-is_blank.true)) typed within same
+    none_only c.args.rows c.args.bytes.now sum (zeros c.args.bytes.now entry_size c.requires.long (c.is_blank.ensures.0 c.if-is_blank.true)) typed within same
 
 not_blank : (b : List ℕ) (test : Bool) → (BytesAreBlank b → test ≡ true) → test ≡ false → BytesAreBlank b → ⊥
 not_blank b test is off blank = let on : test ≡ true = is blank in cc
@@ -34,7 +34,7 @@ returns-in_err-sum-clause-well_formed c =
     rw c.from_residual.ensures ((λ some. absurd (false≢true some)), λ entry. absurd (bad entry))
 
 err_only : (b : List ℕ) (sum : Option FieldSum) (read : Option FieldSum) → (BytesAreBlank b → ⊥) → read ≡ None → read ≡ sum_in b → IfSome sum IsTyped → field_entry sum ≡ b → ⊥
-err_only b None read filled none is typed same = filled (subst BytesAreBlank same (all_zeros 44))
+err_only b None read filled none is typed same = filled (subst BytesAreBlank same (all_zeros entry_size))
 err_only b (Some s) read filled none is typed same = let e = sum_read s b (read_of s b typed same) in cc
 
 pub returns-in_err-sum-clause-only : goal.returns-in_err-sum-clause-only
@@ -52,7 +52,7 @@ returns-then-not-is_sum_of-clause-well_formed c = (
 )
 
 beyond_only : (rows : ℕ) (b : List ℕ) (sum : Option FieldSum) (s : FieldSum) → (BytesAreBlank b → ⊥) → (IsSumOf rows s → ⊥) → Some s ≡ sum_in b → IfSome sum IsTyped → IfSome sum (IsSumOf rows) → field_entry sum ≡ b → ⊥
-beyond_only rows b None s filled bad is typed within same = filled (subst BytesAreBlank same (all_zeros 44))
+beyond_only rows b None s filled bad is typed within same = filled (subst BytesAreBlank same (all_zeros entry_size))
 beyond_only rows b (Some t) s filled bad is typed within same =
     let e = sum_read t b (read_of t b typed same) in let f : t ≡ s = cc in bad (subst (IsSumOf rows) f within)
 
@@ -73,7 +73,7 @@ returns-clause-found c =
     (entry_again c.in_ok-sum.sum c.args.bytes.now c.requires.long (λ i. omega (arith, c.type_inv.bytes i)) (read_by c.in_ok-sum.sum c.args.bytes.now (sym is)), c.is_sum_of.ensures.0 c.if-not-is_sum_of.false)
 
 found_only : (b : List ℕ) (sum : Option FieldSum) (s : FieldSum) → (BytesAreBlank b → ⊥) → Some s ≡ sum_in b → IfSome sum IsTyped → field_entry sum ≡ b → (let it : Option (Option FieldSum) = Some (Some s) in it ≡ Some sum)
-found_only b None s filled is typed same = absurd (filled (subst BytesAreBlank same (all_zeros 44)))
+found_only b None s filled is typed same = absurd (filled (subst BytesAreBlank same (all_zeros entry_size)))
 found_only b (Some t) s filled is typed same = let e = sum_read t b (read_of t b typed same) in cc
 
 pub returns-clause-only : goal.returns-clause-only

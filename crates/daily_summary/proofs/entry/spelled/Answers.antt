@@ -4,11 +4,12 @@ use Rattle.std.specs.Int.{w32, w64, cast_signed, cast_unsigned}
 use Rattle.byteorder.specs.Endian.{little_bytes}
 use Rattle.daily_summary.proofs.Pieces.{piece, again_32, again_64, entry_made}
 use Rattle.daily_summary.proofs.entry.spelled.Goals as goal
+use Rattle.daily_summary.specs.Parts.{entry_size}
 
 pub returns : goal.returns
 returns c =
     let s = c.args.sum.now in
-    let z : List ℕ = replicate 44 0 in
+    let z : List ℕ = replicate entry_size 0 in
     let f0 : FitsSigned w32 s.least = search rules in
     let f3 : FitsSigned w32 s.greatest = search rules in
     let f6 : FitsSigned w64 s.sum = search rules in
@@ -32,7 +33,7 @@ returns c =
     let s6 = piece 16 8 28 24 (((((p0 ++ p1) ++ p2) ++ p3) ++ p4) ++ p5) _ p6 c.write_i64.new.buf z refl refl s5 refl (omega arith) c.write_i64.ensures in
     let s7 = piece 24 4 20 28 ((((((p0 ++ p1) ++ p2) ++ p3) ++ p4) ++ p5) ++ p6) _ p7 c.write_u32.new.buf z refl refl s6 refl (omega arith) c.write_u32.ensures in
     let s8 = piece 28 8 16 36 (((((((p0 ++ p1) ++ p2) ++ p3) ++ p4) ++ p5) ++ p6) ++ p7) _ p8 c.write_i64-2.new.buf z refl refl s7 refl (omega arith) c.write_i64-2.ensures in
-    let s9 = piece 36 8 8 44 ((((((((p0 ++ p1) ++ p2) ++ p3) ++ p4) ++ p5) ++ p6) ++ p7) ++ p8) _ p9 c.write_u64.new.buf z refl refl s8 refl (omega arith) c.write_u64.ensures in
+    let s9 = piece 36 8 8 entry_size ((((((((p0 ++ p1) ++ p2) ++ p3) ++ p4) ++ p5) ++ p6) ++ p7) ++ p8) _ p9 c.write_u64.new.buf z refl refl s8 refl (omega arith) c.write_u64.ensures in
     s9 ∙ entry_made s (cast_unsigned w32 (cast_signed w32 (cast_unsigned w32 s.least))) (cast_unsigned w32 (cast_signed w32 (cast_unsigned w32 s.greatest)))
     (cast_unsigned w64 (cast_signed w64 (cast_unsigned w64 s.sum))) (cast_unsigned w64 (cast_signed w64 (cast_unsigned w64 s.wsum)))
     c.date_word.result c.time_word.result c.date_word-2.result c.time_word-2.result

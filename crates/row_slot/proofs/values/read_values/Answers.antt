@@ -6,6 +6,7 @@ use Rattle.std.proofs.lemmas.Bool.{false≢true}
 use Rattle.row_slot.specs.Values.{is_allowed, slot_values_in}
 use Rattle.row_slot.proofs.Fields.{fields_read, none_read, told, tells_more}
 use Rattle.row_slot.proofs.values.read_values.Goals as goal
+use Rattle.station_base.specs.Fields.{field_count}
 
 pub returns-then-not-is_allowed : goal.returns-then-not-is_allowed
 returns-then-not-is_allowed c =
@@ -14,8 +15,8 @@ returns-then-not-is_allowed c =
     let field = c.loop-field.field in
     let fits : FitsSigned w32 c.number_of-number.result = search rules in
     let refused = sym (told is_allowed presence field slot c.number_of-number.result fits c.number_of-number.ensures) ∙ sym c.is_allowed.ensures ∙ c.if-not-is_allowed.true in
-    ap (λ n. slot_values_in 37 n (drop 20 slot)) (sym c.presence_in-presence.ensures)
-    ∙ none_read 37 presence (drop 20 slot) (λ are. false≢true (sym refused ∙ are.allowed field c.loop-field-test.true))
+    ap (λ n. slot_values_in field_count n (drop 20 slot)) (sym c.presence_in-presence.ensures)
+    ∙ none_read field_count presence (drop 20 slot) (λ are. false≢true (sym refused ∙ are.allowed field c.loop-field-test.true))
 
 pub loop-field-preserved : goal.loop-field-preserved
 loop-field-preserved c =
@@ -34,14 +35,14 @@ loop-field-preserved c =
 pub returns-then-presence-ne0 : goal.returns-then-presence-ne0
 returns-then-presence-ne0 c =
     let presence = c.presence_in-presence.result in
-    ap (λ n. slot_values_in 37 n (drop 20 c.args.slot.now)) (sym c.presence_in-presence.ensures)
-    ∙ none_read 37 presence (drop 20 c.args.slot.now) (λ are. c.if-presence-ne0.true (omega (arith, are.below)))
+    ap (λ n. slot_values_in field_count n (drop 20 c.args.slot.now)) (sym c.presence_in-presence.ensures)
+    ∙ none_read field_count presence (drop 20 c.args.slot.now) (λ are. c.if-presence-ne0.true (omega (arith, are.below)))
 
 pub returns : goal.returns
 returns c =
     let presence = c.presence_in-presence.result in
-    ap (λ n. slot_values_in 37 n (drop 20 c.args.slot.now)) (sym c.presence_in-presence.ensures)
-    ∙ fields_read 37 presence (drop 20 c.args.slot.now) c.loop-field.values c.loop-field.invariant.long
+    ap (λ n. slot_values_in field_count n (drop 20 c.args.slot.now)) (sym c.presence_in-presence.ensures)
+    ∙ fields_read field_count presence (drop 20 c.args.slot.now) c.loop-field.values c.loop-field.invariant.long
     (record {
       below = omega arith;
       allowed = λ field within. c.loop-field.invariant.allowed field (omega arith);

@@ -6,6 +6,7 @@ use Rattle.weather_book.proofs.DayOf.{summary_rows}
 use Rattle.weather_book.proofs.Looks.{one_look}
 use Rattle.weather_book.proofs.Stored.{parts_read, stored_as}
 use Rattle.weather_book.proofs.slots.read_summary.Goals as goal
+use Rattle.daily_summary.specs.Parts.{part_count}
 
 one_summary : (o : Option DaySummary) (s t : DaySummary) → o ≡ Some s → o ≡ Some t → s ≡ t
 one_summary o s t one two = cc
@@ -15,13 +16,13 @@ no_summary o s t one two = absurd cc
 
 pub returns-in-Some-clause-summary : goal.returns-in-Some-clause-summary
 returns-in-Some-clause-summary g c slots day t stands closed count x told =
-    let long : length c.slots_at.new.buf ≡ 13 * slot_size = omega (arith, c.slots_at.auto.buf) in
+    let long : length c.slots_at.new.buf ≡ part_count * slot_size = omega (arith, c.slots_at.auto.buf) in
     let parts = c.parts_at.ensures ∙ parts_read slots c.args.place day t c.slots_at.new.buf long (c.in-Done.ensures.bytes slots stands x told) closed in
     one_summary c.from_parts.result c.in-Some.summary t c.in-Some.is (c.from_parts.ensures.only t closed.typed (stored_as c.args.rows c.parts_at.result t count closed.bounds (sym parts)))
 
 pub returns-in-None-clause-summary : goal.returns-in-None-clause-summary
 returns-in-None-clause-summary g c slots day t stands closed count x told =
-    let long : length c.slots_at.new.buf ≡ 13 * slot_size = omega (arith, c.slots_at.auto.buf) in
+    let long : length c.slots_at.new.buf ≡ part_count * slot_size = omega (arith, c.slots_at.auto.buf) in
     let parts = c.parts_at.ensures ∙ parts_read slots c.args.place day t c.slots_at.new.buf long (c.in-Done.ensures.bytes slots stands x told) closed in
     no_summary c.from_parts.result c.new.result t c.in-None.is (c.from_parts.ensures.only t closed.typed (stored_as c.args.rows c.parts_at.result t count closed.bounds (sym parts)))
 

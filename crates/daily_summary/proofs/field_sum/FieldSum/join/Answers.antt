@@ -5,11 +5,12 @@ use Rattle.std.proofs.lemmas.Int.{to_z-of_z}
 use Rattle.daily_summary.proofs.JoinedSums.{same_sum}
 use Rattle.daily_summary.proofs.SumBounds.{abs_add, fits_below}
 use Rattle.daily_summary.proofs.field_sum.FieldSum.join.Goals as goal
+use Rattle.station_base.specs.Limits.{most_rows}
 
 pub returns-clause-exact : goal.returns-clause-exact
 returns-clause-exact c =
     let a = c.args.self.now in let b = c.args.later.now in
-    let small : a.count + b.count ≤ 1048576 = c.requires.few in
+    let small : a.count + b.count ≤ most_rows = c.requires.few in
     let sa = c.requires.earlier in let sb = c.requires.later in
     let low = c.lower_to.ensures in let high = c.raise_to.ensures in
     let sum = high.others.sum ∙ low.others.sum in

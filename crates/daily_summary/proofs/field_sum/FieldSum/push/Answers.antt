@@ -8,6 +8,7 @@ use Rattle.daily_summary.specs.Joined.{sum_of_row}
 use Rattle.daily_summary.proofs.JoinedSums.{same_sum}
 use Rattle.daily_summary.proofs.SumBounds.{abs_add, both_sums, fits_below, row_sum, same_32}
 use Rattle.daily_summary.proofs.field_sum.FieldSum.push.Goals as goal
+use Rattle.station_base.specs.Limits.{farthest_value}
 
 pub overflow_mul-self : goal.overflow_mul-self
 overflow_mul-self c =
@@ -16,7 +17,7 @@ overflow_mul-self c =
     let f0 : FitsSigned w32 z = fits_signed_from_abs w32 z (omega (arith, o.sum)) in
     let two = same_32 c.from-2.result z f0 c.from-2.ensures in
     let three = c.from-3.ensures ∙ ap pos c.seconds_of-seconds.ensures.seconds in
-    let f1 : FitsSigned w64 z = fits_below z 2000000 o.sum (omega arith) in
+    let f1 : FitsSigned w64 z = fits_below z farthest_value o.sum (omega arith) in
     let f2 : FitsSigned w64 (pos n) = fits_below (pos n) n (omega arith) (omega (arith, o.longest)) in
     let f3 : FitsSigned w64 (z *ℤ pos n) = fits_below (z *ℤ pos n) _ o.wsum (omega (arith, o.longest)) in
     rw (two, three) (simp to_z-of_z f3)
@@ -29,7 +30,7 @@ overflow_add-self-3 c =
     let two = same_32 c.from-2.result z f0 c.from-2.ensures in
     let three = c.from-3.ensures ∙ ap pos c.seconds_of-seconds.ensures.seconds in
     let wsum = c.raise_to.ensures.others.wsum ∙ c.lower_to.ensures.others.wsum in
-    let f1 : FitsSigned w64 z = fits_below z 2000000 o.sum (omega arith) in
+    let f1 : FitsSigned w64 z = fits_below z farthest_value o.sum (omega arith) in
     let f2 : FitsSigned w64 (pos n) = fits_below (pos n) n (omega arith) (omega (arith, o.longest)) in
     let f3 : FitsSigned w64 (z *ℤ pos n) = fits_below (z *ℤ pos n) _ o.wsum (omega (arith, o.longest)) in
     let g1 : FitsSigned w64 a.wsum = fits_below a.wsum _ e.wsum (omega (arith, e.longest, c.requires.fewer)) in
@@ -49,7 +50,7 @@ returns-clause-exact c =
     let value = same_32 c.from.result z f0 c.from.ensures in
     let two = same_32 c.from-2.result z f0 c.from-2.ensures in
     let three = c.from-3.ensures ∙ ap pos c.seconds_of-seconds.ensures.seconds in
-    let f1 : FitsSigned w64 z = fits_below z 2000000 o.sum (omega arith) in
+    let f1 : FitsSigned w64 z = fits_below z farthest_value o.sum (omega arith) in
     let f2 : FitsSigned w64 (pos n) = fits_below (pos n) n (omega arith) (omega (arith, o.longest)) in
     let f3 : FitsSigned w64 (z *ℤ pos n) = fits_below (z *ℤ pos n) _ o.wsum (omega (arith, o.longest)) in
     let g1 : FitsSigned w64 a.wsum = fits_below a.wsum _ e.wsum (omega (arith, e.longest, c.requires.fewer)) in

@@ -1,5 +1,5 @@
 use Rattle.std.proofs.Common.{◌∙◌, ◌+◌, ◌-◌, ◌*◌, ℕ, ap, arith, refl}
-use Rattle.daily_summary.specs.Parts.{entry_at}
+use Rattle.daily_summary.specs.Parts.{entry_at, entry_size}
 use Rattle.daily_summary.proofs.PartsLaws.{one_written, part_written}
 use Rattle.daily_summary.proofs.summary.DaySummary.part.Goals as goal
 
@@ -9,7 +9,7 @@ loop-place-init c = record { bytes = refl }
 pub loop-place-preserved : goal.loop-place-preserved
 loop-place-preserved c =
     let place = c.loop-place.place in
-    one_written c.args.self.now (3 * c.args.k) place (44 * place + 44 - 44 * place) c.loop-place.part c.copy_from_slice.new.self (omega arith) c.loop-place.invariant
+    one_written c.args.self.now (3 * c.args.k) place (entry_size * place + entry_size - entry_size * place) c.loop-place.part c.copy_from_slice.new.self (omega arith) c.loop-place.invariant
     (c.copy_from_slice.ensures.after ∙ c.entry.ensures ∙ ap (λ (k : ℕ). entry_at (3 * k + place) c.args.self.now) c.from.ensures)
 
 pub returns : goal.returns

@@ -3,11 +3,12 @@ use Rattle.packed_rows.specs.Closing.{begins_day}
 use Rattle.daily_summary.specs.declared.summary.DaySummary.{DaySummary}
 use Rattle.packed_rows.proofs.TailLaws.{ends_more, few_more, none_running, into_small}
 use Rattle.packed_rows.proofs.tail.Tail.push.Goals as goal
+use Rattle.station_base.specs.Limits.{most_rows}
 
 pub add-requires-clause-fewer : goal.add-requires-clause-fewer
 add-requires-clause-fewer c = by (begins_day c.args.self.now.last c.args.row.now.stamp) refl
   where
-    by : (b : Bool) → begins_day c.args.self.now.last c.args.row.now.stamp ≡ b → c.turn_to.new.self.running.rows < 1048576
+    by : (b : Bool) → begins_day c.args.self.now.last c.args.row.now.stamp ≡ b → c.turn_to.new.self.running.rows < most_rows
     by true is = omega (arith, none_running c.turn_to.new.self.running (c.turn_to.ensures.later is))
     by false is = omega (arith, ap (λ (s : DaySummary). s.rows) (c.turn_to.ensures.same is), c.args.self.now.few, into_small c.args.self.now.last)
 
