@@ -58,7 +58,7 @@ module _ {D : Type 0} (medium : Medium D) where
   pub reads_rows : (book : Book) (d : D) (rows : List Row) → StandsOn medium book d rows → ReadsRows medium d rows
   reads_rows book d rows stands image told =
       (has_rows stands.slots rows image stands.rows_are
-      (has_closed stands.log.before stands.slots image stands.log.chain stands.log.current (stands.log.rests.reads image told))).0
+      (has_closed stands.log.before stands.slots image stands.log.chain stands.log.current (stands.log.rests.reads image told))).rows_are
 
   -- and so has each image that a crash leaves
   pub crash_rows : (book : Book) (d : D) (rows : List Row) → StandsOn medium book d rows → NowHasRows medium d rows
@@ -76,7 +76,7 @@ module _ {D : Type 0} (medium : Medium D) where
 
   -- the rows that each image has are those that are read
   pub same_rows : (d : D) (image : List ℕ) (mine rows : List Row) → medium.seen d ≡ Some image → NowHasRows medium d mine → ReadsRows medium d rows → mine ≡ rows
-  same_rows d image mine rows told crash reads = held mine rows (sym (crash image (medium.reads_image d image told)).0 ∙ reads image told)
+  same_rows d image mine rows told crash reads = held mine rows (sym (crash image (medium.reads_image d image told)).rows_are ∙ reads image told)
     where
       held : (a b : List Row) → holds a ≡ holds b → a ≡ b
       held a b is = cc

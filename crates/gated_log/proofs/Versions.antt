@@ -39,15 +39,20 @@ version_front before c rest slots is current parts =
 
 -- an image whose chain ends at a closed gate, or at an open one
 pub has_closed : (before : List ℕ) (slots : List (List ℕ)) (c : List ℕ) (is : IsChain before slots) → begins_first before ≡ false → GateIsClosed before c → ImageHas slots c
-has_closed before slots c is current closed = (log_closed before slots c is closed, version_front before c (0 ∷ closed.0) slots is current closed.1)
+has_closed before slots c is current closed = record {
+  holds_them = log_closed before slots c is closed;
+  version_is = version_front before c (0 ∷ closed.0) slots is current closed.1;
+}
 
 pub has_opened : (before bytes c : List ℕ) (slots : List (List ℕ)) (is : IsChain before slots) → begins_first before ≡ false → IsHanded bytes → Opened before (behind_gate bytes) c → ImageHas (slots ++ handed_slots bytes) c
-has_opened before bytes c slots is current h open_is =
-    (log_opened before bytes c slots is h open_is, version_front before c (open_is.gate ∷ (behind_gate bytes ++ open_is.rest)) slots is current open_is.image_is)
+has_opened before bytes c slots is current h open_is = record {
+  holds_them = log_opened before bytes c slots is h open_is;
+  version_is = version_front before c (open_is.gate ∷ (behind_gate bytes ++ open_is.rest)) slots is current open_is.image_is;
+}
 
 -- and one that is no longer than an archive without slots
 pub has_none : (c : List ℕ) → length c ≤ empty_size → ImageHas [] c
-has_none c short = (log_small c (small_test (length c) (omega arith)), short_version c short)
+has_none c short = record { holds_them = log_small c (small_test (length c) (omega arith)); version_is = short_version c short }
 
 -- what the first bytes of a longer image tell
 pub version_read : (c buf : List ℕ) (k : ℕ) → 8 ≤ k → buf ≡ take k c → empty_size + 1 ≤ length c → version_in buf ≡ version_of c

@@ -13,11 +13,8 @@ use Rattle.disk_model.specs.declared.disk.Disked.TheVariants.{Done}
 use Rattle.disk_model.specs.declared.mem_disk.MemDisk.{MemDisk}
 use Rattle.disk_model.specs.declared.stopping.Stopping.{Stopping}
 use Rattle.gated_log.proofs.RecoveryFinds.{still_durable}
-use Rattle.gated_log.proofs.Versions.{has_closed}
 use Rattle.gated_log.specs.Calls.{RecoveryCalls, up_to, recovery_changes}
 use Rattle.gated_log.specs.Log.{empty_archive}
-use Rattle.gated_log.specs.Version.{version_of}
-use Rattle.gated_log.specs.declared.version.Version.TheVariants.{Second}
 use Rattle.gated_log.specs.Start.{MovedToWrite, remade}
 use Rattle.station_base.specs.declared.row.Row.{Row}
 use Rattle.packed_rows.specs.Rows.{holds, rows_of}
@@ -56,12 +53,6 @@ stands_stays book d e rows stands stays = record {
     };
   };
 }
-
--- what a read gives then is of the second version
-reads_second : (book : Book) (d : Stopping MemDisk) (rows : List Row) (image : List ℕ) → StandsOn stopping_medium book d rows
-    → stopping_medium.seen d ≡ Some image → version_of image ≡ Second
-reads_second book d rows image stands seen =
-    (has_closed stands.log.before stands.slots image stands.log.chain stands.log.current (stands.log.rests.reads image seen)).1
 
 -- an image has one list of rows
 pub same_rows : (rows others : List Row) (image : List ℕ) → rows_of image ≡ holds rows → rows_of image ≡ holds others → rows ≡ others
@@ -167,7 +158,7 @@ module _ (k pick openings : ℕ) (a : Archive) (d e : Stopping MemDisk) (r : Sta
       (f : Stopping MemDisk) (state : stopping_state_of f ≡ record (stopping_state_of e) { armed = 0 }) (stays : Stays stopping_medium e f) where
     pub stands_there : StandsOn stopping_medium book f a.rows
     stands_there =
-        let same = same_rows stands.0 a.rows r.image (stands.2 r.image r.seen) r.rows.0 in
+        let same = same_rows stands.0 a.rows r.image (stands.2 r.image r.seen) r.rows.rows_are in
         stands_stays book e f a.rows (subst (λ (rows : List Row). StandsOn stopping_medium book e rows) same stands.1) stays
 
     reads_then : stopping_medium.seen e ≡ Some (remade r.image)
@@ -179,7 +170,7 @@ module _ (k pick openings : ℕ) (a : Archive) (d e : Stopping MemDisk) (r : Sta
     rows_now : HasRows a.rows (remade r.image)
     rows_now =
         let o = opens in
-        since_sync a.rows (λ image told. let e : Some r.image ≡ Some image = sym r.seen ∙ told in let same : r.image ≡ image = cc in subst (λ (i : List ℕ). rows_of i ≡ holds a.rows) same r.rows.0)
+        since_sync a.rows (λ image told. let e : Some r.image ≡ Some image = sym r.seen ∙ told in let same : r.image ≡ image = cc in subst (λ (i : List ℕ). rows_of i ≡ holds a.rows) same r.rows.rows_are)
         (remade r.image) (stopping_medium.since e (stopping_medium.moment d + 1) (stopping_medium.moment e) (remade r.image) (omega (arith, o.moments, o.some))
         (stopping_medium.reads_image e (remade r.image) reads_then))
 
@@ -219,7 +210,6 @@ module _ (k pick openings : ℕ) (a : Archive) (d e : Stopping MemDisk) (r : Sta
           synced = synced_seen f (remade r.image) there.log.rests.durable reads_now;
           length_is = remade_length r.image ∙ ap (λ (n : ℕ). max n empty_size) r.length_is;
           rows = rows_now;
-          second = reads_second book f a.rows (remade r.image) there reads_now;
           durable = there.log.rests.durable;
           left = left_by f a.rows (remade r.image) there.log.rests.durable reads_now rows_now;
           room = left_now;

@@ -3,18 +3,16 @@ use Rattle.std.proofs.Common.{◌≡◌, ℕ, ◌+◌, ◌-◌, ◌<◌, ◌≤�
 use Rattle.std.proofs.lemmas.Bool.{false≢true}
 use Rattle.causes.specs.Told.{WhereTold}
 use Rattle.disk_model.specs.Disk.{IsDurable, Stays, BeginsChanges}
-use Rattle.disk_model.specs.Effects.{Effect, Took}
-use Rattle.disk_model.specs.Stopping.{stopping_medium, stopping_state_of, platter_within}
-use Rattle.disk_model.specs.StoppingState.{StoppingState, after_stops, stop_effects}
+use Rattle.disk_model.specs.Stopping.{stopping_medium, stopping_state_of}
+use Rattle.disk_model.specs.StoppingState.{StoppingState, after_stops}
 use Rattle.disk_model.specs.declared.disk.Disked.TheVariants.{Done}
 use Rattle.disk_model.specs.declared.mem_disk.MemDisk.{MemDisk}
 use Rattle.disk_model.specs.declared.stopping.Stopping.{Stopping}
 use Rattle.gated_log.proofs.RecoveryFinds.{still_durable}
 use Rattle.gated_log.specs.Calls.{RecoveryCalls, up_to, recovery_changes, any_failed, changes}
-use Rattle.gated_log.specs.Version.{version_of, is_refused}
+use Rattle.gated_log.specs.Version.{is_refused}
 use Rattle.gated_log.specs.declared.start.Purpose.TheVariants.{Write}
 use Rattle.gated_log.specs.declared.version.Version.{Version}
-use Rattle.gated_log.specs.declared.version.Version.TheVariants.{Second}
 use Rattle.packed_rows.specs.Rows.{holds, not_archive, damaged}
 use Rattle.weather_book.specs.Stands.{HasRows}
 use Rattle.weather_book.specs.Start.{FindsBook}
@@ -27,7 +25,7 @@ use Rattle.gated_log.specs.Layout.{empty_size}
 use Rattle.round_play.specs.Opening.{CanOpen, stopping_limits}
 use Rattle.round_play.specs.Resting.{AtRest, HasLeft}
 use Rattle.round_play.proofs.RecoveryChanges.{Does, by_changes, fails_by_changes}
-use Rattle.round_play.proofs.StoppedRecovery.{Halted, length_within, stops_within, no_effect_of_sync, last_failed, last_done}
+use Rattle.round_play.proofs.StoppedRecovery.{Halted, length_within, stops_within, last_failed, last_done}
 
 -- A disk at rest but for a stop that may be armed, with room for an opening.
 pub record Starts (k pick openings : ℕ) (a : Archive) (d : Stopping MemDisk) : Type 0 where
@@ -38,7 +36,6 @@ pub record Starts (k pick openings : ℕ) (a : Archive) (d : Stopping MemDisk) :
   pub seen : stopping_medium.seen d ≡ Some image
   pub length_is : length image ≡ a.size
   pub rows : HasRows a.rows image
-  pub second : version_of image ≡ Second
   pub durable : IsDurable stopping_medium d
   pub left : HasLeft openings a (stopping_state_of d)
   pub room : CanOpen d
@@ -53,7 +50,6 @@ starts_at_rest openings a d r room = record {
   seen = r.seen;
   length_is = r.length_is;
   rows = r.rows;
-  second = r.second;
   durable = r.durable;
   left = r.room;
   room = room;
@@ -96,7 +92,6 @@ module _ (k pick openings : ℕ) (a : Archive) (d e : Stopping MemDisk)
     seen = stays.reads ∙ r.seen;
     length_is = r.length_is;
     rows = r.rows;
-    second = r.second;
     durable = still_durable stopping_medium d e 0 stays r.durable;
     left = left_armed r.room;
     room = room_armed room;
@@ -130,11 +125,11 @@ pub is_known : (k pick openings : ℕ) (a : Archive) (d : Stopping MemDisk) → 
     → WhereTold (stopping_medium.seen d) (FindsBook Write answer) → IsKnown answer
 is_known k pick openings a d r (start.Book book) finds = tt
 is_known k pick openings a d r (start.NotArchive bytes) finds =
-    let e : holds a.rows ≡ not_archive = sym r.rows.0 ∙ (finds r.image r.seen).0 in cc e
+    let e : holds a.rows ≡ not_archive = sym r.rows.rows_are ∙ (finds r.image r.seen).0 in cc e
 is_known k pick openings a d r start.OldVersion finds =
-    false≢true (sym (ap (λ (v : Version). is_refused Write v) r.second) ∙ finds r.image r.seen)
+    false≢true (sym (ap (λ (v : Version). is_refused Write v) r.rows.version_is) ∙ finds r.image r.seen)
 is_known k pick openings a d r (start.Damaged place) finds =
-    let e : holds a.rows ≡ damaged place = sym r.rows.0 ∙ (finds r.image r.seen).0 in cc e
+    let e : holds a.rows ≡ damaged place = sym r.rows.rows_are ∙ (finds r.image r.seen).0 in cc e
 is_known k pick openings a d r start.DiskFault finds = tt
 is_known k pick openings a d r start.OutOfMemory finds = tt
 
@@ -173,16 +168,6 @@ module _ (k pick openings : ℕ) (a : Archive) (d e : Stopping MemDisk) (r : Sta
             (stopping_medium.moment e - stopping_medium.moment d) r.room.capacity last.0 few
             (ap (λ answer. after_stops (Some (stopping_state_of d)) (up_to (take (stopping_medium.moment e - stopping_medium.moment d) recovery_changes) answer)) (sym last.1) ∙ went_by),
       )
-
-  -- within the first sync the platter stayed
-  pub same_platter : failed ≡ true → stopping_medium.moment e - stopping_medium.moment d ≡ 1 → platter_within e ≡ platter_within d
-  same_platter bad one =
-      let wrong = went_wrong bad in
-      let last = last_failed (stopping_medium.moment e - stopping_medium.moment d) went.answer few (failed_by ∙ bad) in
-      let calls = went.changes_are ∙ ap (λ (n : ℕ). up_to (take n recovery_changes) went.answer) one ∙ ap (λ answer. up_to (take 1 recovery_changes) answer) last.1 in
-      let none = does.effects ∙ ap (λ cs. stop_effects (Some (stopping_state_of d)) cs) calls
-      ∙ no_effect_of_sync (stopping_state_of d) (stopping_state_of e) a.size k pick (stopping_limits d).capacity (is_armed k pick openings a d r) (wrong.1.at ∙ one) in
-      subst (λ (es : List Effect). Took (platter_within d) es (platter_within e)) none went.by.platter
 
 -- with no stop armed none fails
 pub never_wrong : (pick openings : ℕ) (a : Archive) (d e : Stopping MemDisk) (r : Starts 0 pick openings a d) (slots : ℕ) (failed : Bool)

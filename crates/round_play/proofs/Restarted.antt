@@ -1,5 +1,5 @@
 -- An archive at whose opening the disk stopped, after the restart.
-use Rattle.std.proofs.Common.{◌≡◌, inl, inr, ⊎_elim, ℕ, ◌+◌, ◌-◌, ◌%◌, ◌<◌, ◌≤◌, ◌==◌, max, Bool, true, false, if◌then◌else◌, List, Some, refl, sym, ◌∙◌, ap, subst, arith, length}
+use Rattle.std.proofs.Common.{◌≡◌, inl, inr, ⊎_elim, ℕ, ◌+◌, ◌-◌, ◌%◌, ◌<◌, ◌≤◌, ◌==◌, max, Bool, true, false, if◌then◌else◌, List, Some, refl, sym, ◌∙◌, ap, arith, length}
 use Rattle.std.specs.Prelude.{nat_lt, ◌&&◌, ◌||◌}
 use Rattle.std.proofs.lemmas.Bool.Decides.{nat_tests}
 use Rattle.causes.specs.Told.{WhereTold}
@@ -7,16 +7,13 @@ use Rattle.disk_model.specs.Disk.{IsDurable, LeavesJust, LeavesOnly, BeginsChang
 use Rattle.disk_model.specs.DiskState.{Limits}
 use Rattle.disk_model.specs.MemDisk.{steps_on}
 use Rattle.disk_model.specs.Picked.{picked_length}
-use Rattle.disk_model.specs.Platter.{Platter, IsImage}
+use Rattle.disk_model.specs.Platter.{IsImage}
 use Rattle.disk_model.specs.Stopping.{stopping_medium, stopping_state_of, platter_within, restart_image}
 use Rattle.disk_model.specs.StoppingState.{StoppingState, begun_again}
 use Rattle.disk_model.specs.TimeLaws.{le_or_gt, left_now, now_left}
 use Rattle.disk_model.specs.declared.mem_disk.MemDisk.{MemDisk}
 use Rattle.disk_model.specs.declared.stopping.Stopping.{Stopping}
-use Rattle.gated_log.proofs.Versions.{short_version}
 use Rattle.gated_log.specs.Calls.{RecoveryCalls}
-use Rattle.gated_log.specs.Version.{version_of}
-use Rattle.gated_log.specs.declared.version.Version.TheVariants.{Second}
 use Rattle.station_base.specs.declared.row.Row.{Row}
 use Rattle.gated_log.specs.Layout.{empty_size}
 use Rattle.weather_book.specs.Stands.{HasRows, NowHasRows}
@@ -24,10 +21,9 @@ use Rattle.schedule_file.specs.declared.schedule.step.Stop.{Stop}
 use Rattle.station_replay.specs.Keeping.{Archive}
 use Rattle.station_replay.specs.Replay.{cut_archive, stops_opening}
 use Rattle.station_replay.specs.Stopped.{DiskRests}
-use Rattle.station_replay.proofs.Room.{picked_between}
 use Rattle.round_play.specs.Opening.{stopping_limits}
 use Rattle.round_play.specs.Resting.{AtRest, HasLeft}
-use Rattle.round_play.proofs.RecoveryCalls.{Starts, went_wrong, few, same_platter}
+use Rattle.round_play.proofs.RecoveryCalls.{Starts, went_wrong, few}
 use Rattle.round_play.proofs.RecoveryChanges.{limits_stay}
 use Rattle.round_play.proofs.Opened.{left_by}
 use Rattle.round_play.proofs.StoppedRecovery.{Halted, length_within}
@@ -113,26 +109,6 @@ module _ (stop : Stop) (openings : ℕ) (a : Archive) (d e f : Stopping MemDisk)
           | inr long ↦ absurd (let one = long_once long in let e : (stop.change == 1) ≡ true = grind (arith, nat_tests, one) in cc)
         ]
 
-    -- its version
-    short_left : a.size ≤ empty_size → length (restart_image e) ≤ empty_size
-    short_left short = by (stop.change == 1) length_left
-      where
-        by : (b : Bool) → length (restart_image e) ≡ (if b then a.size else picked_length stop.pick a.size empty_size) → length (restart_image e) ≤ empty_size
-        by true is = omega (arith, is, short)
-        by false is = omega (arith, is, picked_between stop.pick a.size empty_size short)
-
-    version_left : version_of (restart_image e) ≡ Second
-    version_left = elim (le_or_gt a.size empty_size) [
-      | inl short ↦ short_version (restart_image e) (short_left short)
-      | inr long ↦
-          let one : stopping_medium.moment e - stopping_medium.moment d ≡ 1 = sym wrong.1.at ∙ long_once long in
-          let platter = same_platter stop.change stop.pick openings a d e r count failed begun went bad one in
-          let left = left_of d (restart_image e) (subst (λ (m : Platter). IsImage m (restart_image e)) platter (image_of e (restart_image e) was_left)) in
-          let told : Some r.image ≡ Some (restart_image e) = sym r.seen ∙ r.durable (restart_image e) left in
-          let same : r.image ≡ restart_image e = cc in
-          ap version_of (sym same) ∙ r.second
-    ]
-
     rests_left : DiskRests (cut_archive stop a) (stopping_state_of f) (stopping_medium.moment f)
     rests_left = record {
       goes = ap (λ (s : StoppingState). s.stopped) state;
@@ -166,7 +142,6 @@ module _ (stop : Stop) (openings : ℕ) (a : Archive) (d e f : Stopping MemDisk)
       synced = synced;
       length_is = length_left;
       rows = rows_left;
-      second = version_left;
       durable = durable_left;
       left = left_by f a.rows (restart_image e) durable_left reads rows_left;
       room = room_left;

@@ -302,7 +302,6 @@ module _ (fates : code.Fates) (stop : Option Stop) (s0 s2 : Session) (l0 l1 l2 l
         seen = off.stays.reads;
         length_is = q.1.size;
         rows = subst (λ (z : List Row). HasRows z d2.disk.bytes.items) (sym rows_are) has;
-        second = has.1;
         durable = durable_stays d2 d3 off.stays on2.log.rests.durable;
         synced = synced_seen d3 d2.disk.bytes.items (durable_stays d2 d3 off.stays on2.log.rests.durable) off.stays.reads;
         left = left_by d3 (archive_left_after (session_settings s0) stop 0 s.archive (batches_given sv.tries)).rows d2.disk.bytes.items (durable_stays d2 d3 off.stays on2.log.rests.durable) off.stays.reads (subst (λ (z : List Row). HasRows z d2.disk.bytes.items) (sym rows_are) has);
@@ -359,7 +358,6 @@ module _ (fates : code.Fates) (stop : Option Stop) (s0 s2 : Session) (l0 l1 l2 l
         seen = again.seen;
         length_is = q.1.size;
         rows = q.1.rows;
-        second = q.1.rows.1;
         durable = again.durable;
         synced = synced_seen d3 again.image again.durable again.seen;
         left = left_by d3 (archive_left_after (session_settings s0) (Some k) 0 s.archive (batches_given sv.tries)).rows again.image again.durable again.seen q.1.rows;

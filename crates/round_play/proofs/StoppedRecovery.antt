@@ -1,10 +1,9 @@
 -- What the changes of a recovery make of a disk that may stop within one of them.
-use Rattle.std.proofs.Common.{◌≡◌, ℕ, zero, suc, ◌+◌, ◌-◌, ◌<◌, ◌≤◌, ◌==◌, max, Bool, true, false, if◌then◌else◌, List, [], ◌++◌, Some, None, refl, sym, ◌∙◌, ap, arith, take}
-use Rattle.std.specs.Prelude.{◌||◌}
+use Rattle.std.proofs.Common.{◌≡◌, ℕ, zero, suc, ◌+◌, ◌-◌, ◌<◌, ◌≤◌, ◌==◌, max, Bool, true, false, if◌then◌else◌, List, [], Some, None, refl, sym, ◌∙◌, ap, arith, take}
 use Rattle.std.proofs.lemmas.Bool.{false≢true}
 use Rattle.disk_model.specs.Calls.{wrote, synced}
-use Rattle.disk_model.specs.Effects.{Effect, effect}
-use Rattle.disk_model.specs.StoppingState.{StoppingState, after_stops, and_stop, stop_effects}
+use Rattle.disk_model.specs.Effects.{Effect}
+use Rattle.disk_model.specs.StoppingState.{StoppingState, after_stops, and_stop}
 use Rattle.disk_model.specs.declared.disk.Disked.{Disked}
 use Rattle.disk_model.specs.declared.disk.Disked.TheVariants.{Done, Failed}
 use Rattle.gated_log.specs.Calls.{up_to, recovery_changes, any_failed}
@@ -139,15 +138,6 @@ module _ (s u : StoppingState) (size k pick capacity : ℕ) (r : IsArmed s size 
         synced_is = ap (λ (x : StoppingState). x.inner.synced_size) q.1 ∙ w2.synced ∙ w1.synced ∙ r.size_is;
       }
   stops_within (suc (suc (suc (suc n)))) room low high h = absurd (omega (arith, high))
-
-  -- within the first sync nothing takes effect
-  pub no_effect_of_sync : k ≡ 1 → stop_effects (Some s) (up_to (take 1 recovery_changes) Failed) ≡ []
-  no_effect_of_sync one = by s.stopped (s.armed == 1) (let e : (s.armed == 1) ≡ true = ap (λ (n : ℕ). n == 1) (r.armed_is ∙ one) in e)
-    where
-      by : (t b : Bool) → b ≡ true → (if t || b then nothing else effect s.inner (synced Failed)) ++ [] ≡ []
-      by true b is = refl
-      by false true is = refl
-      by false false is = absurd (false≢true is)
 
 -- of changes of a recovery one failed only where the last did, and there is one
 pub last_failed : (j : ℕ) (answer : Disked) → j ≤ 3 → any_failed (up_to (take j recovery_changes) answer) ≡ true → (1 ≤ j) × (answer ≡ Failed)

@@ -8,8 +8,6 @@ use Rattle.disk_model.specs.StoppingState.{StoppingState}
 use Rattle.disk_model.specs.Stopping.{stopping_medium, stopping_state_of}
 use Rattle.disk_model.specs.declared.mem_disk.MemDisk.{MemDisk}
 use Rattle.disk_model.specs.declared.stopping.Stopping.{Stopping}
-use Rattle.gated_log.specs.Version.{version_of}
-use Rattle.gated_log.specs.declared.version.Version.TheVariants.{Second}
 use Rattle.gated_log.specs.Layout.{empty_size, slot_size}
 use Rattle.weather_book.specs.Stands.{HasRows, NowHasRows, StandsOn}
 use Rattle.station_session.specs.declared.session.Session.{Session}
@@ -30,8 +28,7 @@ pub record HasLeft (openings : ℕ) (a : Archive) (s : StoppingState) : Type 0 w
   pub bytes : s.inner.limits.bytes ≤ s.inner.bytes + (slot_size * slots_for_rows a.rows + length a.rows + 200 * openings)
 
 -- The disk is at rest, of the archive's length, with its rows in what it reads and in each image that a crash may
--- leave, which is what it reads, in the second version. No stop is armed, and no call is to fail. So many openings
--- were made.
+-- leave, which is what it reads. No stop is armed, and no call is to fail. So many openings were made.
 pub record AtRest (openings : ℕ) (a : Archive) (disk : Stopping MemDisk) : Type 0 where
   pub rests : DiskRests a (stopping_state_of disk) (stopping_medium.moment disk)
   pub unarmed : (stopping_state_of disk).armed ≡ 0
@@ -40,7 +37,6 @@ pub record AtRest (openings : ℕ) (a : Archive) (disk : Stopping MemDisk) : Typ
   pub synced : stopping_medium.synced disk ≡ Some image
   pub length_is : length image ≡ a.size
   pub rows : HasRows a.rows image
-  pub second : version_of image ≡ Second
   pub durable : IsDurable stopping_medium disk
   pub left : NowHasRows stopping_medium disk a.rows
   pub room : HasLeft openings a (stopping_state_of disk)

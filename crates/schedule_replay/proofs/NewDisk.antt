@@ -23,7 +23,7 @@ unopened = record { rows = []; size = 0; changes = 0 }
 
 no_rows : HasRows [] []
 unfolding rows_of log_of version_of
-no_rows = (refl, refl)
+no_rows = record { rows_are = refl; version_is = refl }
 
 pub new_at_rest : (limits : Limits) (d : Stopping MemDisk)
     → stopping_state_of d ≡ record { inner = new_state limits; armed = 0; pick = 0; stopped = false }
@@ -50,7 +50,6 @@ new_at_rest limits d state seen synced just moment =
       synced = synced;
       length_is = refl;
       rows = no_rows;
-      second = no_rows.1;
       durable = durable;
       left = left_by d [] [] durable seen no_rows;
       room = record {

@@ -75,7 +75,6 @@ module _ (old new : Stopping MemDisk) (state : stopping_state_of new ≡ stoppin
         synced = synced_seen new at.image durable seen;
         length_is = at.length_is;
         rows = at.rows;
-        second = at.second;
         durable = durable;
         left = λ c now. at.left c (subst (λ (m : ℕ). stopping_medium.left old m c) stays.at (stays.nothing_else (stopping_medium.moment new) c now));
         room = subst (HasLeft openings a) (sym state) at.room;

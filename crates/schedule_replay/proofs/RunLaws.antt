@@ -51,7 +51,6 @@ rest_on openings k a disk r = record {
   synced = r.synced;
   length_is = r.length_is;
   rows = r.rows;
-  second = r.second;
   durable = r.durable;
   left = r.left;
   room = record { changes = r.room.changes; bytes = omega (arith, r.room.bytes) };
