@@ -153,8 +153,9 @@ silent_exchanges (x ∷ more) a =
 pub start_on : (xs : List Exchange) (done : Unit {0}) (t : List TalkItem) → Starts (Ok done) t
     → On (TaskTalk xs) (Exchanges xs) [] t
 start_on xs done t k = record {
-  on = λ rest answers end x. inl
-      (k.0, k.1, rest, true, ap (λ (y : List TalkItem). y ++ rest) k.2 ∙ append_assoc k.0 k.1 rest, k.3, k.4, inl (refl, x));
+  on = λ rest answers end x.
+      let whole = ap (λ (y : List TalkItem). y ++ rest) k.split ∙ append_assoc k.settling k.waking rest in
+      inl (k.settling, k.waking, rest, true, whole, k.still, k.woke, inl (refl, x));
 }
 
 -- one that finds the console asleep

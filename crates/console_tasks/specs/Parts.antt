@@ -27,10 +27,17 @@ abbrev pub Awaiting : List Exchange → Type 0
 Awaiting [] = Unit {0}
 Awaiting (x ∷ more) = 1 ≤ x.size
 
+-- The line settled, and then the console was awake.
+pub record FindsAwake (t : List TalkItem) : Type 0 where
+  pub settling : List TalkItem
+  pub waking : List TalkItem
+  pub split : t ≡ settling ++ waking
+  pub still : Still settled_waits settling
+  pub woke : Wakes wake_tries waking true
+
 -- what a start says and hears: a console that is awake; or whatever the task, it ends so
 abbrev pub Starts : Result (Unit {0}) TaskEnd → List TalkItem → Type 0
-Starts (Ok done) t =
-    (s : List TalkItem) × (w : List TalkItem) × (t ≡ s ++ w) × Still settled_waits s × Wakes wake_tries w true
+Starts (Ok done) t = FindsAwake t
 Starts (Err end) t = (exchanges : List Exchange) → Awaiting exchanges → Fails (TaskTalk exchanges) end t
 
 -- a message was answered by these bytes, which refuse nothing

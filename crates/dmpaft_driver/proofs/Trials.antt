@@ -54,10 +54,16 @@ spells_more words items n b bs i rest h e = record {
 module _ (a : Option CivilMinute) where
   -- an attempt might still end from each place where one may stand
   pub might_end : (s : AttemptState) → Fine s → (rest : List TalkItem) × MightEnd a s rest
-  might_end (Saying p i l) fine = let f = finishes a (Saying p i l) fine tt (place_of_part p) (taken_in p) (refl, refl) in (f.0, (f.1, place_of_part p, taken_in p, f.2, f.3, f.4))
-  might_end (Hearing p bs r) fine = let f = finishes a (Hearing p bs r) fine tt (place_of_part p) (taken_in p) (refl, refl) in (f.0, (f.1, place_of_part p, taken_in p, f.2, f.3, f.4))
-  might_end (Keeping more at pages page) fine = let f = finishes a (Keeping more at pages page) fine tt at (pages ++ page ∷ []) (refl, refl) in (f.0, (f.1, at, pages ++ page ∷ [], f.2, f.3, f.4))
-  might_end (Over at pages end) fine = ([], ([], at, pages, end, refl, tt))
+  might_end (Saying p i l) fine =
+      let f = finishes a (Saying p i l) fine tt (place_of_part p) (taken_in p) (refl, refl) in
+      (f.0, record { answers = f.1; place = place_of_part p; taken = taken_in p; end = f.2; is_over = f.3; kept = f.4 })
+  might_end (Hearing p bs r) fine =
+      let f = finishes a (Hearing p bs r) fine tt (place_of_part p) (taken_in p) (refl, refl) in
+      (f.0, record { answers = f.1; place = place_of_part p; taken = taken_in p; end = f.2; is_over = f.3; kept = f.4 })
+  might_end (Keeping more at pages page) fine =
+      let f = finishes a (Keeping more at pages page) fine tt at (pages ++ page ∷ []) (refl, refl) in
+      (f.0, record { answers = f.1; place = at; taken = pages ++ page ∷ []; end = f.2; is_over = f.3; kept = f.4 })
+  might_end (Over at pages end) fine = ([], record { answers = []; place = at; taken = pages; end = end; is_over = refl; kept = tt })
   might_end Astray fine = absurd fine
 
   saying_more : (p : AttemptPart) (i : TalkItem) (l : List TalkItem) (ks : List Stored) (place : ℕ) (taken : List (List ℕ)) (end : PumpEnd) → pump_from a (Saying p i l) [] ks ≡ Over place taken end → ⊥
@@ -75,14 +81,12 @@ module _ (a : Option CivilMinute) where
   saying_goes : (p : AttemptPart) (i : TalkItem) (l : List TalkItem) → Fine (Saying p i l) → Unended (Saying p i l)
   saying_goes p i l fine =
       let (rest, may) = might_end (Saying p i l) fine in
-      let (ks, place, taken, end, over, mild) = may in
-      (rest, (λ none. saying_more p i l ks place taken end (ap (λ (y : List TalkItem). pump_from a (Saying p i l) y ks) (sym none) ∙ over)), may)
+      (rest, (λ none. saying_more p i l may.answers may.place may.taken may.end (ap (λ (y : List TalkItem). pump_from a (Saying p i l) y may.answers) (sym none) ∙ may.is_over)), may)
 
   hearing_goes : (p : AttemptPart) (bs : List ℕ) (r : ℕ) → Fine (Hearing p bs r) → Unended (Hearing p bs r)
   hearing_goes p bs r fine =
       let (rest, may) = might_end (Hearing p bs r) fine in
-      let (ks, place, taken, end, over, mild) = may in
-      (rest, (λ none. hearing_more p bs r ks place taken end (ap (λ (y : List TalkItem). pump_from a (Hearing p bs r) y ks) (sym none) ∙ over)), may)
+      (rest, (λ none. hearing_more p bs r may.answers may.place may.taken may.end (ap (λ (y : List TalkItem). pump_from a (Hearing p bs r) y may.answers) (sym none) ∙ may.is_over)), may)
 
   message_goes : (p : AttemptPart) (left : List ℕ) → left ≢ [] → Unended (saying p (message left))
   message_goes p [] some = absurd (some refl)
@@ -191,18 +195,18 @@ module _ (a : Option CivilMinute) where
   all_done (k ∷ ks) js d e = (d.0, all_done ks js d.1 e)
 
   no_end : (s : AttemptState) (rest : List TalkItem) → MightEnd a s rest → s ≢ Astray
-  no_end s rest m e = no_astray a rest m.0 m.1 m.2 m.3 (ap (λ (y : AttemptState). pump_from a y rest m.0) (sym e) ∙ m.4)
+  no_end s rest m e = no_astray a rest m.answers m.place m.taken m.end (ap (λ (y : AttemptState). pump_from a y rest m.answers) (sym e) ∙ m.is_over)
 
   -- a talk goes on where its pump might end
   goes : (t rest : List TalkItem) (ks : List Stored) → AllDone ks → MightEnd a (pump_after a t ks) rest → AttemptGoesOn a t rest
   goes t rest ks d m =
-      let over : pump_after a (t ++ rest) (ks ++ m.0) ≡ Over m.1 m.2 m.3 = goes_on a t rest ks m.0 (pump_after a t ks) refl (no_end (pump_after a t ks) rest m) ∙ m.4 in
+      let over : pump_after a (t ++ rest) (ks ++ m.answers) ≡ Over m.place m.taken m.end = goes_on a t rest ks m.answers (pump_after a t ks) refl (no_end (pump_after a t ks) rest m) ∙ m.is_over in
       record {
-        place = m.1;
-        taken = m.2;
-        end = attempt_end m.3;
-        whole = sound a (t ++ rest) (ks ++ m.0) m.1 m.2 m.3 over;
-        kept = subst Mild over (mild_runs (begun a Settling) (t ++ rest) (ks ++ m.0) tt (all_done ks m.0 d m.5));
+        place = m.place;
+        taken = m.taken;
+        end = attempt_end m.end;
+        whole = sound a (t ++ rest) (ks ++ m.answers) m.place m.taken m.end over;
+        kept = subst Mild over (mild_runs (begun a Settling) (t ++ rest) (ks ++ m.answers) tt (all_done ks m.answers d m.kept));
       }
 
   module _ (talk t u : List TalkItem) (ks : List Stored) (s : AttemptState) (is : talk ≡ t ++ u) (at : pump_after a t ks ≡ s) (d : AllDone ks) (ne : s ≢ Astray) where
@@ -220,17 +224,19 @@ module _ (a : Option CivilMinute) where
         let whole : pump_after a talk ks ≡ Over place taken end = ap (λ (y : List TalkItem). pump_after a y ks) all ∙ at ∙ over in
         (place, taken, sound a talk ks place taken end whole, subst Mild whole (mild_runs (begun a Settling) talk ks tt d))
     tried trial_end.Unfinished (rest, some, m) = (rest, some, subst (λ (y : List TalkItem). AttemptGoesOn a y rest) (sym is) (goes_by u rest m))
-    tried (trial_end.Not count) (v, i, rest, e, l, m, bad) = (
-      t ++ v,
-      i,
-      rest,
-      is ∙ ap (λ (y : List TalkItem). t ++ y) e ∙ sym (append_assoc t v (i ∷ rest)),
-      omega (arith, length-append t v, l),
-      (m.0, goes_by v m.0 m.1),
-      λ b.
-          stuck a (t ++ v) (ks ++ []) (pump_from a s v []) i (from v) (all_done ks [] d tt) (no_end (pump_from a s v []) m.0 m.1) bad b.0 b.1.place b.1.taken b.1.end b.1.kept
-          (subst (λ (y : List TalkItem). Attempt (stamp_frame_of a) y b.1.place b.1.taken b.1.end) (append_assoc (t ++ v) (i ∷ []) b.0) b.1.whole),
-    )
+    tried (trial_end.Not count) m =
+        let v = m.front in
+        let i = m.next in (
+          t ++ v,
+          i,
+          m.rest,
+          is ∙ ap (λ (y : List TalkItem). t ++ y) m.items_are ∙ sym (append_assoc t v (i ∷ m.rest)),
+          omega (arith, length-append t v, m.counted),
+          (m.other, goes_by v m.other m.might_end),
+          λ b.
+              stuck a (t ++ v) (ks ++ []) (pump_from a s v []) i (from v) (all_done ks [] d tt) (no_end (pump_from a s v []) m.other m.might_end) m.astray b.0 b.1.place b.1.taken b.1.end b.1.kept
+              (subst (λ (y : List TalkItem). Attempt (stamp_frame_of a) y b.1.place b.1.taken b.1.end) (append_assoc (t ++ v) (i ∷ []) b.0) b.1.whole),
+        )
 
     -- a step goes on
     pub tries_on : (v : List TalkItem) (js : List Stored) → AllDone js → (pump_after a (t ++ v) (ks ++ js) ≡ pump_from a s v js) × AllDone (ks ++ js)
@@ -244,7 +250,7 @@ pub next_in : (p : TalkItem) (l : List TalkItem) → l ≡ p ∷ [] → l ≢ []
 next_in p l e none = let z : p ∷ [] ≡ [] = sym e ∙ none in cc
 
 pub count_below : (a : Option CivilMinute) (s : AttemptState) (items : List TalkItem) (n : ℕ) → TrialStopsAt a s items (trial_end.Not n) → n < length items
-count_below a s items n (v, i, rest, e, l, m, bad) = omega (arith, l, ap (λ (y : List TalkItem). length y) e, length-append v (i ∷ rest))
+count_below a s items n m = omega (arith, m.counted, ap (λ (y : List TalkItem). length y) m.items_are, length-append m.front (m.next ∷ m.rest))
 
 last_is : (bs : List ℕ) → (length bs == 0) ≡ is_last bs
 last_is [] = refl
@@ -285,11 +291,29 @@ module _ (a : Option CivilMinute) (s : AttemptState) (p : AttemptPart) (bytes : 
       go (b ∷ bs) [] e f some d = absurd (more (sym h.counted ∙ sym (ap (λ (y : List TalkItem). length y) (e ∙ append-nil h.said))))
       go (b ∷ bs) (i ∷ r) e f some d =
           let m = cut_message a s p bytes h.said (b ∷ bs) is w f some in
-          (h.said, i, r, e, h.counted, (m.0, m.2), wrong_item a s p bytes h.said b bs i is w f d)
+          record {
+            front = h.said;
+            next = i;
+            rest = r;
+            items_are = e;
+            counted = h.counted;
+            other = m.0;
+            might_end = m.2;
+            astray = wrong_item a s p bytes h.said b bs i is w f d;
+          }
 
 -- after the end no item comes
 pub stops_over : (a : Option CivilMinute) (s : AttemptState) (place : ℕ) (taken : List (List ℕ)) (end : PumpEnd) (items : List TalkItem) → s ≡ Over place taken end → (length items == 0) ≡ false → TrialStopsAt a s items (trial_end.Not 0)
 stops_over a s place taken end [] is some = cc
 stops_over a s place taken end (i ∷ items) is some =
     let k : pump_from a s [] [] ≡ Over place taken end = rest_same a s ∙ is in
-    ([], i, items, refl, refl, ([], ([], place, taken, end, ap (λ (x : AttemptState). pump_from a x [] []) k, tt)), λ more. ap (λ (x : AttemptState). attempt_step a (answer_taken a x more) i) k)
+    record {
+      front = [];
+      next = i;
+      rest = items;
+      items_are = refl;
+      counted = refl;
+      other = [];
+      might_end = record { answers = []; place = place; taken = taken; end = end; is_over = ap (λ (x : AttemptState). pump_from a x [] []) k; kept = tt };
+      astray = λ more. ap (λ (x : AttemptState). attempt_step a (answer_taken a x more) i) k;
+    }

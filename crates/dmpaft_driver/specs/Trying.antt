@@ -34,15 +34,36 @@ pub record SpellsMessage (words : List ℕ) (items : List TalkItem) (count : ℕ
   pub counted : length said ≡ count
   pub sized : length words ≡ count + length left
 
--- the attempt might still end where it stands so, by these items
-abbrev pub MightEnd : Option CivilMinute → AttemptState → List TalkItem → Type 0
-MightEnd after s rest = (answers : List Stored) × (place : ℕ) × (taken : List (List ℕ)) × (end : PumpEnd)
-    × (pump_from after s rest answers ≡ Over place taken end) × AllDone answers
+-- The attempt might still end where it stands so, by these items.
+pub record MightEnd (after : Option CivilMinute) (s : AttemptState) (rest : List TalkItem) : Type 0 where
+  pub answers : List Stored
+  pub place : ℕ
+  pub taken : List (List ℕ)
+  pub end : PumpEnd
+  pub is_over : pump_from after s rest answers ≡ Over place taken end
+  pub kept : AllDone answers
 
--- so many items were taken, and each batch was kept
-abbrev pub StepsOn : Tally → Option CivilMinute → AttemptState → List TalkItem → ℕ → Pump → Type 0
-StepsOn start after s items count pump = (t : List TalkItem) × (rest : List TalkItem) × (answers : List Stored)
-    × (items ≡ t ++ rest) × (length t ≡ count) × AllDone answers × PumpShows start after (pump_from after s t answers) pump
+-- So many items were taken, and each batch was kept.
+pub record StepsOn (start : Tally) (after : Option CivilMinute) (s : AttemptState) (items : List TalkItem) (count : ℕ)
+    (pump : Pump) : Type 0 where
+  pub front : List TalkItem
+  pub rest : List TalkItem
+  pub answers : List Stored
+  pub items_are : items ≡ front ++ rest
+  pub counted : length front ≡ count
+  pub kept : AllDone answers
+  pub shows : PumpShows start after (pump_from after s front answers) pump
+
+-- Behind so many items the attempt might still end, but the next item does not fit, whatever the host answers.
+pub record DoesNotFit (after : Option CivilMinute) (s : AttemptState) (items : List TalkItem) (count : ℕ) : Type 0 where
+  pub front : List TalkItem
+  pub next : TalkItem
+  pub rest : List TalkItem
+  pub items_are : items ≡ front ++ next ∷ rest
+  pub counted : length front ≡ count
+  pub other : List TalkItem
+  pub might_end : MightEnd after (pump_from after s front []) other
+  pub astray : (more : List Stored) → attempt_step after (answer_taken after (pump_from after s front []) more) next ≡ Astray
 
 -- where a trial stops
 abbrev pub TrialStopsAt : Option CivilMinute → AttemptState → List TalkItem → TrialEnd → Type 0
@@ -50,10 +71,7 @@ TrialStopsAt after s items (trial_end.Attempt end) =
     (items ≡ []) × (place : ℕ) × (taken : List (List ℕ)) × (s ≡ Over place taken end)
 TrialStopsAt after s items trial_end.Unfinished =
     (rest : List TalkItem) × (rest ≢ []) × MightEnd after (pump_from after s items []) rest
-TrialStopsAt after s items (trial_end.Not count) = (t : List TalkItem) × (i : TalkItem) × (rest : List TalkItem)
-    × (items ≡ t ++ i ∷ rest) × (length t ≡ count)
-    × ((later : List TalkItem) × MightEnd after (pump_from after s t []) later)
-    × ((more : List Stored) → attempt_step after (answer_taken after (pump_from after s t []) more) i ≡ Astray)
+TrialStopsAt after s items (trial_end.Not count) = DoesNotFit after s items count
 
 -- how many items were taken before the one that does not fit
 abbrev pub fitting_count : TrialEnd → ℕ

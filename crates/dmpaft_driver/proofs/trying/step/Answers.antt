@@ -18,7 +18,15 @@ returns-else-count-items-clause-steps c = λ start after s h.
     (λ e. c.if-count-len.false (e ∙ ap (λ (y : List ℕ). length y) c.as_slice.ensures.value ∙ sym c.len.ensures.value)) c.if-count-items.false spelled.3
 
 pub returns-in-Keep-clause-steps : goal.returns-in-Keep-clause-steps
-returns-in-Keep-clause-steps c = λ start after s h. ([], c.args.items.now, stored.Done ∷ [], refl, refl, (refl, tt), c.kept.ensures.shows start after s h)
+returns-in-Keep-clause-steps c = λ start after s h. record {
+  front = [];
+  rest = c.args.items.now;
+  answers = stored.Done ∷ [];
+  items_are = refl;
+  counted = refl;
+  kept = (refl, tt);
+  shows = c.kept.ensures.shows start after s h;
+}
 
 pub returns-else-is_empty-clause-steps : goal.returns-else-is_empty-clause-steps
 returns-else-is_empty-clause-steps c = λ start after s h.

@@ -36,21 +36,21 @@ steps-preserved c =
     let talk = c.args.talk.now in
     let v = c.in-Ok.ensures.steps no_tally a i.state i.shown in
     let left : take (length talk - c.steps.at) (drop c.steps.at talk) ≡ i.rest = left_of_talk talk i.taken i.rest c.steps.at i.talk_is i.counted in
-    let on = tries_on a talk i.taken i.rest i.answers i.state i.talk_is i.stands i.kept (shown_no_astray no_tally a i.state c.steps.pump i.shown) v.0 v.2 v.5 in
-    let is : talk ≡ (i.taken ++ v.0) ++ v.1 = i.talk_is ∙ ap (λ (y : List TalkItem). i.taken ++ y) (sym left ∙ v.3) ∙ sym (append_assoc i.taken v.0 v.1) in
+    let on = tries_on a talk i.taken i.rest i.answers i.state i.talk_is i.stands i.kept (shown_no_astray no_tally a i.state c.steps.pump i.shown) v.front v.answers v.kept in
+    let is : talk ≡ (i.taken ++ v.front) ++ v.rest = i.talk_is ∙ ap (λ (y : List TalkItem). i.taken ++ y) (sym left ∙ v.items_are) ∙ sym (append_assoc i.taken v.front v.rest) in
     record {
       sofar = record {
-        taken = i.taken ++ v.0;
-        rest = v.1;
-        answers = i.answers ++ v.2;
-        state = pump_from a i.state v.0 v.2;
+        taken = i.taken ++ v.front;
+        rest = v.rest;
+        answers = i.answers ++ v.answers;
+        state = pump_from a i.state v.front v.answers;
         talk_is = is;
-        counted = omega (arith, length-append i.taken v.0, i.counted, v.4);
+        counted = omega (arith, length-append i.taken v.front, i.counted, v.counted);
         stands = on.0;
         kept = on.1;
-        shown = v.6;
+        shown = v.shows;
       };
-      within = omega (arith, ap (λ (y : List TalkItem). length y) is, length-append (i.taken ++ v.0) v.1, length-append i.taken v.0, i.counted, v.4);
+      within = omega (arith, ap (λ (y : List TalkItem). length y) is, length-append (i.taken ++ v.front) v.rest, length-append i.taken v.front, i.counted, v.counted);
     }
 
 pub returns-in-Err : goal.returns-in-Err
