@@ -105,6 +105,6 @@ made_spares (suc left) number x =
 
 -- no delivery is unseen in a run of the steps
 pub none_unseen : (seed count : ℕ) (settings : StationSettings) (from : Stage) (steps : List code_step.Step) (items : List Item) → steps_seen 5 steps ≡ made_steps seed count → IsUnseen settings from (steps_for 5 steps) items → ⊥
-none_unseen seed count settings from steps items made (xs, ys, f, left, stop, is, u, i, split, runs, broken, whole) =
+none_unseen seed count settings from steps items made run =
     let plain = all_plain steps (subst AllSpare (sym made) (made_spares count 0 seed)) in
-    none_broken f (plain_in xs ys f left stop (subst AllPlain split plain)) settings stop _ i broken
+    none_broken run.fates (plain_in run.before run.behind run.fates run.left run.stop (subst AllPlain run.steps_are plain)) settings run.stop _ run.unsaid run.broken

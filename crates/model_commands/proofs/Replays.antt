@@ -33,7 +33,7 @@ not_begun : (settings : StationSettings) (from : Stage) (steps : List ReplayStep
     → ReplayIsCutOff settings from steps known known
 not_begun settings from steps known = record {
   items = [];
-  is_begun = inl ([], steps, [], from, refl, (refl, refl), inl refl);
+  is_begun = inl (record { before = []; behind = steps; steps_are = refl; given = []; last = from; runs = (refl, refl); items_are = inl refl });
   kept = tt;
   written = writes_nothing known [];
 }

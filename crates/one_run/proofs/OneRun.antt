@@ -269,9 +269,10 @@ module _ (settings : StationSettings) where
       )
 
   replay_comes : (s : Stage) (steps : List ReplayStep) (o : List Item) → IsReplay settings s steps o → ComesTo steps s o
-  replay_comes s steps o (inl (is, u, runs, whole)) = whole_comes steps s is u o runs whole
-  replay_comes s steps o (inr (xs, ys, f, left, stop, is, u, i, parts, runs, broken, whole)) =
-      subst (λ (z : List ReplayStep). ComesTo z s o) (sym parts) (unseen_comes xs ys f left stop s is u i o runs broken whole)
+  replay_comes s steps o (inl run) = whole_comes steps s run.given run.last o run.runs run.items_are
+  replay_comes s steps o (inr run) =
+      subst (λ (z : List ReplayStep). ComesTo z s o) (sym run.steps_are)
+      (unseen_comes run.before run.behind run.fates run.left run.stop s run.given run.last run.unsaid o run.runs run.broken run.items_are)
 
   halts_alike : (x : ReplayStep) (s : Stage) (o p : List Item) → Halts x s o → Halts x s p → text o ≡ text p
   halts_alike (ReplayStep.Due rs) s o p one two = absurd one

@@ -166,7 +166,7 @@ unseen_after telling settings fates stop s P number which a b c broken is one tw
     let same : number ≡ (opened s.is_open s).rounds + 1 = is ∙ ap (λ (k : ℕ). k + 1) (sym (opened_rounds s.is_open s)) in
     let i = Item.Unsaid ((opened s.is_open s).rounds + 1) which in (
       opening_if_closed s.is_open s ++ i ∷ [],
-      (fates_of fates, records_left_in fates.mids.items, stop, i, refl, broken, refl),
+      record { fates = fates_of fates; left = records_left_in fates.mids.items; stop = stop; is_round = refl; unsaid = i; broken = broken; items_are = refl },
       telling.tells_joins a b c (opening_if_closed s.is_open s) (i ∷ []) one (subst (λ (k : ℕ). telling.tells b (Item.Unsaid k which ∷ []) c) same two),
     )
 
@@ -178,7 +178,7 @@ unseen_cut telling settings fates stop s number which a b c broken is one two =
     let i = Item.Unsaid ((opened s.is_open s).rounds + 1) which in
     inr (inl (
       opening_if_closed s.is_open s ++ i ∷ [],
-      (fates_of fates, records_left_in fates.mids.items, stop, i, refl, broken, refl),
+      record { fates = fates_of fates; left = records_left_in fates.mids.items; stop = stop; is_round = refl; unsaid = i; broken = broken; items_are = refl },
       telling.breaks_later a b c (opening_if_closed s.is_open s) (i ∷ []) one (subst (λ (k : ℕ). telling.breaks_off b (Item.Unsaid k which ∷ []) c) same two),
     ))
 

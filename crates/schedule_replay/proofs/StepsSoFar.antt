@@ -143,7 +143,7 @@ pub all_done : {T : Type 0} (telling : Telling T) (settings : StationSettings) (
     → EndsRun telling settings (start eeprom packet) xs (given ++ opening_if_closed s.is_open s) before line next b c
 all_done telling settings eeprom packet xs given s b c before line next ok runs at said openings rest told =
     let whole : (given ++ opening_if_closed s.is_open s) ++ Item.Ended s.archive.rows ∷ [] ≡ given ++ closing_items s = append_assoc given (opening_if_closed s.is_open s) (Item.Ended s.archive.rows ∷ []) in
-    let k : IsWhole settings (start eeprom packet) xs ((given ++ opening_if_closed s.is_open s) ++ Item.Ended s.archive.rows ∷ []) = (given, s, runs, whole) in
+    let k : IsWhole settings (start eeprom packet) xs ((given ++ opening_if_closed s.is_open s) ++ Item.Ended s.archive.rows ∷ []) = record { given = given; last = s; runs = runs; items_are = whole } in
     let ended : said_in (closing_items s) ≡ [] = said_first s.is_open s (Item.Ended s.archive.rows ∷ []) in
     let heard : said_in ((given ++ opening_if_closed s.is_open s) ++ Item.Ended s.archive.rows ∷ []) ≡ said_in given = ap said_in whole ∙ said_join given (closing_items s) ∙ ap (λ z. said_in given ++ z) ended ∙ append-nil (said_in given) in
     record {
@@ -151,10 +151,7 @@ all_done telling settings eeprom packet xs given s b c before line next ok runs 
       kept = schedules_law settings eeprom packet xs ok ((given ++ opening_if_closed s.is_open s) ++ Item.Ended s.archive.rows ∷ []) (inl k);
       told = told;
       took_part = record {
-        ran = given;
-        last = s;
-        runs = runs;
-        whole = whole;
+        run = k;
         line = at.stands;
         talk = said ∙ ap (λ z. before.talk.items ++ z) (sym heard);
         image = rest.image;
@@ -169,12 +166,25 @@ pub end_cut : {T : Type 0} (telling : Telling T) (settings : StationSettings) (e
     → CutsRun telling settings (start eeprom packet) xs (given ++ opening_if_closed s.is_open s) b c
 end_cut telling settings eeprom packet xs given s b c ok runs told =
     let whole : (given ++ opening_if_closed s.is_open s) ++ Item.Ended s.archive.rows ∷ [] ≡ given ++ closing_items s = append_assoc given (opening_if_closed s.is_open s) (Item.Ended s.archive.rows ∷ []) in
-    let k : IsReplay settings (start eeprom packet) xs ((given ++ opening_if_closed s.is_open s) ++ Item.Ended s.archive.rows ∷ []) = inl (given, s, runs, whole) in
+    let k : IsReplay settings (start eeprom packet) xs ((given ++ opening_if_closed s.is_open s) ++ Item.Ended s.archive.rows ∷ []) = inl (record { given = given; last = s; runs = runs; items_are = whole }) in
     record { given = Item.Ended s.archive.rows ∷ []; is_begun = inr k; kept = schedules_law settings eeprom packet xs ok ((given ++ opening_if_closed s.is_open s) ++ Item.Ended s.archive.rows ∷ []) k; told = told }
 
 -- a delivery was unseen in the next step
 unseen_in : (settings : StationSettings) (from : Stage) (xs ys : List ReplayStep) (x : ReplayStep) (is now : List Item) (u : Stage) → Runs settings xs from is u → BreaksAt settings x u now → IsUnseen settings from (xs ++ x ∷ ys) (is ++ now)
-unseen_in settings from xs ys x is now u runs b = (xs, ys, b.0, b.1, b.2, is, u, b.3, ap (λ (z : ReplayStep). xs ++ z ∷ ys) b.4, runs, b.5, ap (λ z. is ++ z) b.6)
+unseen_in settings from xs ys x is now u runs b = record {
+  before = xs;
+  behind = ys;
+  fates = b.fates;
+  left = b.left;
+  stop = b.stop;
+  steps_are = ap (λ (z : ReplayStep). xs ++ z ∷ ys) b.is_round;
+  given = is;
+  last = u;
+  runs = runs;
+  unsaid = b.unsaid;
+  broken = b.broken;
+  items_are = ap (λ z. is ++ z) b.items_are;
+}
 
 -- a round from an open stage is one from where the archive was closed, behind its opening
 does_opened : (settings : StationSettings) (f : Fates) (left : ℕ → List (List ℕ)) (stop : Option Stop) (s u : Stage) (is : List Item) → Does settings (ReplayStep.Round f left stop) (opened s.is_open s) is u → Does settings (ReplayStep.Round f left stop) s (opening_if_closed s.is_open s ++ is) u
@@ -185,11 +195,19 @@ does_opened settings f left stop s u is (r, made, i) =
     (r, subst (λ (z : Stage). IsRound settings f left stop z r u) same made, ap (λ z. opening_if_closed s.is_open s ++ z) (i ∙ ap (λ z. z ++ Item.Ran r ∷ []) none))
 
 breaks_opened : (settings : StationSettings) (x : ReplayStep) (s : Stage) (is : List Item) → BreaksAt settings x (opened s.is_open s) is → BreaksAt settings x s (opening_if_closed s.is_open s ++ is)
-breaks_opened settings x s is (f, left, stop, i, round, broken, e) =
+breaks_opened settings x s is b =
     let t = opened s.is_open s in
-    let same : opened t.is_open t ≡ t = ap (λ (b : Bool). opened b t) (is_opened s) in
-    let none : opening_if_closed t.is_open t ≡ [] = ap (λ (b : Bool). opening_if_closed b t) (is_opened s) in
-    (f, left, stop, i, round, subst (λ (z : Stage). IsBroken settings f stop z i) same broken, ap (λ z. opening_if_closed s.is_open s ++ z) (e ∙ ap (λ z. z ++ i ∷ []) none))
+    let same : opened t.is_open t ≡ t = ap (λ (is_open : Bool). opened is_open t) (is_opened s) in
+    let none : opening_if_closed t.is_open t ≡ [] = ap (λ (is_open : Bool). opening_if_closed is_open t) (is_opened s) in
+    record {
+      fates = b.fates;
+      left = b.left;
+      stop = b.stop;
+      is_round = b.is_round;
+      unsaid = b.unsaid;
+      broken = subst (λ (z : Stage). IsBroken settings b.fates b.stop z b.unsaid) same b.broken;
+      items_are = ap (λ z. opening_if_closed s.is_open s ++ z) (b.items_are ∙ ap (λ z. z ++ b.unsaid ∷ []) none);
+    }
 
 -- a round behind its opening was taken
 pub round_more : (settings : StationSettings) (from : Stage) (xs : List ReplayStep) (f : Fates) (left : ℕ → List (List ℕ)) (stop : Option Stop) (given is : List Item) (s u : Stage) (openings : ℕ) (before line now : Sim) (made next : Stopping MemDisk) (after : Run)
@@ -208,6 +226,14 @@ round_broken telling settings eeprom packet xs ys x b c given now s ok runs brok
     (unseen_in settings (start eeprom packet) xs ys x given (opening_if_closed s.is_open s ++ now) s runs (breaks_opened settings x s now broken)) in
     record { given = now; is_unseen = k; kept = schedules_law settings eeprom packet (xs ++ x ∷ ys) ok ((given ++ opening_if_closed s.is_open s) ++ now) (inr k); told = told }
 
+-- the beginning of a run, to where some of its steps lead
+begun_to : (settings : StationSettings) (from : Stage) (xs ys steps : List ReplayStep) (is : List Item) (u : Stage) → steps ≡ xs ++ ys → Runs settings xs from is u → RunIsBegun settings from steps is
+begun_to settings from xs ys steps is u split runs = record { before = xs; behind = ys; steps_are = split; given = is; last = u; runs = runs; items_are = inl refl }
+
+-- and with the opening of a round that comes next
+pub begun_opened : (settings : StationSettings) (from : Stage) (xs ys steps : List ReplayStep) (is : List Item) (u : Stage) → steps ≡ xs ++ ys → OpensNext ys → Runs settings xs from is u → RunIsBegun settings from steps (is ++ opening_if_closed u.is_open u)
+begun_opened settings from xs ys steps is u split opens runs = record { before = xs; behind = ys; steps_are = split; given = is; last = u; runs = runs; items_are = inr (opens, refl) }
+
 pub begun_too : {T : Type 0} (telling : Telling T) (settings : StationSettings) (eeprom : List ℕ) (packet : LoopPacket) (xs : List ReplayStep) (b c : T) (is now : List Item) → IsSchedule xs → RunIsBegun settings (start eeprom packet) xs (is ++ now) → telling.breaks_off b now c → CutsRun telling settings (start eeprom packet) xs is b c
 begun_too telling settings eeprom packet xs b c is now ok begun told = record { given = now; is_begun = inl begun; kept = begun_law settings eeprom packet xs ok (is ++ now) begun; told = told }
 
@@ -215,15 +241,16 @@ pub step_cut : {T : Type 0} (telling : Telling T) (settings : StationSettings) (
     → StepIsCut telling settings x u b c → CutsRun telling settings (start eeprom packet) (xs ++ x ∷ ys) is b c
 step_cut telling settings eeprom packet xs ys x b c is u ok runs (inl (now, v, does, w)) =
     begun_too telling settings eeprom packet (xs ++ x ∷ ys) b c is now ok
-    (xs ++ x ∷ [], ys, is ++ now, v, sym (append_assoc xs (x ∷ []) ys), runs_more settings xs x (start eeprom packet) u v is now runs does, inl refl) w
+    (begun_to settings (start eeprom packet) (xs ++ x ∷ []) ys (xs ++ x ∷ ys) (is ++ now) v (sym (append_assoc xs (x ∷ []) ys)) (runs_more settings xs x (start eeprom packet) u v is now runs does)) w
 step_cut telling settings eeprom packet xs ys x b c is u ok runs (inr (inl (now, broken, w))) =
     let k : IsReplay settings (start eeprom packet) (xs ++ x ∷ ys) (is ++ now) = inr (unseen_in settings (start eeprom packet) xs ys x is now u runs broken) in
     record { given = now; is_begun = inr k; kept = schedules_law settings eeprom packet (xs ++ x ∷ ys) ok (is ++ now) k; told = w }
 step_cut telling settings eeprom packet xs ys x b c is u ok runs (inr (inr (inl (f, left, stop, round, w)))) =
     begun_too telling settings eeprom packet (xs ++ x ∷ ys) b c is (opening_if_closed u.is_open u) ok
-    (xs, x ∷ ys, is, u, refl, runs, inr (subst (λ (z : ReplayStep). OpensNext (z ∷ ys)) (sym round) tt, refl)) w
+    (begun_opened settings (start eeprom packet) xs (x ∷ ys) (xs ++ x ∷ ys) is u refl (subst (λ (z : ReplayStep). OpensNext (z ∷ ys)) (sym round) tt) runs) w
 step_cut telling settings eeprom packet xs ys x b c is u ok runs (inr (inr (inr w))) =
-    begun_too telling settings eeprom packet (xs ++ x ∷ ys) b c is [] ok (xs, x ∷ ys, is, u, refl, runs, inl (append-nil is)) (front_whole telling b c [] w)
+    begun_too telling settings eeprom packet (xs ++ x ∷ ys) b c is [] ok
+    (subst (λ (z : List Item). RunIsBegun settings (start eeprom packet) (xs ++ x ∷ ys) z) (sym (append-nil is)) (begun_to settings (start eeprom packet) xs (x ∷ ys) (xs ++ x ∷ ys) is u refl runs)) (front_whole telling b c [] w)
 
 -- a round behind its opening was cut off
 pub round_cut : {T : Type 0} (telling : Telling T) (settings : StationSettings) (eeprom : List ℕ) (packet : LoopPacket) (xs ys : List ReplayStep) (f : Fates) (left : ℕ → List (List ℕ)) (stop : Option Stop) (b c : T) (given : List Item) (s : Stage) → IsSchedule (xs ++ ReplayStep.Round f left stop ∷ ys)
@@ -232,7 +259,7 @@ round_cut telling settings eeprom packet xs ys f left stop b c given s ok runs (
     let x = ReplayStep.Round f left stop in
     begun_too telling settings eeprom packet (xs ++ x ∷ ys) b c (given ++ opening_if_closed s.is_open s) now ok
     (subst (λ (z : List Item). RunIsBegun settings (start eeprom packet) (xs ++ x ∷ ys) z) (sym (append_assoc given (opening_if_closed s.is_open s) now))
-    (xs ++ x ∷ [], ys, given ++ (opening_if_closed s.is_open s ++ now), v, sym (append_assoc xs (x ∷ []) ys), runs_more settings xs x (start eeprom packet) s v given (opening_if_closed s.is_open s ++ now) runs (does_opened settings f left stop s v now does), inl refl)) w
+    (begun_to settings (start eeprom packet) (xs ++ x ∷ []) ys (xs ++ x ∷ ys) (given ++ (opening_if_closed s.is_open s ++ now)) v (sym (append_assoc xs (x ∷ []) ys)) (runs_more settings xs x (start eeprom packet) s v given (opening_if_closed s.is_open s ++ now) runs (does_opened settings f left stop s v now does)))) w
 round_cut telling settings eeprom packet xs ys f left stop b c given s ok runs (inr (inl (now, broken, w))) =
     let x = ReplayStep.Round f left stop in
     let k : IsReplay settings (start eeprom packet) (xs ++ x ∷ ys) ((given ++ opening_if_closed s.is_open s) ++ now) = inr (subst (λ (z : List Item). IsUnseen settings (start eeprom packet) (xs ++ x ∷ ys) z) (sym (append_assoc given (opening_if_closed s.is_open s) now))
@@ -242,10 +269,12 @@ round_cut telling settings eeprom packet xs ys f left stop b c given s ok runs (
     let t = opened s.is_open s in
     let none : opening_if_closed t.is_open t ≡ [] = ap (λ (z : Bool). opening_if_closed z t) (is_opened s) in
     begun_too telling settings eeprom packet (xs ++ ReplayStep.Round f left stop ∷ ys) b c (given ++ opening_if_closed s.is_open s) [] ok
-    (xs, ReplayStep.Round f left stop ∷ ys, given, s, refl, runs, inr (tt, append-nil (given ++ opening_if_closed s.is_open s))) (subst (λ (z : List Item). telling.breaks_off b z c) none w)
+    (subst (λ (z : List Item). RunIsBegun settings (start eeprom packet) (xs ++ ReplayStep.Round f left stop ∷ ys) z) (sym (append-nil (given ++ opening_if_closed s.is_open s)))
+    (begun_opened settings (start eeprom packet) xs (ReplayStep.Round f left stop ∷ ys) (xs ++ ReplayStep.Round f left stop ∷ ys) given s refl tt runs)) (subst (λ (z : List Item). telling.breaks_off b z c) none w)
 round_cut telling settings eeprom packet xs ys f left stop b c given s ok runs (inr (inr (inr w))) =
     begun_too telling settings eeprom packet (xs ++ ReplayStep.Round f left stop ∷ ys) b c (given ++ opening_if_closed s.is_open s) [] ok
-    (xs, ReplayStep.Round f left stop ∷ ys, given, s, refl, runs, inr (tt, append-nil (given ++ opening_if_closed s.is_open s))) (front_whole telling b c [] w)
+    (subst (λ (z : List Item). RunIsBegun settings (start eeprom packet) (xs ++ ReplayStep.Round f left stop ∷ ys) z) (sym (append-nil (given ++ opening_if_closed s.is_open s)))
+    (begun_opened settings (start eeprom packet) xs (ReplayStep.Round f left stop ∷ ys) (xs ++ ReplayStep.Round f left stop ∷ ys) given s refl tt runs)) (front_whole telling b c [] w)
 
 -- the steps of a schedule are those so far, the next, and those to come
 pub steps_split : (period : ℕ) (xs : List code_step.Step) (i : ℕ) (d : code_step.Step) → i < length xs → steps_for period (take i xs) ++ step_of period (get_or xs i d) ∷ steps_for period (drop (suc i) xs) ≡ steps_for period xs

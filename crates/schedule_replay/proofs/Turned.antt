@@ -38,7 +38,7 @@ use Rattle.schedule_replay.specs.Telling.{Telling}
 use Rattle.schedule_replay.specs.Told.{TellsFront, TellsRun}
 use Rattle.schedule_replay.specs.Turns.{BreaksRun, CutsRun, EndsRun, IsOneTurn, RunMoves, RunTurnsTo}
 use Rattle.schedule_replay.proofs.Ahead.{is_opened}
-use Rattle.schedule_replay.proofs.StepsSoFar.{IsReady, begun_too, few_rounds, has_run_room, may_take_next, ready, round_broken, round_cut, round_more, so_far_more, step_cut, steps_more, steps_parts, steps_split}
+use Rattle.schedule_replay.proofs.StepsSoFar.{IsReady, begun_opened, begun_too, few_rounds, has_run_room, may_take_next, ready, round_broken, round_cut, round_more, so_far_more, step_cut, steps_more, steps_parts, steps_split}
 use Rattle.schedule_replay.proofs.RoundLaws.{can_open, may_play, opened_rounds, opened_rows}
 use Rattle.schedule_replay.proofs.RunLaws.{closed_by, open_by, rest_more}
 
@@ -163,7 +163,7 @@ module _ (settings : StationSettings) (eeprom : List ℕ) (packet : LoopPacket) 
   pub opening_cut_off : {T : Type 0} (telling : Telling T) (b c : T) → OpensNext (steps_for settings.period (drop i xs)) → telling.breaks_off b (opening_if_closed s.is_open s) c → CutsRun telling settings (start eeprom packet) (steps_for settings.period xs) given b c
   opening_cut_off telling b c next told =
       begun_too telling settings eeprom packet (steps_for settings.period xs) b c given (opening_if_closed s.is_open s) r.ok
-      (steps_for settings.period (take i xs), steps_for settings.period (drop i xs), given, s, sym (steps_parts settings.period xs i), runs, inr (next, refl)) told
+      (begun_opened settings (start eeprom packet) (steps_for settings.period (take i xs)) (steps_for settings.period (drop i xs)) (steps_for settings.period xs) given s (sym (steps_parts settings.period xs i)) next runs) told
 
   -- a round was ended behind its opening
   pub round_taken : {T : Type 0} (telling : Telling T) (x : code_step.Step) (fates : code_fates.Fates) (stop : Option Stop) (before line now : Sim) (old next : Stopping MemDisk) (after : Run) (b c : T) → IsNext xs i x → step_of settings.period x ≡ round_step fates stop → HasSaid given before line
@@ -336,7 +336,7 @@ module _ {T : Type 0} (telling : Telling T) (settings : StationSettings) (from :
   pub run_told : (before line : Sim) (disk : Stopping MemDisk) → EndsRun telling settings from xs items before line disk b c → TellsRun telling false settings from xs a c
   run_told before line disk e = record {
     items = items ++ e.given;
-    is_replay = (e.took_part.ran, e.took_part.last, e.took_part.runs, e.took_part.whole);
+    is_replay = e.took_part.run;
     kept = e.kept;
     told = telling.tells_joins a b c items e.given first_told e.told;
   }
@@ -346,7 +346,7 @@ module _ {T : Type 0} (telling : Telling T) (settings : StationSettings) (from :
   part_taken before line disk e = (
     record {
       items = items ++ e.given;
-      is_replay = (e.took_part.ran, e.took_part.last, e.took_part.runs, e.took_part.whole);
+      is_replay = e.took_part.run;
       kept = e.kept;
       told = telling.tells_joins a b c items e.given first_told e.told;
     },

@@ -14,7 +14,7 @@ use Rattle.station_sim.specs.declared.sim.Sim.{Sim}
 use Rattle.station_sim.specs.Standing.{SimStandsFor}
 use Rattle.station_replay.specs.Kept.{Kept}
 use Rattle.station_replay.specs.Schedule.{ReplayStep, records}
-use Rattle.station_replay.specs.Replay.{RunIsBegun, IsReplay, IsReplayBy, Item, Runs, Stage, closing_items, opened, start}
+use Rattle.station_replay.specs.Replay.{RunIsBegun, IsReplay, IsReplayBy, IsWhole, Item, Stage, opened, start}
 use Rattle.station_replay.specs.Texts.{text}
 use Rattle.round_play.specs.Opening.{stopping_limits}
 use Rattle.round_play.specs.Resting.{AtRest, IsRoomFor}
@@ -50,14 +50,11 @@ pub record ReplayIsCutOff (settings : StationSettings) (from : Stage) (steps : L
 -- and its talk gained those of the rounds; the disk reads the rows, has the file's length, and began so many changes.
 pub record TookPart (settings : StationSettings) (from : Stage) (steps : List ReplayStep) (items : List Item)
     (before after : Sim) (disk : Stopping MemDisk) : Type 0 where
-  pub ran : List Item
-  pub last : Stage
-  pub runs : Runs settings steps from ran last
-  pub whole : items ≡ ran ++ closing_items last
-  pub line : SimStandsFor after last.line
+  pub run : IsWhole settings from steps items
+  pub line : SimStandsFor after run.last.line
   pub talk : after.talk.items ≡ before.talk.items ++ said_in items
   pub image : List ℕ
   pub reads : stopping_medium.seen disk ≡ Some image
-  pub rows : HasRows last.archive.rows image
-  pub size : length image ≡ (opened last.is_open last).archive.size
-  pub changes : stopping_medium.moment disk ≡ (opened last.is_open last).archive.changes
+  pub rows : HasRows run.last.archive.rows image
+  pub size : length image ≡ (opened run.last.is_open run.last).archive.size
+  pub changes : stopping_medium.moment disk ≡ (opened run.last.is_open run.last).archive.changes

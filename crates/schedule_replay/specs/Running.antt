@@ -8,11 +8,15 @@ use Rattle.station_replay.specs.Schedule.{ReplayStep}
 use Rattle.station_replay.specs.Replay.{Does, IsBroken, Item, Stage, opening_if_closed, opened}
 use Rattle.schedule_replay.specs.Telling.{Telling}
 
--- the items of a round in which a delivery was unseen
-abbrev pub BreaksAt : StationSettings → ReplayStep → Stage → List Item → Type 0
-BreaksAt settings x s is =
-    (f : Fates) × (left : ℕ → List (List ℕ)) × (stop : Option Stop) × (i : Item) × (x ≡ ReplayStep.Round f left stop)
-    × IsBroken settings f stop (opened s.is_open s) i × (is ≡ opening_if_closed s.is_open s ++ i ∷ [])
+-- The step is a round in which a delivery was unseen, and these are its items.
+pub record BreaksAt (settings : StationSettings) (step : ReplayStep) (from : Stage) (items : List Item) : Type 0 where
+  pub fates : Fates
+  pub left : ℕ → List (List ℕ)
+  pub stop : Option Stop
+  pub is_round : step ≡ ReplayStep.Round fates left stop
+  pub unsaid : Item
+  pub broken : IsBroken settings fates stop (opened from.is_open from) unsaid
+  pub items_are : items ≡ opening_if_closed from.is_open from ++ unsaid ∷ []
 
 -- what is known after a step, by whether a delivery was unseen: its items are told, and P holds of where it leads
 abbrev pub After : {T : Type 0} → Telling T → Bool → StationSettings → ReplayStep → Stage → (List Item → Stage → Type 0)

@@ -173,20 +173,20 @@ module _ (settings : StationSettings) where
               let i = Item.Unsaid ((opened u.is_open u).rounds + 1) which in
               inr (
                 is ++ (opening_if_closed u.is_open u ++ i ∷ []),
-                (
-                  xs,
-                  ys,
-                  f,
-                  left,
-                  stop,
-                  is,
-                  u,
-                  i,
-                  split,
-                  runs,
-                  unseen_round f left stop (opened u.is_open u) r which unseen,
-                  refl,
-                ),
+                record {
+                  before = xs;
+                  behind = ys;
+                  fates = f;
+                  left = left;
+                  stop = stop;
+                  steps_are = split;
+                  given = is;
+                  last = u;
+                  runs = runs;
+                  unsaid = i;
+                  broken = unseen_round f left stop (opened u.is_open u) r which unseen;
+                  items_are = refl;
+                },
               )
 
     -- whatever the next step is
@@ -203,7 +203,7 @@ module _ (settings : StationSettings) where
         → (o : List Item) × IsReplay settings (start eeprom packet) steps o
     goes_from [] xs is u split runs =
         let same : xs ≡ steps = sym (split ∙ append-nil xs) in
-        (is ++ closing_items u, inl (is, u, subst (λ z. RunsTo z is u) same runs, refl))
+        (is ++ closing_items u, inl (record { given = is; last = u; runs = subst (λ z. RunsTo z is u) same runs; items_are = refl }))
     goes_from (x ∷ ys) xs is u split runs = elim (goes x xs ys is u split runs) [
       | inl y ↦ goes_from ys (xs ++ x ∷ []) (is ++ y.0) y.1 (split ∙ sym (append_assoc xs (x ∷ []) ys))
           (runs_then xs x (start eeprom packet) u y.1 is y.0 runs y.2)

@@ -29,7 +29,7 @@ text_of_end : (answer : MemberTurn) (settings : StationSettings) (c : Course) (l
 text_of_end More settings c lines s over came = absurd over
 text_of_end Ended settings c lines s over came = λ o replay.
     sym came.writes ∙ one_text settings (course_start c) (course_steps settings c) came.given o
-    (inl (came.took_part.ran, came.took_part.last, came.took_part.runs, came.took_part.whole)) replay
+    (inl came.took_part.run) replay
 text_of_end Unseen settings c lines s over came = λ o replay.
     sym came.writes ∙ one_text settings (course_start c) (course_steps settings c) came.given o (inr came.is_unseen) replay
 text_of_end WriteFault settings c lines s over came = absurd over

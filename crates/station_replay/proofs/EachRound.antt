@@ -41,11 +41,20 @@ module _ (settings : StationSettings) (P : Rounded → Type 0) (law : (f : Fates
   in_steps (x ∷ xs) s is u (mid, now, rest, split, does, again) = subst (AllRounds P) (sym split) (joined now rest (in_step x s now mid does) (in_steps xs mid rest u again))
 
   pub in_replay : (s : Stage) (steps : List ReplayStep) (o : List Item) → IsReplay settings s steps o → AllRounds P o
-  in_replay s steps o (inl (is, u, runs, all)) = subst (AllRounds P) (sym all) (joined is (closing_items u) (in_steps steps s is u runs) (behind_first u.is_open u (Item.Ended u.archive.rows ∷ []) tt))
-  in_replay s steps o (inr (xs, ys, f, left, stop, is, u, i, split, runs, broken, all)) =
-      let unsaid : AllRounds P (i ∷ []) = subst (λ (y : Item). AllRounds P (y ∷ [])) (sym broken.is) tt in
-      subst (AllRounds P) (sym all) (joined is (opening_if_closed u.is_open u ++ i ∷ []) (in_steps xs s is u runs) (behind_first u.is_open u (i ∷ []) unsaid))
+  in_replay s steps o (inl whole) =
+      let u = whole.last in
+      subst (AllRounds P) (sym whole.items_are) (joined whole.given (closing_items u) (in_steps steps s whole.given u whole.runs) (behind_first u.is_open u (Item.Ended u.archive.rows ∷ []) tt))
+  in_replay s steps o (inr cut) =
+      let u = cut.last in
+      let i = cut.unsaid in
+      let unsaid : AllRounds P (i ∷ []) = subst (λ (y : Item). AllRounds P (y ∷ [])) (sym cut.broken.is) tt in
+      subst (AllRounds P) (sym cut.items_are) (joined cut.given (opening_if_closed u.is_open u ++ i ∷ []) (in_steps cut.before s cut.given u cut.runs) (behind_first u.is_open u (i ∷ []) unsaid))
 
   pub in_begun : (s : Stage) (steps : List ReplayStep) (o : List Item) → RunIsBegun settings s steps o → AllRounds P o
-  in_begun s steps o (xs, ys, is, u, split, runs, inl z) = subst (AllRounds P) (sym z) (in_steps xs s is u runs)
-  in_begun s steps o (xs, ys, is, u, split, runs, inr z) = subst (AllRounds P) (sym z.1) (joined is (opening_if_closed u.is_open u) (in_steps xs s is u runs) (in_first u.is_open u))
+  in_begun s steps o begun =
+      let u = begun.last in
+      let given = in_steps begun.before s begun.given u begun.runs in
+      elim begun.items_are [
+        | inl same ↦ subst (AllRounds P) (sym same) given
+        | inr opens ↦ subst (AllRounds P) (sym opens.1) (joined begun.given (opening_if_closed u.is_open u) given (in_first u.is_open u))
+      ]

@@ -421,16 +421,20 @@ records_join (ReplayStep.Open stop ∷ xs) ys = records_join xs ys
 records_join (ReplayStep.Round f left stop ∷ xs) ys = ap (λ y. left 0 ++ y) (records_join xs ys) ∙ sym (append_assoc (left 0) (records xs) (records ys))
 
 pub schedules_law : (settings : StationSettings) (eeprom : List ℕ) (packet : LoopPacket) (steps : List ReplayStep) → IsSchedule steps → (o : List Item) → IsReplay settings (start eeprom packet) steps o → Kept settings (records steps) o
-schedules_law settings eeprom packet steps ok o (inl (is, u, runs, all)) =
+schedules_law settings eeprom packet steps ok o (inl run) =
     let r = records steps in
-    let h = runs_law settings (records steps) ok.rises ok.are_records steps [] [] (start eeprom packet) u is ok.each (append-nil (records steps)) (start_at settings (records steps) ok.rises ok.are_records eeprom packet) runs in
-    subst (Kept settings r) (sym all) (kept_law settings (records steps) ok.rises ok.are_records (records steps) eeprom packet u is (closing_items u) h (kept_closing settings (records steps) ok.rises ok.are_records u.is_open u refl))
-schedules_law settings eeprom packet steps ok o (inr (xs, ys, f, left, stop, is, u, i, split, runs, broken, all)) =
+    let u = run.last in
+    let h = runs_law settings r ok.rises ok.are_records steps [] [] (start eeprom packet) u run.given ok.each (append-nil r) (start_at settings r ok.rises ok.are_records eeprom packet) run.runs in
+    subst (Kept settings r) (sym run.items_are) (kept_law settings r ok.rises ok.are_records r eeprom packet u run.given (closing_items u) h (kept_closing settings r ok.rises ok.are_records u.is_open u refl))
+schedules_law settings eeprom packet steps ok o (inr run) =
     let r = records steps in
-    let whole : records xs ++ records (ReplayStep.Round f left stop ∷ ys) ≡ records steps = sym (records_join xs (ReplayStep.Round f left stop ∷ ys)) ∙ ap records (sym split) in
-    let some : AreSteps xs = steps_first xs (ReplayStep.Round f left stop ∷ ys) (subst AreSteps split ok.each) in
-    let h = runs_law settings (records steps) ok.rises ok.are_records xs [] (records (ReplayStep.Round f left stop ∷ ys)) (start eeprom packet) u is some whole (start_at settings (records steps) ok.rises ok.are_records eeprom packet) runs in
-    subst (Kept settings r) (sym all) (kept_law settings (records steps) ok.rises ok.are_records (records xs) eeprom packet u is (opening_if_closed u.is_open u ++ i ∷ []) h (kept_broken settings (records steps) ok.rises ok.are_records f stop i u broken))
+    let xs = run.before in
+    let rest = ReplayStep.Round run.fates run.left run.stop ∷ run.behind in
+    let u = run.last in
+    let whole : records xs ++ records rest ≡ r = sym (records_join xs rest) ∙ ap records (sym run.steps_are) in
+    let some : AreSteps xs = steps_first xs rest (subst AreSteps run.steps_are ok.each) in
+    let h = runs_law settings r ok.rises ok.are_records xs [] (records rest) (start eeprom packet) u run.given some whole (start_at settings r ok.rises ok.are_records eeprom packet) run.runs in
+    subst (Kept settings r) (sym run.items_are) (kept_law settings r ok.rises ok.are_records (records xs) eeprom packet u run.given (opening_if_closed u.is_open u ++ run.unsaid ∷ []) h (kept_broken settings r ok.rises ok.are_records run.fates run.stop run.unsaid u run.broken))
 
 -- the rows after some steps are gathered
 pub runs_so : (settings : StationSettings) (eeprom : List ℕ) (packet : LoopPacket) (steps more : List ReplayStep) → IsSchedule (steps ++ more) → (is : List Item) (u : Stage) → Runs settings steps (start eeprom packet) is u → (ps : List Pair) × DumpsGather settings (records (steps ++ more)) ps [] u.archive.rows
@@ -443,12 +447,14 @@ runs_so settings eeprom packet steps more ok is u runs =
 
 -- what is so of the beginning of a run
 pub begun_law : (settings : StationSettings) (eeprom : List ℕ) (packet : LoopPacket) (steps : List ReplayStep) → IsSchedule steps → (o : List Item) → RunIsBegun settings (start eeprom packet) steps o → Kept settings (records steps) o
-begun_law settings eeprom packet steps ok o (xs, ys, is, u, split, runs, how) =
+begun_law settings eeprom packet steps ok o run =
     let r = records steps in
-    let whole : records xs ++ records ys ≡ records steps = sym (records_join xs ys) ∙ ap records (sym split) in
-    let some : AreSteps xs = steps_first xs ys (subst AreSteps split ok.each) in
-    let h = runs_law settings (records steps) ok.rises ok.are_records xs [] (records ys) (start eeprom packet) u is some whole (start_at settings (records steps) ok.rises ok.are_records eeprom packet) runs in
-    elim how [
-      | inl z ↦ subst (Kept settings r) (append-nil is ∙ sym z) (kept_law settings (records steps) ok.rises ok.are_records (records xs) eeprom packet u is [] h (λ p so. tt))
-      | inr z ↦ subst (Kept settings r) (sym z.1) (kept_law settings (records steps) ok.rises ok.are_records (records xs) eeprom packet u is (opening_if_closed u.is_open u) h (kept_opened settings (records steps) ok.rises ok.are_records u.is_open u))
+    let xs = run.before in
+    let u = run.last in
+    let whole : records xs ++ records run.behind ≡ r = sym (records_join xs run.behind) ∙ ap records (sym run.steps_are) in
+    let some : AreSteps xs = steps_first xs run.behind (subst AreSteps run.steps_are ok.each) in
+    let h = runs_law settings r ok.rises ok.are_records xs [] (records run.behind) (start eeprom packet) u run.given some whole (start_at settings r ok.rises ok.are_records eeprom packet) run.runs in
+    elim run.items_are [
+      | inl z ↦ subst (Kept settings r) (append-nil run.given ∙ sym z) (kept_law settings r ok.rises ok.are_records (records xs) eeprom packet u run.given [] h (λ p so. tt))
+      | inr z ↦ subst (Kept settings r) (sym z.1) (kept_law settings r ok.rises ok.are_records (records xs) eeprom packet u run.given (opening_if_closed u.is_open u) h (kept_opened settings r ok.rises ok.are_records u.is_open u))
     ]
