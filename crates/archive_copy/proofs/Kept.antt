@@ -3,23 +3,11 @@ use Rattle.std.proofs.Common.{◌≡◌, ℕ, ◌+◌, ◌-◌, ◌≤◌, List,
 use Rattle.disk_model.specs.Medium.{Medium}
 use Rattle.disk_model.specs.Disk.{LeavesOnly}
 use Rattle.station_base.specs.declared.row.Row.{Row}
-use Rattle.weather_book.specs.declared.book.Book.{Book}
-use Rattle.weather_book.specs.Book.{IsSameBook}
-use Rattle.weather_book.specs.Stands.{HasRows, RowsOldOrAll, StandsOn}
+use Rattle.weather_book.specs.Stands.{HasRows, RowsOldOrAll}
 use Rattle.archive_copy.proofs.NextRows.{more_next}
 use Rattle.archive_copy.specs.Adding.{HasOldOrAll, HasSome}
 
 module _ {D : Type 0} (medium : Medium D) where
-  -- a book that is the same stands for the same rows
-  pub same_stands : (a b : Book) (disk : D) (rows : List Row) → IsSameBook a b → StandsOn medium a disk rows → StandsOn medium b disk rows
-  same_stands a b disk rows same stands = record {
-    stands_for = same.rows rows stands.stands_for;
-    current = same.version ∙ stands.current;
-    slots = stands.slots;
-    rows_are = stands.rows_are;
-    log = stands.log;
-  }
-
   -- a crash leaves the old rows or all, whether it is late or not
   pub late_or_not : (old new : List Row) (late : Type 0) (d e : D) → LeavesOnly medium (RowsOldOrAll old new late) d e → LeavesOnly medium (HasOldOrAll old new) d e
   late_or_not old new late d e leaves t c le now =

@@ -12,7 +12,7 @@ use Rattle.packed_rows.specs.Adding.{AreLimited, ArePrintable}
 use Rattle.weather_book.specs.declared.book.Book.{Book}
 use Rattle.weather_book.specs.Book.{len_of}
 use Rattle.weather_book.specs.Stands.{StandsToReadOn}
-use Rattle.weather_book.proofs.RowsOfBook.{to_read_stays}
+use Rattle.weather_book.proofs.BookOnDisk.{to_read_stays}
 use Rattle.archive_copy.proofs.Fronts.{in_piece}
 use Rattle.archive_copy.specs.Reading.{IsAhead}
 use Rattle.archive_copy.specs.declared.reader.RowReader.{RowReader}

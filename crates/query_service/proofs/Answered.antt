@@ -5,7 +5,7 @@ use Rattle.disk_model.specs.Disk.{Stays}
 use Rattle.disk_model.specs.Medium.{Medium}
 use Rattle.station_base.specs.declared.row.Row.{Row}
 use Rattle.weather_book.specs.declared.book.Book.{Book}
-use Rattle.weather_book.proofs.RowsOfBook.{to_read_stays}
+use Rattle.weather_book.proofs.BookOnDisk.{to_read_stays}
 use Rattle.query_service.specs.Answers.{answer_to}
 use Rattle.query_service.specs.Lines.{lines_after, rest_after}
 use Rattle.query_service.specs.Turns.{AnswersLines, AreAnswers, AnsweringBreaksOff, AnswerIsBegun, ServesFrom}

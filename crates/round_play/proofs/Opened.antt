@@ -12,12 +12,12 @@ use Rattle.disk_model.specs.TimeLaws.{le_or_gt}
 use Rattle.disk_model.specs.declared.disk.Disked.TheVariants.{Done}
 use Rattle.disk_model.specs.declared.mem_disk.MemDisk.{MemDisk}
 use Rattle.disk_model.specs.declared.stopping.Stopping.{Stopping}
-use Rattle.gated_log.proofs.RecoveryFinds.{still_durable}
 use Rattle.gated_log.specs.Calls.{RecoveryCalls, up_to, recovery_changes}
 use Rattle.gated_log.specs.Log.{empty_archive}
 use Rattle.gated_log.specs.Start.{MovedToWrite, remade}
 use Rattle.station_base.specs.declared.row.Row.{Row}
 use Rattle.packed_rows.specs.Rows.{holds, rows_of}
+use Rattle.weather_book.proofs.BookOnDisk.{stands_stays}
 use Rattle.weather_book.specs.Stands.{HasRows, NowHasRows, ReadsRows, StandsOn}
 use Rattle.weather_book.specs.Book as book_words
 use Rattle.weather_book.specs.declared.book.Book.{Book}
@@ -33,26 +33,6 @@ use Rattle.round_play.specs.Resting.{AtRest, HasLeft}
 use Rattle.round_play.proofs.RecoveryCalls.{Starts, is_armed, went_well}
 use Rattle.round_play.proofs.RecoveryChanges.{limits_stay}
 use Rattle.round_play.proofs.StoppedRecovery.{Passed, synced_once, made_anew}
-
--- a book stands on a disk after calls that change nothing
-pub stands_stays : (book : Book) (d e : Stopping MemDisk) (rows : List Row) → StandsOn stopping_medium book d rows → Stays stopping_medium d e
-    → StandsOn stopping_medium book e rows
-stands_stays book d e rows stands stays = record {
-  stands_for = stands.stands_for;
-  current = stands.current;
-  slots = stands.slots;
-  rows_are = stands.rows_are;
-  log = record {
-    before = stands.log.before;
-    chain = stands.log.chain;
-    current = stands.log.current;
-    count_is = stands.log.count_is;
-    rests = record {
-      reads = λ c told. stands.log.rests.reads c (sym stays.reads ∙ told);
-      durable = still_durable stopping_medium d e 0 stays stands.log.rests.durable;
-    };
-  };
-}
 
 -- an image has one list of rows
 pub same_rows : (rows others : List Row) (image : List ℕ) → rows_of image ≡ holds rows → rows_of image ≡ holds others → rows ≡ others
@@ -159,7 +139,7 @@ module _ (k pick openings : ℕ) (a : Archive) (d e : Stopping MemDisk) (r : Sta
     pub stands_there : StandsOn stopping_medium book f a.rows
     stands_there =
         let same = same_rows stands.0 a.rows r.image (stands.2 r.image r.seen) r.rows.rows_are in
-        stands_stays book e f a.rows (subst (λ (rows : List Row). StandsOn stopping_medium book e rows) same stands.1) stays
+        stands_stays stopping_medium book e f a.rows (subst (λ (rows : List Row). StandsOn stopping_medium book e rows) same stands.1) stays
 
     reads_then : stopping_medium.seen e ≡ Some (remade r.image)
     reads_then = reads ∙ ap (map_told remade) r.seen

@@ -6,17 +6,16 @@ use Rattle.station_base.specs.declared.row.Row.{Row}
 use Rattle.settings_file.specs.StationSettings.{StationSettings}
 use Rattle.causes.specs.declared.stored.Stored.{Stored}
 use Rattle.causes.specs.declared.stored.Stored.TheVariants as stored
-use Rattle.disk_model.specs.Disk.{IsDurable, Stays}
+use Rattle.disk_model.specs.Disk.{Stays}
 use Rattle.disk_model.specs.StoppingState.{StoppingState}
 use Rattle.disk_model.specs.Stopping.{stopping_medium, stopping_state_of}
 use Rattle.disk_model.specs.declared.mem_disk.MemDisk.{MemDisk}
 use Rattle.disk_model.specs.declared.stopping.Stopping.{Stopping}
-use Rattle.gated_log.proofs.Versions.{has_closed}
+use Rattle.gated_log.proofs.RecoveryFinds.{still_durable}
 use Rattle.packed_rows.specs.Rows.{slot_total}
 use Rattle.packed_rows.specs.Rising.{last_row_stamp}
 use Rattle.weather_book.specs.Stands.{HasRows, StandsOn}
-use Rattle.weather_book.proofs.Adds.{has_rows}
-use Rattle.weather_book.specs.declared.book.Book.{Book}
+use Rattle.weather_book.proofs.BookOnDisk.{read_has, stands_stays}
 use Rattle.dmpaft_pump.specs.Keeper.{Handed}
 use Rattle.station_session.specs.declared.report.Report.{Report}
 use Rattle.station_session.specs.declared.session.Session.{Session}
@@ -49,7 +48,7 @@ use Rattle.station_replay.proofs.Bridge.{session_law}
 use Rattle.station_replay.proofs.PassedStops.{calls_keep, chain_takes, round_passes}
 use Rattle.station_replay.proofs.RowsOfRounds.{all_read, kept_read, rows_after, total_few}
 use Rattle.station_replay.proofs.Stops.{chain_stopped, has_armed, has_length, round_goes, round_stops, round_sure, slots_is, changes_after, total_grows}
-use Rattle.round_play.proofs.Opened.{left_by, stands_stays, synced_seen}
+use Rattle.round_play.proofs.Opened.{left_by, synced_seen}
 use Rattle.round_play.specs.Opening.{stopping_limits}
 use Rattle.round_play.specs.Played.{IsPlayedOut, MayPlay, PlaysBy}
 use Rattle.round_play.specs.Resting.{AtRest, SessionGoesOn}
@@ -74,14 +73,6 @@ inner_stays (Some k) s = refl
 goes_stays : (stop : Option Stop) (s : StoppingState) → (armed_with stop s).stopped ≡ s.stopped
 goes_stays None s = refl
 goes_stays (Some k) s = refl
-
-pub durable_stays : (d e : Stopping MemDisk) → Stays stopping_medium d e → IsDurable stopping_medium d → IsDurable stopping_medium e
-durable_stays d e stays durable c now =
-    stays.reads ∙ durable c (subst (λ (m : ℕ). stopping_medium.left d m c) stays.at (stays.nothing_else (stopping_medium.moment e) c now))
-
--- what the disk reads has the rows of the book on it
-pub reads_rows : (book : Book) (d : Stopping MemDisk) (rows : List Row) (image : List ℕ) → StandsOn stopping_medium book d rows → stopping_medium.seen d ≡ Some image → HasRows rows image
-reads_rows book d rows image st is = has_rows st.slots rows image st.rows_are (has_closed st.log.before st.slots image st.log.chain st.log.current (st.log.rests.reads image is))
 
 -- What the code of a round says of each of its steps.
 pub record Steps (fates : code.Fates) (stop : Option Stop) (s0 s2 : Session) (l0 l1 l2 l3 : Sim) (d0 d1 d2 d3 : Stopping MemDisk) (end : RoundEnd) (report : Report) (harmed : ℕ) (unseen : Option Unseen) : Type 0 where
@@ -229,7 +220,7 @@ module _ (fates : code.Fates) (stop : Option Stop) (s0 s2 : Session) (l0 l1 l2 l
       subst (λ x. SimStandsFor l3 (waited (records_left_in x went.line.messages) went.line)) (ap (λ x. x.items) sv.adds.went.mids ∙ c.mids_are) (c.finishes went.line went.stands)
 
   started_rows : StandsOn stopping_medium (book_of s0) d1 s.archive.rows
-  started_rows = stands_stays (book_of s0) d0 d1 s.archive.rows may.session.stands c.stays
+  started_rows = stands_stays stopping_medium (book_of s0) d0 d1 s.archive.rows may.session.stands c.stays
 
   begun_changes : stopping_medium.moment d1 ≡ s.archive.changes
   begun_changes = c.stays.at ∙ may.disk.rests.changes_are
@@ -274,7 +265,7 @@ module _ (fates : code.Fates) (stop : Option Stop) (s0 s2 : Session) (l0 l1 l2 l
       let off = c.went_on q.1.goes in
       let on2 = sv.stores.stands sure started_rows in
       let rows_are = rows_after (session_settings s0) stop 0 s.archive (batches_given sv.tries) sure in
-      let has = reads_rows (book_of s2) d2 (rows_after_batches (session_settings s0) s.archive.rows (batches_given sv.tries)) d2.disk.bytes.items on2 refl in
+      let has = read_has stopping_medium (book_of s2) d2 (rows_after_batches (session_settings s0) s.archive.rows (batches_given sv.tries)) d2.disk.bytes.items on2 refl in
       let takes = chain_takes (session_settings s0) s.archive.rows (batches_given sv.tries) sv.stores.failed (stopping_state_of d1) (stopping_state_of d2) sure sv.stores.went_on.state in
       let keeps = calls_keep (changes_for (session_settings s0) sv.stores.failed s.archive.rows (batches_given sv.tries)) (stopping_state_of d1) (stopping_state_of d2) sv.stores.went_on.state in
       let more = changes_after (session_settings s0) stop 0 s.archive (batches_given sv.tries) sure in
@@ -302,9 +293,9 @@ module _ (fates : code.Fates) (stop : Option Stop) (s0 s2 : Session) (l0 l1 l2 l
         seen = off.stays.reads;
         length_is = q.1.size;
         rows = subst (λ (z : List Row). HasRows z d2.disk.bytes.items) (sym rows_are) has;
-        durable = durable_stays d2 d3 off.stays on2.log.rests.durable;
-        synced = synced_seen d3 d2.disk.bytes.items (durable_stays d2 d3 off.stays on2.log.rests.durable) off.stays.reads;
-        left = left_by d3 (archive_left_after (session_settings s0) stop 0 s.archive (batches_given sv.tries)).rows d2.disk.bytes.items (durable_stays d2 d3 off.stays on2.log.rests.durable) off.stays.reads (subst (λ (z : List Row). HasRows z d2.disk.bytes.items) (sym rows_are) has);
+        durable = still_durable stopping_medium d2 d3 0 off.stays on2.log.rests.durable;
+        synced = synced_seen d3 d2.disk.bytes.items (still_durable stopping_medium d2 d3 0 off.stays on2.log.rests.durable) off.stays.reads;
+        left = left_by d3 (archive_left_after (session_settings s0) stop 0 s.archive (batches_given sv.tries)).rows d2.disk.bytes.items (still_durable stopping_medium d2 d3 0 off.stays on2.log.rests.durable) off.stays.reads (subst (λ (z : List Row). HasRows z d2.disk.bytes.items) (sym rows_are) has);
         room = record {
           changes = omega (arith, limit_changes, at_changes, takes.changes, changes_same, may.disk.room.changes, more);
           bytes = omega (arith, limit_bytes, at_bytes, takes.bytes, bytes_same, may.disk.room.bytes, slots_new, slots_old, long, count, few.kept);
@@ -312,7 +303,7 @@ module _ (fates : code.Fates) (stop : Option Stop) (s0 s2 : Session) (l0 l1 l2 l
       } in
       played_out y q.0 un rest limits_are
       (λ still. record {
-        stands = subst (StandsOn stopping_medium (book_of s2) d3) (sym rows_are) (stands_stays (book_of s2) d2 d3 (rows_after_batches (session_settings s0) s.archive.rows (batches_given sv.tries)) on2 off.stays);
+        stands = subst (StandsOn stopping_medium (book_of s2) d3) (sym rows_are) (stands_stays stopping_medium (book_of s2) d2 d3 (rows_after_batches (session_settings s0) s.archive.rows (batches_given sv.tries)) on2 off.stays);
         settings_are = c.leaves.settings;
         most = c.leaves.most ∙ may.session.most;
         fresh = c.leaves.marked ∙ stale_as end _ none ∙ may.session.fresh;

@@ -1,9 +1,8 @@
 -- Reads of a disk at rest.
-use Rattle.std.proofs.Common.{◌≡◌, ◌≢◌, ℕ, ◌+◌, ◌*◌, ◌≤◌, Bool, true, false, List, [], ◌∷◌, length, Some, sym, ap, subst, ◌∙◌, inl, arith, length-append}
+use Rattle.std.proofs.Common.{◌≡◌, ◌≢◌, ℕ, ◌+◌, ◌*◌, ◌≤◌, Bool, true, false, List, ◌∷◌, length, Some, sym, ap, subst, ◌∙◌, arith, length-append}
 use Rattle.std.proofs.lemmas.Option.{same_Some}
 use Rattle.disk_model.specs.Calls.{DiskCall}
 use Rattle.disk_model.specs.Disk.{Stays}
-use Rattle.disk_model.specs.Medium.{Medium}
 use Rattle.disk_model.specs.Stopping.{stopping_medium, stopping_state_of}
 use Rattle.disk_model.specs.StoppingState.{StoppingState, after_stops}
 use Rattle.disk_model.specs.declared.mem_disk.MemDisk.{MemDisk}
@@ -12,15 +11,13 @@ use Rattle.gated_log.specs.Calls.{Looked, any_failed, reads_within}
 use Rattle.gated_log.proofs.CallsMade.{fit, no_changes}
 use Rattle.gated_log.proofs.Chains.{gate_place}
 use Rattle.gated_log.proofs.RecoveryFinds.{still_durable}
-use Rattle.gated_log.specs.declared.version.Version.TheVariants.{Second}
 use Rattle.station_base.specs.declared.row.Row.{Row}
 use Rattle.settings_file.specs.StationSettings.{StationSettings}
 use Rattle.gated_log.specs.Layout.{slot_size}
 use Rattle.weather_book.specs.declared.book.Book.{Book}
 use Rattle.weather_book.specs.Book.{BookStandsFor}
-use Rattle.packed_rows.specs.Rows.{rows_from, slot_total}
-use Rattle.weather_book.specs.Stands.{StandsOn, StandsToReadOn}
-use Rattle.packed_rows.proofs.Versions.{read_second}
+use Rattle.packed_rows.specs.Rows.{slot_total}
+use Rattle.weather_book.specs.Stands.{StandsToReadOn}
 use Rattle.weather_reports.specs.Reported.{AsFailed, ReadsOver}
 use Rattle.weather_reports.specs.declared.end.ReportEnd.{ReportEnd}
 use Rattle.station_session.specs.declared.session.Session.{Session}
@@ -28,7 +25,8 @@ use Rattle.station_session.specs.Session.{book_of}
 use Rattle.station_replay.specs.Keeping.{Archive}
 use Rattle.round_play.specs.Resting.{AtRest, SessionGoesOn, HasLeft}
 use Rattle.round_play.proofs.RecoveryChanges.{by_changes, fails_by_changes}
-use Rattle.round_play.proofs.Opened.{stands_stays, synced_seen}
+use Rattle.weather_book.proofs.BookOnDisk.{can_be_read, stands_stays}
+use Rattle.round_play.proofs.Opened.{synced_seen}
 use Rattle.schedule_replay.specs.Writing.{IsOnlyRead, IsReadable}
 
 -- reads within the length leave the state as it is, and none fails
@@ -40,22 +38,6 @@ reads_done s t len calls goes sure le within is =
       sym (same_Some s t same),
       fails_by_changes len calls s t goes sure le (fit len calls within) is ∙ ap any_failed none,
     )
-
--- where a book stands for rows on a disk, they can be read there
-can_be_read : {D : Type 0} (medium : Medium D) (book : Book) (d : D) (rows : List Row) → StandsOn medium book d rows → StandsToReadOn medium book d rows
-can_be_read medium book d rows stands = record {
-  stands_for = stands.stands_for;
-  version = Second;
-  version_is = λ c told. stands.current;
-  slots = stands.slots;
-  rows_are = ap (λ (xs : List (List ℕ)). rows_from [] 0 0 xs) (read_second stands.slots) ∙ stands.rows_are;
-  log = record {
-    before = stands.log.before;
-    chain = stands.log.chain;
-    count_is = stands.log.count_is;
-    reads = λ c told. let closed = stands.log.rests.reads c told in inl (0 ∷ closed.0, closed.1);
-  };
-}
 
 module _ (old new : Stopping MemDisk) (state : stopping_state_of new ≡ stopping_state_of old) (stays : Stays stopping_medium old new) where
   still_rests : (openings : ℕ) (a : Archive) → AtRest openings a old → AtRest openings a new
@@ -86,7 +68,7 @@ module _ (old new : Stopping MemDisk) (state : stopping_state_of new ≡ stoppin
     stays = stays;
     rests = still_rests;
     goes_on = λ settings rows session goes. record {
-      stands = stands_stays (book_of session) old new rows goes.stands stays;
+      stands = stands_stays stopping_medium (book_of session) old new rows goes.stands stays;
       settings_are = goes.settings_are;
       most = goes.most;
       fresh = goes.fresh;

@@ -12,7 +12,7 @@ use Rattle.settings_file.specs.StationSettings.{StationSettings}
 use Rattle.weather_book.specs.declared.book.Book.{Book}
 use Rattle.weather_book.specs.Book.{BookStandsFor, IsSameBook, len_of, last_stamp_of, most_rows_of, book_is_stale}
 use Rattle.packed_rows.specs.Rising.{last_row_stamp}
-use Rattle.weather_book.specs.Stands.{StandsOn}
+use Rattle.weather_book.proofs.BookOnDisk.{same_stands}
 use Rattle.causes.specs.declared.stored.Stored.{Stored}
 use Rattle.causes.specs.declared.stored.Stored.TheVariants.{Done}
 use Rattle.dmpaft_pump.specs.declared.outcome.Tally.{Tally}
@@ -68,10 +68,7 @@ stale_by round.Stale b = refl
 stale_by round.OutOfMemory b = refl
 
 module _ {D : Type 0} (medium : Medium D) where
-  shows : (old b : Book) (disk : D) (rows : List Row) → IsSameBook old b → StandsOn medium old disk rows → StandsOn medium b disk rows
-  shows old b disk rows same st = record { stands_for = same.rows rows st.stands_for; current = same.version ∙ st.current; slots = st.slots; rows_are = st.rows_are; log = st.log }
-
-  -- the same, of a book that stands for the same
+  -- what is stored behind a book is stored behind one that is the same
   stores_from : (settings : StationSettings) (old b : Book) (disk : D) (marks : List Mark) (rows : List Row) (ss : Handed) (l : Holding D) → IsSameBook old b → marks ≡ []
       → Stores medium settings rows ss (holding b disk marks) l → Stores medium settings rows ss (holding old disk []) l
   stores_from settings old b disk marks rows ss l same none x = record {
@@ -82,11 +79,11 @@ module _ {D : Type 0} (medium : Medium D) where
     moved = x.moved;
     went_on = x.went_on;
     noted = x.noted ∙ ap (λ (m : List Mark). m ++ marks_for (medium.moment disk) (length rows) ss) none;
-    images = λ st. x.images (shows old b disk rows same st);
-    gate = λ e st. x.gate e (shows old b disk rows same st);
-    marked = λ st mk. x.marked (shows old b disk rows same st) (subst (λ (m : List Mark). Rattle.station_session.specs.Marks.MarksHold medium disk rows m) (sym none) tt);
-    stands = λ ne st. x.stands ne (shows old b disk rows same st);
-    still = λ e st. x.still e (shows old b disk rows same st);
+    images = λ st. x.images (same_stands medium old b disk rows same st);
+    gate = λ e st. x.gate e (same_stands medium old b disk rows same st);
+    marked = λ st mk. x.marked (same_stands medium old b disk rows same st) (subst (λ (m : List Mark). Rattle.station_session.specs.Marks.MarksHold medium disk rows m) (sym none) tt);
+    stands = λ ne st. x.stands ne (same_stands medium old b disk rows same st);
+    still = λ e st. x.still e (same_stands medium old b disk rows same st);
   }
 
 module _ {L D : Type 0} {traffic : Traffic L} {medium : Medium D} where

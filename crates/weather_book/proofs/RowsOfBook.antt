@@ -1,13 +1,10 @@
 -- The rows that a book stands for.
-use Rattle.std.proofs.Common.{◌≡◌, true, List, sym, ◌∙◌, arith, None}
+use Rattle.std.proofs.Common.{◌≡◌, true, List, arith, None}
 use Rattle.std.proofs.Math.Logic.{∥∥₁_map}
-use Rattle.disk_model.specs.Disk.{Stays}
-use Rattle.disk_model.specs.Medium.{Medium}
 use Rattle.station_base.specs.declared.row.Row.{Row}
 use Rattle.weather_book.specs.declared.book.Book.{Book}
 use Rattle.weather_book.specs.Book.{BookStandsFor, slots_of_book}
 use Rattle.weather_book.specs.Kept.{KeepsOf}
-use Rattle.weather_book.specs.Stands.{StandsToReadOn}
 use Rattle.packed_rows.specs.Rising.{rows_rise}
 use Rattle.packed_rows.specs.Rows.{slot_total}
 use Rattle.weather_book.proofs.KeptLaws.{total_kept}
@@ -19,23 +16,6 @@ stands_by book rows keeps = record { keeps = keeps; held_is = keeps.count_is; st
 -- so there are such rows
 pub some_rows : (book : Book) → ∥ ((rows : List Row) × BookStandsFor book rows) ∥₁
 some_rows book = ∥∥₁_map book.kept.some (λ p. (p.0, stands_by book p.0 p.1))
-
--- they can be read where nothing was changed since
-pub to_read_stays : {D : Type 0} (medium : Medium D) (book : Book) (d e : D) (rows : List Row) →
-    StandsToReadOn medium book d rows → Stays medium d e → StandsToReadOn medium book e rows
-to_read_stays medium book d e rows stands stays = record {
-  stands_for = stands.stands_for;
-  version = stands.version;
-  version_is = λ c told. stands.version_is c (sym stays.reads ∙ told);
-  slots = stands.slots;
-  rows_are = stands.rows_are;
-  log = record {
-    before = stands.log.before;
-    chain = stands.log.chain;
-    count_is = stands.log.count_is;
-    reads = λ c told. stands.log.reads c (sym stays.reads ∙ told);
-  };
-}
 
 -- the stamps of its rows rise
 pub stands_rise : (book : Book) (rows : List Row) → BookStandsFor book rows → rows_rise None rows ≡ true

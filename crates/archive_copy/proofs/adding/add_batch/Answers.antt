@@ -1,5 +1,6 @@
 use Rattle.std.proofs.Common.{◌≤◌, ◌+◌}
-use Rattle.archive_copy.proofs.Kept.{late_or_not, same_stands}
+use Rattle.weather_book.proofs.BookOnDisk.{same_stands}
+use Rattle.archive_copy.proofs.Kept.{late_or_not}
 use Rattle.archive_copy.proofs.adding.add_batch.Goals as goal
 
 pub returns-in-Done-clause-stands : goal.returns-in-Done-clause-stands

@@ -13,7 +13,7 @@ use Rattle.archive_copy.specs.Calls.{slots_end}
 use Rattle.archive_copy.proofs.Looks.{some_look}
 use Rattle.packed_rows.specs.Rising.{stamp_exceeds, last_stamp_after}
 use Rattle.packed_rows.proofs.RowLaws.{last_join, rise_join, rise_tells}
-use Rattle.weather_book.proofs.RowsOfBook.{to_read_stays}
+use Rattle.weather_book.proofs.BookOnDisk.{to_read_stays}
 use Rattle.archive_copy.proofs.NextRows.{breaks_batch, next_row, one_rises, up_to_five}
 use Rattle.archive_copy.proofs.batch.next_batch.Goals as goal
 

@@ -7,7 +7,7 @@ use Rattle.weather_book.proofs.Pieces.{more_reads}
 use Rattle.archive_copy.specs.Calls.{slots_end}
 use Rattle.archive_copy.proofs.Looks.{some_look}
 use Rattle.packed_rows.specs.Days.{day_rest}
-use Rattle.weather_book.proofs.RowsOfBook.{to_read_stays}
+use Rattle.weather_book.proofs.BookOnDisk.{to_read_stays}
 use Rattle.archive_copy.proofs.Fronts.{all_in_front, first_unlike, front_grows, none_there}
 use Rattle.archive_copy.proofs.comparing.compare.Goals as goal
 

@@ -6,7 +6,7 @@ use Rattle.weather_book.specs.Book.{len_of}
 use Rattle.packed_rows.specs.Rows.{RowsOf, rows_of, slot_total}
 use Rattle.weather_book.proofs.Pieces.{more_reads}
 use Rattle.weather_book.specs.Stands.{HasRows, StandsOn}
-use Rattle.weather_book.proofs.RowsOfBook.{to_read_stays}
+use Rattle.weather_book.proofs.BookOnDisk.{can_be_read, crash_rows, read_has, stands_stays, to_read_stays}
 use Rattle.archive_copy.specs.declared.end.CopyEnd.TheVariants.{FromDamaged, FromFault, NotPrefix, ToFault}
 use Rattle.archive_copy.specs.Adding.{HasSome, batch_count, next_rows, to_add}
 use Rattle.archive_copy.specs.Answers.{CanBeAddedTo, CanBeCopied}
@@ -16,7 +16,7 @@ use Rattle.archive_copy.proofs.Together.{calls_added, calls_looked, calls_none, 
 use Rattle.weather_book.proofs.RowsOfBook.{slots_same}
 use Rattle.archive_copy.proofs.Kept.{leaves_join}
 use Rattle.archive_copy.proofs.NextRows.{front_rest}
-use Rattle.archive_copy.proofs.BookAtRest.{adds_none, can_be_read, crash_rows, leaves_stays, reads_rows, same_rows, same_some, stands_stays}
+use Rattle.archive_copy.proofs.BookAtRest.{adds_none, leaves_stays, same_rows, same_some}
 use Rattle.archive_copy.proofs.copying.copy.Goals as goal
 
 pub returns-in-Err-clause-answers : goal.returns-in-Err-clause-answers
@@ -94,7 +94,7 @@ returns-in-Front-clause-copied g c n is x told y told2 =
       theirs = theirs;
       holds_them = from_stands.2 x told;
       count = done_count c.add_missing.result n _ is c.add_missing.ensures.kind ∙ from_stands.1.stands_for.held_is;
-      reads = reads_rows m c.add_missing.new.mine c.add_missing.new.to theirs stands;
+      reads = λ image is. (read_has m c.add_missing.new.mine c.add_missing.new.to theirs image stands is).rows_are;
       crash = crash_rows m c.add_missing.new.mine c.add_missing.new.to theirs stands;
     }
 

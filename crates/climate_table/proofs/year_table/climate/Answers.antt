@@ -7,7 +7,7 @@ use Rattle.packed_rows.specs.Days.{days_of}
 use Rattle.packed_rows.specs.Rows.{slot_total}
 use Rattle.weather_book.proofs.Looks.{no_look}
 use Rattle.weather_book.proofs.Pieces.{more_reads}
-use Rattle.weather_book.proofs.RowsOfBook.{to_read_stays}
+use Rattle.weather_book.proofs.BookOnDisk.{to_read_stays}
 use Rattle.weather_reports.proofs.Progress.{Comes, comes_none, comes_on, comes_fails}
 use Rattle.weather_reports.proofs.Ends.{ends_early, ends_whole, one_failed}
 use Rattle.weather_reports.proofs.NextDay.{day_passed, day_taken}

@@ -6,7 +6,7 @@ use Rattle.packed_rows.specs.Days.{days_of}
 use Rattle.packed_rows.specs.Rows.{slot_total}
 use Rattle.weather_book.proofs.Looks.{no_look}
 use Rattle.weather_book.proofs.Pieces.{more_reads}
-use Rattle.weather_book.proofs.RowsOfBook.{to_read_stays}
+use Rattle.weather_book.proofs.BookOnDisk.{to_read_stays}
 use Rattle.weather_reports.specs.Report.{day_table_lines, is_among}
 use Rattle.weather_reports.proofs.Behind.{leaves_behind, part_behind, wrote_as, wrote_more, wrote_nothing}
 use Rattle.weather_reports.proofs.Progress.{comes_none}

@@ -7,7 +7,7 @@ use Rattle.packed_rows.specs.Days.{days_of}
 use Rattle.packed_rows.specs.Rows.{slot_total}
 use Rattle.weather_book.proofs.Looks.{no_look}
 use Rattle.weather_book.proofs.Pieces.{more_reads}
-use Rattle.weather_book.proofs.RowsOfBook.{to_read_stays}
+use Rattle.weather_book.proofs.BookOnDisk.{to_read_stays}
 use Rattle.weather_reports.specs.Begun.{begun_lines, months_after}
 use Rattle.weather_reports.specs.Report.{is_among, month_lines, month_table_lines}
 use Rattle.weather_reports.proofs.BegunMonths.{few_begun, few_joined, few_still, few_together, month_apart, month_begins, month_ends, month_joined}

@@ -10,7 +10,7 @@ use Rattle.packed_rows.specs.Days.{day_rest}
 use Rattle.packed_rows.specs.Rows.{slot_total}
 use Rattle.weather_book.proofs.Looks.{no_look}
 use Rattle.weather_book.proofs.Pieces.{more_reads}
-use Rattle.weather_book.proofs.RowsOfBook.{to_read_stays}
+use Rattle.weather_book.proofs.BookOnDisk.{to_read_stays}
 use Rattle.weather_reports.proofs.Behind.{leaves_behind, part_behind, wrote_more, wrote_nothing}
 use Rattle.weather_reports.proofs.Progress.{comes_none}
 use Rattle.weather_reports.proofs.Ends.{ends_early, ends_whole, finishes_behind, none_failed, one_failed}

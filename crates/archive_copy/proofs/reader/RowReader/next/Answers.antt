@@ -3,7 +3,7 @@ use Rattle.std.specs.Prelude.{slice_get}
 use Rattle.std.proofs.lemmas.Option.{slice_get-get_or}
 use Rattle.station_base.specs.RowLine.{IsPrintable}
 use Rattle.station_base.specs.declared.row.Row.{Row}
-use Rattle.weather_book.proofs.RowsOfBook.{to_read_stays}
+use Rattle.weather_book.proofs.BookOnDisk.{to_read_stays}
 use Rattle.archive_copy.proofs.ReadAhead.{ahead_used}
 use Rattle.archive_copy.proofs.reader.RowReader.next.Goals as goal
 
