@@ -457,6 +457,8 @@ expect 'a salvage that is installed' 0 '*new.archive has its first 15 rows, *' \
     prefix/bin/jofitrana-salvage --program "$program" cut.archive new.archive
 if /usr/bin/python3 -c 'import jinja2, matplotlib' 2>/dev/null; then
     expect 'a page that is installed' 1 'page: a: disk fault' prefix/bin/jofitrana-page --program "$program" a folder
+elif /usr/bin/python3 -c 'import jinja2' 2>/dev/null; then
+    expect 'a page that is installed' 1 'chart: *python3-matplotlib' prefix/bin/jofitrana-page a folder
 else
     expect 'a page that is installed' 1 'page: *python3-jinja2' prefix/bin/jofitrana-page a folder
 fi
