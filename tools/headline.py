@@ -1,11 +1,12 @@
 #!/usr/bin/env python3
 """Writes docs/HEADLINE.md and docs/headline/: the headline in plain words, and all that must be read to believe it.
 
-    tools/headline.py            writes the pages
+    tools/headline.py            writes the pages, and their counts into README.md
     tools/headline.py --check    writes nothing; the status is 1 if a page is not what would be written
     tools/headline.py --bare     prints each definition on these pages that has no comment
 
-The plain words stand in tools/headline/observer.md, and all else comes from the definitions and the examples.
+The plain words stand in tools/headline/observer.md, which pages there are in tools/headline/pages.toml, and all else comes
+from the definitions and the examples. What is cited of the toolchain's ported crates is counted where `rt` stands.
 """
 import re
 import sys
@@ -14,100 +15,120 @@ from typing import NamedTuple
 
 sys.dont_write_bytecode = True  # nothing is left beside the scripts
 
+import kit_files
+import page_plan
 import reading_page
 import spec_files
-from reading_list import Walk
-from spec_files import Name
+from printed import Printed
+from reading_counts import amount, counts_of, joined, of_kit, of_repository
+from reading_list import Reached
 
 sys.setrecursionlimit(10_000)  # a definition cites others some hundred deep
 DOCS = spec_files.TOP / 'docs'
 SOURCE = spec_files.TOP / 'tools/headline/observer.md'
-PROGRAM = spec_files.TOP / 'crates/station_top/src/program.rt'
+README = spec_files.TOP / 'README.md'
 EXAMPLE = spec_files.TOP / 'examples/headline'
-CLAUSES = ('requires disk_room', 'requires second_room', 'ensures command', 'ensures promised')
+COUNTED = re.compile(r'(<!-- counts of (\w+) by (\w+): tools/headline.py -->\n).*?(<!-- end of counts -->)', re.S)
 DIRECTIVE = re.compile(r'\{\{(\w+)(?: (\w+))?\}\}')
-WORDS_OF_CLAUSE = re.compile(r"[A-Za-z_][\w'-]*")
-CASE = re.compile(r'^(?:\w+ [^:]*=(?:$| )|  \w+ :|    (?:else )?if |    else )')
-
-# Definitions with a case for each command, of which a reader needs the one.
-BY_COMMAND = (Name('station_top', 'Run', 'performs'), Name('station_top', 'Run', 'Promises'),
-              Name('command_words', 'Command', 'command_of_words'), Name('command_words', 'Command', 'CommandLine'))
+UP = '../../'
 
 
-class Command(NamedTuple):
-    """A command of the program, and what its page says first."""
-    word: str
-    usage: str
-    about: str
-
-    @property
-    def page(self):
-        """The page of what must be read of it."""
-        return DOCS / 'headline' / f'{self.word.upper()}.md'
+class Listed(NamedTuple):
+    """A page with what must be read of it in all, what of that it prints, and what it cites first of the toolchain."""
+    page: page_plan.Page
+    whole: Reached
+    fresh: Reached
+    kit: Reached
+    parts: tuple
+    opens: bool
 
 
-COMMANDS = (
-    Command('replay', 'replay SETTINGS SCHEDULE', 'The whole headline.'),
-    Command('station', 'station SETTINGS ARCHIVE ADDRESS', 'A round over a real line and a real disk.'),
-    Command('report', 'report ARCHIVE KIND FIRST LAST', 'The rows, days or months of an archive.'),
-)
+def listed_pages(files):
+    """All pages in their order, each with its parts as texts and counts."""
+    printed, known, contracts, found = Printed(), Printed(), set(), []
+    for page in page_plan.planned_pages():
+        parts = []
+        for part in page.parts:
+            reached = page_plan.reached_by(files, page, part)
+            fresh = printed.fresh(of_repository(reached))
+            places = printed.elsewhere(reached, page.name)
+            printed.add(fresh, reading_page.place_in(page, part))
+            parts.append((part, reached, fresh, reading_page.part_text(files, part, fresh, places, UP)))
+        whole = joined([reached for _, reached, *_ in parts])
+        kit = known.fresh(of_kit(whole))
+        known.add(kit, lambda crate, definition, page=page: page.name)
+        fresh = joined([fresh for *_, fresh, _ in parts])
+        found.append(Listed(page, whole, fresh, kit, tuple(parts), page.contract not in contracts))
+        contracts.add(page.contract)
+    return found
 
 
-def clauses():
-    """The clauses of `run` that say what it asks for, and what a command does and promises, with their comments."""
-    text = PROGRAM.read_text(encoding='utf-8')
-    contract = text[text.index('pub fn run'):].partition('\n{\n')[0]
-    parts = re.split(r'\n(?=\n|    (?:requires|ensures) )', contract)
-    kept, comment = [], ''
-    for part in parts:
-        lines = part.strip('\n').split('\n')
-        if lines[0].lstrip().startswith('//'):
-            comment = part.strip('\n')
-            continue
-        if lines[0].strip().startswith(CLAUSES):
-            kept.append('\n'.join(filter(None, (comment, part.strip('\n')))))
-        comment = ''
-    return '\n'.join(kept)
+def parts_table(listed):
+    """How much each part of a page has."""
+    rows = ['| Part | Definitions here | Lines | Types and constants of the code | Their lines | In all | Lines |',
+            '|---|---|---|---|---|---|---|']
+    for part, whole, fresh, _ in listed.parts:
+        here, all_of_it = counts_of(fresh), counts_of(of_repository(whole))
+        rows.append(f'| {part.title} | {here.definitions:,} | {here.lines:,} | {here.types:,} | {here.type_lines:,} '
+                    f'| {all_of_it.definitions:,} | {all_of_it.lines:,} |')
+    return '\n'.join(rows) + '\n'
 
 
-def narrowed_to(word):
-    """A function that leaves of a definition by commands the case of one."""
-    def narrow(definition):
-        units = []
-        for line in definition.lines:
-            if not units or CASE.match(line):
-                units.append([line])
-            else:
-                units[-1].append(line)
-        kept = []
-        for number, unit in enumerate(units):
-            opens = number == 0 or len(unit) == 1 and unit[0].endswith('=')
-            if opens or re.search(rf'\b{word}(_in)?\b', unit[0]):
-                kept += unit
-            elif kept[-1].strip() != '..':
-                kept.append(unit[0][:len(unit[0]) - len(unit[0].lstrip())] + '..')
-        return definition._replace(lines=tuple(kept))
-    return narrow
+def kit_part(listed):
+    """What the page is the first to cite of the toolchain's ported crates, file by file. It is not copied."""
+    rows = {}
+    for name, one in listed.kit.definitions.items():
+        folder = kit_files.folder_of(name.crate) / 'specs'
+        path = folder.joinpath(*name.module.split('.')).with_suffix('.antt')
+        rows.setdefault(path, []).append((name.word, one.size))
+    for item in listed.kit.types.values():
+        rows.setdefault(item.path, []).append((item.word, item.size))
+    if not rows:
+        return ''
+    lines = ['## Of the toolchain', '', reading_page.filled(
+        'These definitions belong to ported crates of the toolchain. They have to be read too, are counted here, and are '
+        'not copied. `KIT` is the folder of the toolchain, in which `bin/rt` stands.'),
+        '| File | Definitions and types | Lines | Which |', '|---|---|---|---|']
+    for path, found in sorted(rows.items()):
+        words = ', '.join(f'`{word.strip("◌")}`' for word, _ in found)
+        lines.append(f'| `{kit_files.shown(path)}` | {len(found)} | {sum(size for _, size in found)} | {words} |')
+    return '\n'.join(lines) + '\n'
 
 
-def reached_by(files, command):
-    """All that the clauses of `run` cite of a command."""
-    walk = Walk(files, dict.fromkeys(BY_COMMAND, narrowed_to(command.word)))
-    imports = spec_files.imports_of(PROGRAM.read_text(encoding='utf-8'))
-    for word in WORDS_OF_CLAUSE.findall(clauses()):
-        if word in imports:
-            walk.visit(imports[word])
-    return walk.reached
+def opening(listed, first):
+    """What stands first on a page."""
+    page, here, whole = listed.page, counts_of(listed.fresh), counts_of(of_repository(listed.whole))
+    place = kit_files.shown(page.contract.path)
+    said = [page.about + ' [HEADLINE](../HEADLINE.md) says it in plain words, and explains the '
+            '[signs](../HEADLINE.md#how-to-read-a-definition). `tools/headline.py` makes this page: do not edit it.']
+    clauses = f'the {page.contract.count} clauses of [`{page.contract.function}`]({UP}{place})'
+    if not listed.opens:
+        clauses += f', which stand on [{first}.md]({first}.md)'
+    said.append(f'It begins with {clauses}. Printed here are {amount(here)}. With those that stand on other pages it takes '
+                f'{amount(whole)}. They name {len(listed.whole.toolchain)} words of the standard library of the toolchain, '
+                'which stand on no page.')
+    blocks = [reading_page.filled(text) for text in said]
+    if listed.opens:
+        blocks.append(reading_page.block('', page.contract.text))
+    return '\n'.join(blocks + [parts_table(listed)])
+
+
+def page_text(listed, first):
+    """The text of a page."""
+    parts = [f'# {listed.page.title}\n', opening(listed, first), *(text for *_, text in listed.parts), kit_part(listed)]
+    return '\n'.join(filter(None, parts))
 
 
 def counts_table(lists):
-    """How much must be read of each command."""
-    rows = ['| Command | Definitions | Files | Crates | Lines with comments | Types and constants of the code | Their lines |',
-            '|---|---|---|---|---|---|---|']
-    for command, reached in lists.items():
-        counts = reading_page.counts_of(reached)
-        cells = ' | '.join(map('{:,}'.format, counts))
-        rows.append(f'| [`{command.word}`](headline/{command.page.name}) | {cells} |')
+    """How much must be read of each page."""
+    rows = ['| Page | Of what | Definitions | Lines with comments | Types and constants of the code | Their lines '
+            '| In all: definitions | Lines | Of the toolchain | Lines |', '|---|---|---|---|---|---|---|---|---|---|']
+    for one in lists:
+        here, whole, kit = counts_of(one.fresh), counts_of(of_repository(one.whole)), counts_of(one.kit)
+        numbers = (here.definitions, here.lines, here.types, here.type_lines, whole.definitions, whole.lines,
+                   kit.definitions + kit.types, kit.lines + kit.type_lines)
+        cells = ' | '.join(map('{:,}'.format, numbers))
+        rows.append(f'| [{one.page.name}](headline/{one.page.path.name}) | {one.page.subject} | {cells} |')
     return '\n'.join(rows)
 
 
@@ -117,13 +138,13 @@ def example(kind):
 
 
 def named(word, lists):
-    """A name of a definition that the plain page speaks of, which has to be one that a command reaches."""
-    if not any(name.word == word for reached in lists.values() for name in reached.definitions):
+    """A name of a definition that the plain page speaks of, which has to be one that a page reaches."""
+    if not any(name.word == word for one in lists for name in one.whole.definitions):
         raise SystemExit(f'{SOURCE}: no page has a definition {word}')
     return f'`{word}`'
 
 
-def filled(source, lists):
+def plain_page(source, lists):
     """The plain page, each `{{..}}` of its source filled in."""
     def fill(found):
         kind, word = found.groups()
@@ -138,64 +159,70 @@ def filled(source, lists):
     return DIRECTIVE.sub(fill, source)
 
 
-def opening(command, reached, earlier):
-    """What stands first on the page of a command."""
-    counts = reading_page.counts_of(reached)
-    earlier_pages = ' and '.join(f'[{other.page.name}]({other.page.name})' for other in earlier)
-    lines = [f'{command.about} [HEADLINE.md](../HEADLINE.md) says it in plain words.',
-             '`tools/headline.py` makes this page: do not edit it.', '',
-             f'The clauses of `station_top::run` about `{command.usage}` reach {counts.definitions:,} definitions in '
-             f'{counts.files} files of',
-             f'{counts.crates} crates, {counts.lines:,} lines with comments, and {counts.types} types and constants '
-             f'of the code, {counts.type_lines} lines.', '',
-             reading_page.block('', clauses()),
-             'The crates come from the highest to the lowest. Each definition stands before those that it cites.',
-             'Other definitions of a file are left out, and so is each case of another command (`..`). Besides, they name',
-             f'{len(reached.toolchain)} words of the toolchain\'s libraries, which stand on no page.', '']
-    if earlier:
-        lines[-1:] = [f'What stands on {earlier_pages} is only named here.', '']
-    return '\n'.join(lines)
+def counted_readme(text, lists):
+    """README with the counts of a page as they are."""
+    by_name = {one.page.name: one for one in lists}
+
+    def fill(found):
+        one, bridge = by_name[found[2]], by_name[found[3]]
+        both = joined([one.whole, bridge.parts[0][1]])
+        here, whole = counts_of(one.fresh), counts_of(of_repository(one.whole))
+        program, kit = counts_of(of_repository(both)), counts_of(of_kit(both))
+        said = (f'[Its page](docs/headline/{one.page.path.name}) has {here.definitions:,} definitions in {here.lines:,} lines '
+                f'to read. With those on pages before it there are {whole.definitions:,} in {whole.lines:,}, and from the words '
+                f'of the command line on {program.definitions:,} in {program.lines:,}, beside {kit.definitions:,} in '
+                f'{kit.lines:,} of crates that the toolchain brings.')
+        return found[1] + reading_page.filled(said) + found[4]
+    return COUNTED.sub(fill, text)
 
 
-def pages():
+def faults(lists):
+    """The pages that have more lines of definitions than they may have, and those of which the plan does not know."""
+    for one in lists:
+        lines = counts_of(one.fresh).lines
+        if one.page.most_lines and lines > one.page.most_lines:
+            yield f'{one.page.name}.md has {lines:,} lines of definitions: more than {one.page.most_lines:,}'
+    for path in sorted(set(page_plan.FOLDER.glob('*.md')) - {one.page.path for one in lists}):
+        yield f'{kit_files.shown(path)} is no page of {kit_files.shown(page_plan.PLAN)}'
+
+
+def pages(lists):
     """The text of each page by its path."""
-    files = spec_files.read_specs()
-    lists = {command: reached_by(files, command) for command in COMMANDS}
-    texts = {DOCS / 'HEADLINE.md': filled(SOURCE.read_text(encoding='utf-8'), lists)}
-    for number, command in enumerate(COMMANDS):
-        earlier = COMMANDS[:number]
-        texts[command.page] = reading_page.page(
-            f'What must be read to believe `{command.word}`', opening(command, lists[command], earlier),
-            files, lists[command], [lists[other] for other in earlier], '../../')
+    texts = {DOCS / 'HEADLINE.md': plain_page(SOURCE.read_text(encoding='utf-8'), lists),
+             README: counted_readme(README.read_text(encoding='utf-8'), lists)}
+    first = {}
+    for one in lists:
+        place = first.setdefault(one.page.contract, one.page.name)
+        texts[one.page.path] = page_text(one, place)
     return texts
 
 
-def bare():
+def bare(lists):
     """The definitions on the pages that have no comment."""
-    files = spec_files.read_specs()
-    for command in COMMANDS:
-        for name, one in reached_by(files, command).definitions.items():
-            if not one.comment:
-                yield f'{command.word} {name.crate} {name.module} {name.word}'
+    for one in lists:
+        for name, definition in one.fresh.definitions.items():
+            if not definition.comment:
+                yield f'{one.page.name} {name.crate} {name.module} {name.word}'
 
 
 def main(words):
-    if words == ['--bare']:
-        print('\n'.join(bare()))
-        return 0
-    if words not in ([], ['--check']):
+    if words not in ([], ['--check'], ['--bare']):
         print(__doc__.split('\n\n')[1], file=sys.stderr)
         return 2
-    made = pages()
+    lists = listed_pages(kit_files.with_ported(spec_files.read_specs()))
+    if words == ['--bare']:
+        print('\n'.join(bare(lists)))
+        return 0
+    made, found = pages(lists), list(faults(lists))
+    print(*found, sep='\n', end='\n' if found else '')
     wrong = [path for path, text in made.items() if not path.exists() or path.read_text(encoding='utf-8') != text]
     for path in wrong:
         if words:
-            shown = path.relative_to(spec_files.TOP)
-            print(f'{shown} is not what tools/headline.py makes: run it, and read what changed')
+            print(f'{kit_files.shown(path)} is not what tools/headline.py makes: run it, and read what changed')
         else:
             path.parent.mkdir(exist_ok=True)
             path.write_text(made[path], encoding='utf-8')
-    return 1 if words and wrong else 0
+    return 1 if found or words and wrong else 0
 
 
 if __name__ == '__main__':

@@ -2,6 +2,7 @@
 import re
 from typing import NamedTuple
 
+import kit_files
 import rust_types
 from spec_files import Name
 
@@ -15,6 +16,7 @@ FIELD = re.compile(r"^\s+(?:pub )?([A-Za-z_][\w'-]*) :(?=\s|$)")
 EQUATION = re.compile(r'^(?!pub |abbrev |unfoldable |record |data |infix)\S')
 EQUALS = re.compile(r'(?<=\s)=(?=\s)')
 OPENING, CLOSING = ('(', '{', '['), (')', '}', ']')
+CITED = {}  # what each definition cites, found once
 
 
 class Reached(NamedTuple):
@@ -97,18 +99,37 @@ class Walk:
         if name.module.startswith('declared.'):
             self.visit_type(rust_types.declared(*name), name)
             return
-        file = self.files.get((name.crate, name.module))
-        owner = file.resolve(name.word) if file and name.word else None
-        if not file and name.crate not in self.crates():
-            self.reached.toolchain.add(name)
+        owner = self.owner(name)
         if not owner or owner in self.reached.definitions:
             return
+        file = self.files[owner.crate, owner.module]
         definition = file.definitions[owner.word]
         if owner in self.narrowed:
             definition = self.narrowed[owner](definition)
         self.reached.definitions[owner] = definition
-        for cited in self.cited(file, definition):
+        if definition not in CITED:
+            CITED[definition] = tuple(dict.fromkeys(self.cited(file, definition)))
+        for cited in CITED[definition]:
             self.visit(cited)
+
+    def owner(self, name):
+        """The definition that a name means, of its module or of one that this brings in; none of the standard library."""
+        file = self.files.get((name.crate, name.module))
+        if name.crate in kit_files.STANDARD:
+            self.reached.toolchain.add(name)
+            return None
+        if not file:  # the module of a data type
+            module, _, word = name.module.rpartition('.')
+            return self.owner(Name(name.crate, module, word)) if module else self.lost(name)
+        if not name.word:
+            return None
+        if not file.resolve(name.word) and name.word in file.imports:
+            return self.owner(file.imports[name.word])
+        return file.resolve(name.word) or self.lost(name)
+
+    def lost(self, name):
+        """Fails: what a reader must read would not be whole."""
+        raise SystemExit(f'{name.crate}.{name.module}: no definition of {name.word} is found there')
 
     def visit_type(self, item, name):
         """Reaches a type of the code, the types of its fields, and the definitions that its lines cite."""
@@ -125,10 +146,6 @@ class Walk:
         for word in dict.fromkeys(PLAIN_WORD.findall(COMMENT.sub('', item.text))):
             if word in imports and not imports[word].module.startswith('declared.'):
                 self.visit(imports[word])
-
-    def crates(self):
-        """The crates of this repository that have definitions."""
-        return {crate for crate, _ in self.files}
 
     def cited(self, file, definition):
         """The names that a definition cites, in order."""
@@ -159,9 +176,8 @@ class Walk:
         name = self.resolved(file, word)
         if not name or name.module.startswith('declared.'):
             return bool(name) and '.TheVariants' in name.module
-        owner = self.files.get((name.crate, name.module))
-        return bool(owner) and any(one.kind == 'data' and name.word in [one.name.word, *one.constructors()]
-                                   for one in owner.definitions.values())
+        owner = self.owner(name) if name.word else None
+        return bool(owner) and self.files[owner.crate, owner.module].definitions[owner.word].kind == 'data'
 
     def resolved(self, file, word):
         """The name that a word of a file means, or None."""

@@ -1,50 +1,45 @@
-"""A page of what must be read, crate by crate from the top: each definition stands before those that it cites."""
+"""The part of a page: types before what speaks of them, and each other definition before those that it cites."""
+import re
 import textwrap
-from typing import NamedTuple
 
+import kit_files
 import spec_files
+from printed import Place
+from renamed import renamed
 
 FENCE = '```'
 WIDTH = 120
+SORT = re.compile(r'Type \d')
+PARAMETERS = re.compile(r'[({][^:(){}]+ : ([^(){}]*)[)}]')
 
 
-class Counts(NamedTuple):
-    """How much there is to read."""
-    definitions: int
-    files: int
-    crates: int
-    lines: int
-    types: int
-    type_lines: int
+def is_type(definition):
+    """Whether it is a type of values: data, or a record that says nothing of any value."""
+    if definition.kind == 'data':
+        return True
+    head = definition.text.partition(' where')[0]
+    return definition.kind == 'record' and all(SORT.fullmatch(sort) for sort in PARAMETERS.findall(head))
 
 
-def counts_of(reached):
-    """The counts of what is reached."""
-    definitions, types = reached.definitions, reached.types.values()
-    return Counts(len(definitions), len({(name.crate, name.module) for name in definitions}),
-                  len({name.crate for name in definitions}), sum(one.size for one in definitions.values()),
-                  len(types), sum(item.size for item in types))
+def block(language, text):
+    """A block of source."""
+    return f'{FENCE}{language}\n{text}\n{FENCE}\n'
 
 
-def without(reached, earlier):
-    """What is reached and stands on no earlier page."""
-    seen, types = set(), set()
-    for other in earlier:
-        seen.update(name for name, one in other.definitions.items() if reached.definitions.get(name) == one)
-        types.update(other.types)
-    return reached._replace(definitions={name: one for name, one in reached.definitions.items() if name not in seen},
-                            types={key: item for key, item in reached.types.items() if key not in types})
+def filled(text, indent=''):
+    """A paragraph, or an entry of a list, in lines that are not too long."""
+    return textwrap.fill(text, WIDTH, subsequent_indent=indent, break_long_words=False, break_on_hyphens=False) + '\n'
 
 
-def crates_of(reached):
-    """The crates of what is reached, the highest first."""
-    found = {name.crate for name in reached.definitions} | {item.crate for item in reached.types.values()}
-    return [crate for crate in reversed(spec_files.crates_in_order()) if crate in found]
+def crates_of(fresh):
+    """The crates of what is printed, the lowest first."""
+    found = {name.crate for name in fresh.definitions} | {item.crate for item in fresh.types.values()}
+    return [crate for crate in spec_files.crates_in_order() if crate in found]
 
 
-def files_of(files, reached, crate):
-    """The files of a crate that are reached, each before those that it brings in, and else in the order of reaching."""
-    modules = list(dict.fromkeys(name.module for name in reached.definitions if name.crate == crate))
+def files_of(files, fresh, crate):
+    """The files of a crate that are reached, each behind those that it brings in, and else in the order of reaching."""
+    modules = list(dict.fromkeys(name.module for name in fresh.definitions if name.crate == crate))
     ordered = []
 
     def visit(module):
@@ -57,62 +52,75 @@ def files_of(files, reached, crate):
 
     for module in reversed(modules):
         visit(module)
-    return [files[crate, module] for module in reversed(ordered) if module in modules]
+    return [files[crate, module] for module in ordered if module in modules]
 
 
-def block(language, text):
-    """A block of source."""
-    return f'{FENCE}{language}\n{text}\n{FENCE}\n'
-
-
-def file_part(file, reached, up):
-    """The definitions of a file that are reached, the last one first."""
-    names = [one.name for one in file.definitions.values() if one.name in reached.definitions]
-    definitions = [reached.definitions[name] for name in reversed(names)]
+def file_part(file, definitions, up):
+    """Some definitions of a file, with what its imports rename."""
     text = '\n\n'.join('\n'.join(one.comment + one.lines) for one in definitions)
-    path = file.path.relative_to(spec_files.TOP)
-    return f'[{file.module}]({up}{path}): {file.heading}\n\n' + block('', text)
+    said = f'[{file.module}]({up}{kit_files.shown(file.path)}) of {file.crate}: {file.heading} {renamed(file, definitions)}'
+    return filled(said.rstrip()) + '\n' + block('', text)
 
 
-def types_part(reached, crate, up):
-    """The types of a crate that are reached, file by file."""
-    items = sorted((item for item in reached.types.values() if item.crate == crate), key=lambda item: str(item.path))
+def code_part(fresh, crate, up):
+    """The types and constants of a crate's code, file by file."""
+    items = sorted((item for item in fresh.types.values() if item.crate == crate), key=lambda item: str(item.path))
     for path in dict.fromkeys(item.path for item in items):
         text = '\n\n'.join(item.text for item in items if item.path == path)
-        shown = path.relative_to(spec_files.TOP)
-        yield f'[{shown.relative_to("crates", crate)}]({up}{shown}), types and constants of the code:\n\n' + block('rust', text)
+        shown = kit_files.shown(path)
+        yield f'[{shown.name}]({up}{shown}), code of {crate}:\n\n' + block('rust', text)
 
 
-def repeated_part(reached, fresh, crate):
-    """The names of a crate's definitions that an earlier page prints."""
-    words = sorted({name.word for name in reached.definitions if name.crate == crate and name not in fresh.definitions})
-    text = f'On an earlier page: {", ".join(f"`{word}`" for word in words)}.'
-    return textwrap.fill(text, WIDTH, break_on_hyphens=False) + '\n' if words else ''
+def chosen(file, fresh, types):
+    """Those definitions of a file that are types, or those that are not, in the order of the file."""
+    return [fresh.definitions[name] for name in (one.name for one in file.definitions.values())
+            if name in fresh.definitions and is_type(fresh.definitions[name]) == types]
 
 
-def crate_part(files, reached, fresh, crate, up):
-    """All of a crate that is reached."""
-    parts = [f'## {crate}\n']
-    parts += [file_part(file, fresh, up) for file in files_of(files, fresh, crate)]
-    parts += types_part(fresh, crate, up)
-    parts.append(repeated_part(reached, fresh, crate))
-    return '\n'.join(filter(None, parts))
+def place_in(page, part):
+    """A function from a crate and a definition of it, or a type of its code, to the place where this part prints it."""
+    def place(crate, definition):
+        if definition and not is_type(definition):
+            return Place(page.name, f'{part.title}: {crate}')
+        return Place(page.name, f'{part.title}: types')
+    return place
 
 
-def crate_rows(reached):
-    """A table of the crates of what is reached, with how much each has."""
-    rows = ['| Crate | Definitions | Lines | Types and constants of the code | Their lines |', '|---|---|---|---|---|']
-    for crate in crates_of(reached):
-        definitions = [one for name, one in reached.definitions.items() if name.crate == crate]
-        items = [item for item in reached.types.values() if item.crate == crate]
-        rows.append(f'| [{crate}](#{crate}) | {len(definitions)} | {sum(one.size for one in definitions)} '
-                    f'| {len(items)} | {sum(item.size for item in items)} |')
-    return '\n'.join(rows) + '\n'
+def types_of(files, part, fresh, up):
+    """The types, those of the lowest crate first."""
+    blocks = []
+    for crate in crates_of(fresh):
+        blocks += code_part(fresh, crate, up)
+        several = [(file, chosen(file, fresh, True)) for file in files_of(files, fresh, crate)]
+        blocks += [file_part(file, types, up) for file, types in several if types]
+    return [f'### {part.title}: types\n'] + blocks if blocks else []
 
 
-def page(title, opening, files, reached, earlier, up):
-    """The page of what is reached, without what earlier pages print."""
-    fresh = without(reached, earlier)
-    parts = [f'# {title}\n', opening, crate_rows(fresh)]
-    parts += [crate_part(files, reached, fresh, crate, up) for crate in crates_of(reached)]
-    return '\n'.join(parts)
+def definitions_of(files, part, fresh, up):
+    """All other definitions, those of the highest crate first, each before those that it cites."""
+    for crate in reversed(crates_of(fresh)):
+        several = [(file, chosen(file, fresh, False)) for file in reversed(files_of(files, fresh, crate))]
+        blocks = [file_part(file, reversed_list, up) for file, found in several if (reversed_list := found[::-1])]
+        if blocks:
+            yield f'### {part.title}: {crate}\n'
+            yield from blocks
+
+
+def elsewhere_part(part, places):
+    """The words that earlier pages print, each page's in one entry."""
+    entries = {}
+    for place, words in places.items():
+        crate = place.heading.rpartition(': ')[2]
+        listed = ', '.join(f'`{word.strip("◌")}`' for word in words)
+        entries.setdefault(place.page, []).append(f'[{crate}]({place.link}) {listed}')
+    listed = ''.join(filled(f'- On {page}.md: {"; ".join(said)}.', '  ') for page, said in entries.items())
+    return f'### {part.title}: on earlier pages\n\n{listed}' if listed else ''
+
+
+def part_text(files, part, fresh, places, up):
+    """A part of a page."""
+    blocks = [f'## {part.title}\n', part.about and filled(part.about)]
+    blocks += types_of(files, part, fresh, up)
+    blocks += definitions_of(files, part, fresh, up)
+    blocks.append(elsewhere_part(part, places))
+    return '\n'.join(filter(None, blocks))

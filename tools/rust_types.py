@@ -4,6 +4,7 @@ from functools import cache
 from pathlib import Path
 from typing import NamedTuple
 
+import kit_files
 import spec_files
 
 ITEM = r'^((?:[ \t]*(?:///|//|#\[)[^\n]*\n)*)((?:pub(?:\([a-z]+\))? )?(?:%s) %s\b)'
@@ -40,7 +41,7 @@ def _text(path):
 
 @cache
 def _sources(crate):
-    return sorted((spec_files.TOP / 'crates' / crate / 'src').rglob('*.rt'))
+    return sorted((kit_files.folder_of(crate) / 'src').rglob('*.rt'))
 
 
 def _body_end(text, start):
@@ -58,8 +59,8 @@ def _body_end(text, start):
     return len(text)
 
 
-def _item(crate, path, word):
-    """The item of this name in a file, with what stands for it in a proof, or None."""
+def item_in(crate, path, word):
+    """The type or constant of this name in a file, with what stands for it in a proof, or None."""
     text = _text(path)
     found = re.search(ITEM % (KINDS, word), text, re.M)
     if not found:
@@ -78,9 +79,9 @@ def declared(crate, module, word):
         return None
     owner = next((number for number, part in enumerate(parts) if part[0].isupper()), None)
     name = word if owner is None or parts[owner] == CONSTANTS else parts[owner]
-    folder = spec_files.TOP / 'crates' / crate / 'src'
+    folder = kit_files.folder_of(crate) / 'src'
     path = folder.joinpath(*parts[:owner]).with_suffix('.rt')
-    return _item(crate, path, name) if path.is_file() and name else None
+    return item_in(crate, path, name) if path.is_file() and name else None
 
 
 def _brought_in(crate, text):
@@ -98,7 +99,7 @@ def _brought_in(crate, text):
 @cache
 def _somewhere(crate, word):
     """The type of this name of a crate, wherever it stands."""
-    return next(filter(None, (_item(crate, path, word) for path in _sources(crate))), None)
+    return next(filter(None, (item_in(crate, path, word) for path in _sources(crate))), None)
 
 
 def fields_of(item):
@@ -106,7 +107,7 @@ def fields_of(item):
     text = _text(item.path)
     owners = _brought_in(item.crate, text)
     for word in sorted(set(WORD.findall(COMMENT.sub('', item.text))) - {item.word}):
-        found = _item(item.crate, item.path, word) or (_somewhere(owners[word], word) if word in owners else None)
+        found = item_in(item.crate, item.path, word) or (_somewhere(owners[word], word) if word in owners else None)
         if found:
             yield found
 

@@ -4,11 +4,14 @@ from pathlib import Path
 from typing import NamedTuple
 
 TOP = Path(__file__).resolve().parent.parent
-IMPORT = re.compile(r'^\s*(?:ghost )?(?:pub )?use Rattle\.(\w+)\.specs\.([\w.]+?)'
+IMPORT = re.compile(r'^\s*(?:ghost |unfoldable )?(?:pub )?use Rattle\.(\w+)\.specs\.([\w.]+?)'
                     r'(?:\.\{([^}]*)\}| as (\w+))?\s*;?$', re.M)
 DECLARED = re.compile(r'^(?:(?:abbrev|unfoldable|pub) )*(?:(record|data) )?(\S+)')
 NAMED = re.compile(r'^(?:abbrev|unfoldable|pub|record|data) |^[^\s:]+ : ')
-MODIFIER = re.compile(r'^(?:infix[lr]?|module) ')
+MODIFIER = re.compile(r'^infix[lr]? ')
+BLOCK = re.compile(r'^(?:(?:abbrev |unfoldable )?mutual|module .* where)$')
+INSIDE = '  '
+USE = re.compile(r'(?:(?:unfoldable )?pub )?use ')
 CONSTRUCTOR = re.compile(r'^  ([A-Za-z_][\w-]*) :', re.M)
 CRATE_ROW = re.compile(r'([a-z]\w*):')
 
@@ -78,11 +81,20 @@ def imports_of(text):
     return found
 
 
+def _outside_blocks(lines):
+    """The lines without the heads of blocks: what stood in one begins its lines as any other definition does."""
+    inside = False
+    for line in lines:
+        inside = bool(BLOCK.match(line)) or inside and (not line.strip() or line.startswith(INSIDE))
+        if not BLOCK.match(line):
+            yield line.removeprefix(INSIDE) if inside else line
+
+
 def _pieces(lines):
     """The top-level pieces of a file: the comment before each, and its lines up to the next one."""
     comment, piece = [], None
     for line in lines:
-        if line.startswith('use '):
+        if USE.match(line):
             continue
         if line.startswith('--'):
             comment.append(line)
@@ -102,11 +114,11 @@ def _pieces(lines):
 def _definitions(crate, module, lines):
     """The definitions of a file by their names. How an operator binds is part of its definition."""
     found, before = {}, ()
-    for comment, piece in _pieces(lines):
+    for comment, piece in _pieces(_outside_blocks(lines)):
         while piece and not piece[-1].strip():
             piece.pop()
         if MODIFIER.match(piece[0]):
-            before = comment + (piece[0],) if piece[0].startswith('infix') else ()
+            before = comment + (piece[0],)
             continue
         kind, word = DECLARED.match(piece[0]).groups()
         found[word] = Definition(Name(crate, module, word), kind or 'function', comment, before + tuple(piece))
@@ -129,13 +141,19 @@ def crates_in_order(top=TOP):
     return [row[1] for row in rows if row]
 
 
+def read_crate(crate, folder):
+    """The files of definitions of a crate that stands in this folder."""
+    specs, files = folder / 'specs', {}
+    for path in sorted(specs.rglob('*.antt')):
+        module = '.'.join(path.relative_to(specs).with_suffix('').parts)
+        if path.name != 'Lib.antt':
+            files[crate, module] = read_spec(path, crate, module)
+    return files
+
+
 def read_specs(top=TOP):
     """Every file of definitions, by its crate and module, in the order of the crates."""
     files = {}
     for crate in crates_in_order(top):
-        folder = top / 'crates' / crate / 'specs'
-        for path in sorted(folder.rglob('*.antt')):
-            module = '.'.join(path.relative_to(folder).with_suffix('').parts)
-            if path.name != 'Lib.antt':
-                files[crate, module] = read_spec(path, crate, module)
+        files.update(read_crate(crate, top / 'crates' / crate))
     return files

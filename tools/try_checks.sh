@@ -103,21 +103,63 @@ expect 'a case with a key that is none' 1 '*no key of a case: print*' try_case $
 : >table.toml
 expect 'a table without a case' 1 '0 passed, 0 failed' "$tools/try_rows.py" ./stand_in table.toml
 
-# A tree of two crates, whose program has one command. Its clauses cite a definition of the crate above, which cites one below.
-mkdir -p pages/tools pages/docs pages/examples pages/crates/low/{src,specs} pages/crates/station_top/{src,specs}
-cp -r "$tools"/{headline,definitions}* "$tools"/{spec_files,rust_types,reading_list,reading_page,public_contracts}.py pages/tools
+# A tree of two crates and a ported one of the toolchain. The program's clauses cite definitions of the crate above, which cite
+# those below. Two pages list what must be read of them.
+mkdir -p pages/tools pages/docs pages/examples pages/crates/low/{src,specs} pages/crates/station_top/{src,specs} rattle/ported/specs
+cp -r "$tools"/{headline,definitions}* "$tools"/{spec_files,kit_files,rust_types,reading_list,reading_page,reading_counts}.py \
+    "$tools"/{page_plan,printed,renamed,public_contracts}.py pages/tools
 printf 'low:\nstation_top: low\n' >pages/crates.txt
 echo '{{counts}}' >pages/tools/headline/observer.md
 printf '# Definitions\n\n## station_top\n\nIts source.\n' >pages/tools/definitions/sources.md
-printf '//! A crate.\n' >pages/crates/low/src/lib.rt
-printf -- '-- Numbers.\n\n-- none\nabbrev pub none : N\nnone = 0\n\n-- one\nabbrev pub one : N\none = 1\n' \
-    >pages/crates/low/specs/Number.antt
-printf -- '-- Runs.\nuse Rattle.low.specs.Number.{none, one}\n\n-- ends so\nabbrev pub Ends : N -> N\nEnds replay = none\n' \
-    >pages/crates/station_top/specs/Run.antt
+printf '<!-- counts of TOP by TOP: tools/headline.py -->\n<!-- end of counts -->\n' >pages/README.md
+printf -- '-- Counts.\n\n-- how many\nabbrev pub count : N\ncount = 7\n' >rattle/ported/specs/Count.antt
+cat >pages/tools/headline/pages.toml <<'PLAN'
+[[page]]
+name = "LOW"
+subject = "beginnings"
+title = "What must be read of a beginning"
+about = "It begins."
+contract = "low/src/lib.rt begin"
+[[page.part]]
+title = "The beginning"
+[[page]]
+name = "TOP"
+subject = "`replay`"
+title = "What must be read of a run"
+about = "It runs."
+contract = "station_top/src/program.rt run"
+[[page.part]]
+title = "The end"
+roots = ["station_top.Run.Ends"]
+[[page.part]]
+title = "The run"
+PLAN
+printf '//! A crate.\nghost use Rattle.low.specs.Number.{none};\npub fn begin() -> u8\n    ensures begun { none }\n{\n    0\n}\n' \
+    >pages/crates/low/src/lib.rt
+printf -- '-- Numbers.\nuse Rattle.ported.specs.Count.{count}\n\n-- none\nabbrev pub none : N\nnone = 0\n\n-- one\nabbrev pub one : N
+one = 1\n\n-- counted\nabbrev pub counted : N\ncounted = count\n' >pages/crates/low/specs/Number.antt
+cat >pages/crates/station_top/specs/Run.antt <<'RUN'
+-- Runs.
+use Rattle.low.specs.Number.{none, one, counted as much}
+
+-- ends so
+abbrev pub Ends : N -> Way -> N
+Ends replay far = none
+
+-- takes so much
+abbrev pub Takes : N
+Takes = much
+
+-- how far it goes
+pub data Way : Type 0 where
+  far : Way
+RUN
 printf '//! A crate.\nmod program;\npub use program::run;\n' >pages/crates/station_top/src/lib.rt
 cat >pages/crates/station_top/src/program.rt <<'RUN'
-ghost use Rattle.station_top.specs.Run.{Ends};
+ghost use Rattle.station_top.specs.Run.{Ends, Takes};
 pub fn run() -> u8
+    requires { Takes }
+
     // It ends.
     ensures command { Ends result }
 {
@@ -125,28 +167,64 @@ pub fn run() -> u8
 }
 RUN
 
-# Whether a page is what the definitions make it, after a change of the tree.
-made_page() {
-    sed -i "$3" "$2" && "pages/tools/$1.py" --check
+# A script on definitions, with the toolchain beside `bin`.
+on_pages() {
+    env PATH="$work/bin:$PATH" "pages/tools/$1.py" "${@:2}"
 }
 
-pages/tools/headline.py && pages/tools/definitions.py
-expect 'a page of two definitions' 0 2 sed -n 's/.*REPLAY.md) | \([0-9]*\) .*/\1/p' pages/docs/HEADLINE.md
-expect 'the pages on the headline as they were made' 0 '' pages/tools/headline.py --check
-expect 'the page of definitions as it was made' 0 '' pages/tools/definitions.py --check
+# Whether a page is what the definitions make it, after a change of the tree.
+made_page() {
+    sed -i "$3" "$2" && on_pages "$1" --check
+}
+
+on_pages headline && on_pages definitions
+expect 'a page of one definition' 0 1 sed -n 's/.*LOW.md) | beginnings | \([0-9]*\) .*/\1/p' pages/docs/HEADLINE.md
+expect 'the counts of a page whose definitions stand on both, and in the toolchain' 0 '4 | 12 | 0 | 0 | 5 | 15 | 1 | 3' \
+    sed -n 's/.*TOP.md) | .replay. | \(.*\) |$/\1/p' pages/docs/HEADLINE.md
+expect 'the counts in README' 0 '*has 4 definitions in 12 lines*beside 1 in 3 of crates*' cat pages/README.md
+expect 'all clauses of a contract' 0 $'    requires { Takes }\n    ensures command { Ends result }' \
+    grep '^    [re][en][qs]u' pages/docs/headline/TOP.md
+expect 'a definition that is printed once' 0 'pages/docs/headline/LOW.md:none = 0' grep -r '^none = 0' pages/docs/headline
+expect 'a definition that a later page names' 0 '*LOW.md#the-beginning-low) ?none?*' cat pages/docs/headline/TOP.md
+expect 'a definition of the toolchain that is counted' 0 '| ?KIT/rattle/ported/specs/Count.antt? | 1 | 3 | ?count? |' \
+    grep -r --no-filename KIT/ pages/docs/headline
+expect 'a name that an import gives' 0 '*?much? is ?counted? of low.*' cat pages/docs/headline/TOP.md
+expect 'a type before what speaks of it' 0 $'pub data Way : Type 0 where\nabbrev pub Ends : N -> Way -> N' \
+    grep 'pub .*Way' pages/docs/headline/TOP.md
+expect 'the pages on the headline as they were made' 0 '' on_pages headline --check
+expect 'the page of definitions as it was made' 0 '' on_pages definitions --check
 expect 'a definition that nothing cites' 0 '' made_page headline pages/crates/low/specs/Number.antt 's/^one = 1/one = 2/'
-expect 'one definition more to read' 1 '*HEADLINE.md is not what*' \
-    made_page headline pages/crates/station_top/specs/Run.antt 's/^Ends replay = none/Ends replay = none + one/'
-expect 'a definition that says another thing' 1 '*REPLAY.md is not what*' \
+expect 'one definition more to read' 1 '*HEADLINE.md is not what*README.md is not what*' \
+    made_page headline pages/crates/station_top/specs/Run.antt 's/^Ends replay far = none/Ends replay far = none + one/'
+expect 'a definition that says another thing' 1 '*LOW.md is not what*' \
     made_page headline pages/crates/low/specs/Number.antt 's/^none = 0/none = 1/'
+on_pages headline
+expect 'a clause more' 1 '*HEADLINE.md is not what*TOP.md is not what*' made_page headline pages/crates/low/src/lib.rt \
+    's/^    ensures begun.*/&\n    ensures more { one }/;s/{none}/{none, one}/'
+on_pages headline
+expect 'a definition of the toolchain that grew' 1 '*HEADLINE.md is not what*TOP.md is not what*' \
+    made_page headline rattle/ported/specs/Count.antt 's/^count = 7/count =\n    8/'
+expect 'a definition of the toolchain that is not there' 1 'ported.Count: no definition of count is found there' \
+    made_page headline rattle/ported/specs/Count.antt 's/count/number/'
+sed -i 's/number/count/' rattle/ported/specs/Count.antt
+mkdir -p bare/bin && cp bin/rt bare/bin
+expect 'a toolchain without a crate that is cited' 1 'ported.Count: no definition of count is found there' \
+    env PATH="$work/bare/bin:$PATH" pages/tools/headline.py --check
+on_pages headline
+expect 'a page that is too long' 1 'TOP.md has 12 lines of definitions: more than 11' made_page headline \
+    pages/tools/headline/pages.toml 's/^name = "TOP"/&\nmost_lines = 11/'
+sed -i '/most_lines/d' pages/tools/headline/pages.toml
+: >pages/docs/headline/OLD.md
+expect 'a page that no plan has' 1 'docs/headline/OLD.md is no page of tools/headline/pages.toml' on_pages headline --check
+rm pages/docs/headline/OLD.md
 expect 'a comment that says another thing' 1 '*DEFINITIONS.md is not what*' \
     made_page definitions pages/crates/station_top/specs/Run.antt 's/^-- ends so/-- ends well/'
-pages/tools/headline.py && pages/tools/definitions.py
+on_pages headline && on_pages definitions
 expect 'a page on the headline that was edited' 1 '*HEADLINE.md is not what*' \
     made_page headline pages/docs/HEADLINE.md 's/replay/replays/'
 expect 'a page of definitions that was edited' 1 '*DEFINITIONS.md is not what*' \
     made_page definitions pages/docs/DEFINITIONS.md 's/well/ill/'
-pages/tools/definitions.py
+on_pages definitions
 expect 'a name of two definitions' 1 'one stands in low and station_top*' \
     made_page definitions pages/crates/station_top/specs/Run.antt '$ a\\n-- another one\nabbrev pub one : N\none = 2'
 
