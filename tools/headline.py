@@ -107,6 +107,9 @@ def opening(listed, first):
     said.append(f'It begins with {clauses}. Printed here are {amount(here)}. With those that stand on other pages it takes '
                 f'{amount(whole)}. They name {len(listed.whole.toolchain)} words of the standard library of the toolchain, '
                 'which stand on no page.')
+    if any('on earlier pages' in text for *_, text in listed.parts):
+        said.append('What a part cites and this page does not print stands on an earlier page. Its last heading lists that, but '
+                    'for what a part before it lists.')
     blocks = [reading_page.filled(text) for text in said]
     if listed.opens:
         blocks.append(reading_page.block('', page.contract.text))

@@ -122,7 +122,7 @@ def planned_pages():
     for entry in tomllib.loads(PLAN.read_text(encoding='utf-8'))['page']:
         place = entry['contract']
         contract = contracts.setdefault(place, Contract(*place.split()))
-        parts = tuple(Part(one['title'], one.get('about', ''), tuple(one.get('roots', ())), tuple(one.get('cases', ())))
+        parts = tuple(Part(one['title'], one.get('about', '').strip(), tuple(one.get('roots', ())), tuple(one.get('cases', ())))
                       for one in entry['part'])
         pages.append(Page(entry['name'], entry['title'], entry['about'].strip(), entry['subject'], contract, parts,
                           entry.get('most_lines', 0)))

@@ -21,6 +21,7 @@ class Printed:
 
     def __init__(self):
         self.definitions, self.types, self.lines = {}, {}, {}
+        self.listed = set()  # what a page has named so far of other pages
 
     def has(self, name, definition):
         """Whether every line of a definition, or of those cases of it that are needed, is printed."""
@@ -42,11 +43,12 @@ class Printed:
             self.types[key] = place_of(item.crate, None)
 
     def elsewhere(self, reached, page):
-        """The words of what is reached that other pages print, by their places."""
+        """The words of what is reached that other pages print, by their places, but for those that the page named before."""
         found = {}
         named = [(self.definitions.get(name), name.word) for name in reached.definitions]
         named += [(self.types.get(key), item.word) for key, item in reached.types.items()]
         for place, word in named:
-            if place and place.page != page:
+            if place and place.page != page and (page, place, word) not in self.listed:
+                self.listed.add((page, place, word))
                 found.setdefault(place, set()).add(word)
         return {place: sorted(words) for place, words in sorted(found.items())}
