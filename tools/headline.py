@@ -58,7 +58,7 @@ def listed_pages(files):
         kit = known.fresh(of_kit(whole))
         known.add(kit, lambda crate, definition, page=page: page.name)
         fresh = joined([fresh for *_, fresh, _ in parts])
-        found.append(Listed(page, whole, fresh, kit, tuple(parts), page.contract not in contracts))
+        found.append(Listed(page, whole, fresh, kit, tuple(parts), page.contract not in contracts | {None}))
         contracts.add(page.contract)
     return found
 
@@ -95,16 +95,21 @@ def kit_part(listed):
     return '\n'.join(lines) + '\n'
 
 
+def beginning(listed, first):
+    """With which clauses a page begins, if with any."""
+    contract = listed.page.contract
+    if not contract:
+        return ''
+    clauses = f'the {contract.count} clauses of [`{contract.function}`]({UP}{kit_files.shown(contract.path)})'
+    return f'It begins with {clauses}' + ('. ' if listed.opens else f', which stand on [{first}.md]({first}.md). ')
+
+
 def opening(listed, first):
     """What stands first on a page."""
     page, here, whole = listed.page, counts_of(listed.fresh), counts_of(of_repository(listed.whole))
-    place = kit_files.shown(page.contract.path)
     said = [page.about + ' [HEADLINE](../HEADLINE.md) says it in plain words, and explains the '
             '[signs](../HEADLINE.md#how-to-read-a-definition). `tools/headline.py` makes this page: do not edit it.']
-    clauses = f'the {page.contract.count} clauses of [`{page.contract.function}`]({UP}{place})'
-    if not listed.opens:
-        clauses += f', which stand on [{first}.md]({first}.md)'
-    said.append(f'It begins with {clauses}. Printed here are {amount(here)}. With those that stand on other pages it takes '
+    said.append(f'{beginning(listed, first)}Printed here are {amount(here)}. With those that stand on other pages it takes '
                 f'{amount(whole)}. They name {len(listed.whole.toolchain)} words of the standard library of the toolchain, '
                 'which stand on no page.')
     if any('on earlier pages' in text for *_, text in listed.parts):

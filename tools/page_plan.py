@@ -68,12 +68,12 @@ class Contract:
 
 
 class Page(NamedTuple):
-    """A page: its name, what it says first, the contract with which it begins, and its parts."""
+    """A page: its name, what it says first, the contract with which it begins, if with one, and its parts."""
     name: str
     title: str
     about: str
     subject: str
-    contract: Contract
+    contract: Contract | None
     parts: tuple
     most_lines: int
 
@@ -111,6 +111,8 @@ def reached_by(files, page, part):
     for root in part.roots:
         crate, *module, word = root.split('.')
         walk.visit(Name(crate, '.'.join(module), word))
+    if not part.roots and not page.contract:
+        raise SystemExit(f'{PLAN}: the part "{part.title}" of {page.name} has no roots, and the page no contract')
     if not part.roots:
         page.contract.begin(walk)
     return walk.reached
@@ -120,8 +122,8 @@ def planned_pages():
     """The pages in their order."""
     contracts, pages = {}, []
     for entry in tomllib.loads(PLAN.read_text(encoding='utf-8'))['page']:
-        place = entry['contract']
-        contract = contracts.setdefault(place, Contract(*place.split()))
+        place = entry.get('contract')
+        contract = contracts.setdefault(place, Contract(*place.split())) if place else None
         parts = tuple(Part(one['title'], one.get('about', '').strip(), tuple(one.get('roots', ())), tuple(one.get('cases', ())))
                       for one in entry['part'])
         pages.append(Page(entry['name'], entry['title'], entry['about'].strip(), entry['subject'], contract, parts,

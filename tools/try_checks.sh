@@ -142,6 +142,10 @@ cat >pages/crates/station_top/specs/Run.antt <<'RUN'
 -- Runs.
 use Rattle.low.specs.Number.{none, one, counted as much}
 
+-- how far it goes
+pub data Way : Type 0 where
+  far : Way
+
 -- ends so
 abbrev pub Ends : N -> Way -> N
 Ends replay far = none
@@ -149,10 +153,6 @@ Ends replay far = none
 -- takes so much
 abbrev pub Takes : N
 Takes = much
-
--- how far it goes
-pub data Way : Type 0 where
-  far : Way
 RUN
 printf '//! A crate.\nmod program;\npub use program::run;\n' >pages/crates/station_top/src/lib.rt
 cat >pages/crates/station_top/src/program.rt <<'RUN'
