@@ -33,8 +33,16 @@ DIRECTIVE = re.compile(r'\{\{(\w+)(?: (\w+))?\}\}')
 UP = '../../'
 
 
+class ListedPart(NamedTuple):
+    """A part with what must be read of it in all, what of that the page prints, and its text."""
+    part: page_plan.Part
+    whole: Reached
+    fresh: Reached
+    text: str
+
+
 class Listed(NamedTuple):
-    """A page with what must be read of it in all, what of that it prints, and what it cites first of the toolchain."""
+    """A page with the same of it, with what it is the first to cite of the toolchain, and whether it has its clauses."""
     page: page_plan.Page
     whole: Reached
     fresh: Reached
@@ -53,11 +61,12 @@ def listed_pages(files):
             fresh = printed.fresh(of_repository(reached))
             places = printed.elsewhere(reached, page.name)
             printed.add(fresh, reading_page.place_in(page, part))
-            parts.append((part, reached, fresh, reading_page.part_text(files, part, fresh, places, UP)))
-        whole = joined([reached for _, reached, *_ in parts])
+            text = reading_page.part_text(files, part, fresh, places, UP)
+            parts.append(ListedPart(part, reached, fresh, text))
+        whole = joined([one.whole for one in parts])
         kit = known.fresh(of_kit(whole))
         known.add(kit, lambda crate, definition, page=page: page.name)
-        fresh = joined([fresh for *_, fresh, _ in parts])
+        fresh = joined([one.fresh for one in parts])
         found.append(Listed(page, whole, fresh, kit, tuple(parts), page.contract not in contracts | {None}))
         contracts.add(page.contract)
     return found
@@ -67,9 +76,9 @@ def parts_table(listed):
     """How much each part of a page has."""
     rows = ['| Part | Definitions here | Lines | Types and constants of the code | Their lines | In all | Lines |',
             '|---|---|---|---|---|---|---|']
-    for part, whole, fresh, _ in listed.parts:
-        here, all_of_it = counts_of(fresh), counts_of(of_repository(whole))
-        rows.append(f'| {part.title} | {here.definitions:,} | {here.lines:,} | {here.types:,} | {here.type_lines:,} '
+    for one in listed.parts:
+        here, all_of_it = counts_of(one.fresh), counts_of(of_repository(one.whole))
+        rows.append(f'| {one.part.title} | {here.definitions:,} | {here.lines:,} | {here.types:,} | {here.type_lines:,} '
                     f'| {all_of_it.definitions:,} | {all_of_it.lines:,} |')
     return '\n'.join(rows) + '\n'
 
@@ -109,10 +118,10 @@ def opening(listed, first):
     page, here, whole = listed.page, counts_of(listed.fresh), counts_of(of_repository(listed.whole))
     said = [page.about + ' [HEADLINE](../HEADLINE.md) says it in plain words, and explains the '
             '[signs](../HEADLINE.md#how-to-read-a-definition). `tools/headline.py` makes this page: do not edit it.']
-    said.append(f'{beginning(listed, first)}Printed here are {amount(here)}. With those that stand on other pages it takes '
-                f'{amount(whole)}. They name {len(listed.whole.toolchain)} words of the standard library of the toolchain, '
-                'which stand on no page.')
-    if any('on earlier pages' in text for *_, text in listed.parts):
+    with_others = f'With those that stand on other pages it takes {amount(whole)}. ' if whole != here else ''
+    said.append(f'{beginning(listed, first)}Printed here are {amount(here)}. {with_others}They name '
+                f'{len(listed.whole.toolchain)} words of the standard library of the toolchain, which stand on no page.')
+    if any('on earlier pages' in one.text for one in listed.parts):
         said.append('What a part cites and this page does not print stands on an earlier page. Its last heading lists that, but '
                     'for what a part before it lists.')
     blocks = [reading_page.filled(text) for text in said]
@@ -123,7 +132,7 @@ def opening(listed, first):
 
 def page_text(listed, first):
     """The text of a page."""
-    parts = [f'# {listed.page.title}\n', opening(listed, first), *(text for *_, text in listed.parts), kit_part(listed)]
+    parts = [f'# {listed.page.title}\n', opening(listed, first), *(one.text for one in listed.parts), kit_part(listed)]
     return '\n'.join(filter(None, parts))
 
 
@@ -173,7 +182,7 @@ def counted_readme(text, lists):
 
     def fill(found):
         one, bridge = by_name[found[2]], by_name[found[3]]
-        both = joined([one.whole, bridge.parts[0][1]])
+        both = joined([one.whole, bridge.parts[0].whole])
         here, whole = counts_of(one.fresh), counts_of(of_repository(one.whole))
         program, kit = counts_of(of_repository(both)), counts_of(of_kit(both))
         said = (f'[Its page](docs/headline/{one.page.path.name}) has {here.definitions:,} definitions in {here.lines:,} lines '
