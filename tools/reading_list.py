@@ -16,6 +16,7 @@ FIELD = re.compile(r"^\s+(?:pub )?([A-Za-z_][\w'-]*) :(?=\s|$)")
 EQUATION = re.compile(r'^(?!pub |abbrev |unfoldable |record |data |infix)\S')
 EQUALS = re.compile(r'(?<=\s)=(?=\s)')
 OPENING, CLOSING = ('(', '{', '['), (')', '}', ']')
+BIND = '>>='
 CITED = {}  # what each definition cites, found once
 
 
@@ -86,6 +87,11 @@ def free_words(text, bound):
             yield token
 
 
+def is_used(sign, text):
+    """Whether a text has a sign, or has `do`, which reads as one."""
+    return sign in text or sign == BIND and '←' in text
+
+
 class Walk:
     """Goes from definitions to those that they cite. Of some definitions a reader needs a part: `narrowed` gives it."""
 
@@ -151,8 +157,10 @@ class Walk:
         """The names that a definition cites, in order."""
         for chunk in _chunks(definition):
             yield from self.of_chunk(file, definition, chunk)
-        for local, name in file.imports.items():
-            if local.startswith('◌') and local.strip('◌') in definition.text:
+        yield from self.qualified(file, definition.text)
+        own = {word: one.name for word, one in file.definitions.items() if one.name != definition.name}
+        for word, name in (file.imports | own).items():
+            if word.startswith('◌') and is_used(word.strip('◌'), definition.text):
                 yield name
 
     def of_chunk(self, file, definition, chunk):
@@ -170,6 +178,15 @@ class Walk:
             name = self.resolved(file, word)
             if name:
                 yield name
+
+    def qualified(self, file, text):
+        """The names behind a module's own name, also where a field or a value has that name as well."""
+        for word in TOKEN.findall(_cleaned(text)):
+            head, _, rest = word.partition('.')
+            module = file.imports.get(head)
+            other = self.files.get((module.crate, module.module)) if module and not module.word else None
+            if other and other.resolve(rest):
+                yield module._replace(word=rest)
 
     def is_constructor(self, file, word):
         """Whether a word makes values of a data type, of specs or of the code. No other word of a left side cites."""
