@@ -137,18 +137,19 @@ PLAN
 printf '//! A crate.\nghost use Rattle.low.specs.Number.{none};\npub fn begin() -> u8\n    ensures begun { none }\n{\n    0\n}\n' \
     >pages/crates/low/src/lib.rt
 printf -- '-- Numbers.\nuse Rattle.ported.specs.Count.{count}\n\n-- none\nabbrev pub none : N\nnone = 0\n\n-- one\nabbrev pub one : N
-one = 1\n\n-- counted\nabbrev pub counted : N\ncounted = count\n' >pages/crates/low/specs/Number.antt
+one = 1\n\n-- two\nabbrev pub two : N\ntwo = 2\n\n-- counted\nabbrev pub counted : N\ncounted = count\n' >pages/crates/low/specs/Number.antt
 cat >pages/crates/station_top/specs/Run.antt <<'RUN'
 -- Runs.
-use Rattle.low.specs.Number.{none, one, counted as much}
+use Rattle.low.specs.Number as low
+use Rattle.low.specs.Number.{none, two, counted as much}
 
--- how far it goes
-pub data Way : Type 0 where
-  far : Way
+-- how far it goes, in a field that has the name of a module
+pub record Way : Type 0 where
+  pub low : low.one
 
 -- ends so
 abbrev pub Ends : N -> Way -> N
-Ends replay far = none
+Ends replay way = none
 
 -- takes so much
 abbrev pub Takes : N
@@ -179,9 +180,9 @@ made_page() {
 
 on_pages headline && on_pages definitions
 expect 'a page of one definition' 0 1 sed -n 's/.*LOW.md) | beginnings | \([0-9]*\) .*/\1/p' pages/docs/HEADLINE.md
-expect 'the counts of a page whose definitions stand on both, and in the toolchain' 0 '4 | 12 | 0 | 0 | 5 | 15 | 1 | 3' \
+expect 'the counts of a page whose definitions stand on both, and in the toolchain' 0 '5 | 15 | 0 | 0 | 6 | 18 | 1 | 3' \
     sed -n 's/.*TOP.md) | .replay. | \(.*\) |$/\1/p' pages/docs/HEADLINE.md
-expect 'the counts in README' 0 '*has 4 definitions in 12 lines*beside 1 in 3 of crates*' cat pages/README.md
+expect 'the counts in README' 0 '*has 5 definitions in 15 lines*beside 1 in 3 of crates*' cat pages/README.md
 expect 'all clauses of a contract' 0 $'    requires { Takes }\n    ensures command { Ends result }' \
     grep '^    [re][en][qs]u' pages/docs/headline/TOP.md
 expect 'a definition that is printed once' 0 'pages/docs/headline/LOW.md:none = 0' grep -r '^none = 0' pages/docs/headline
@@ -189,13 +190,13 @@ expect 'a definition that a later page names' 0 '*LOW.md#the-beginning-low) ?non
 expect 'a definition of the toolchain that is counted' 0 '| ?KIT/rattle/ported/specs/Count.antt? | 1 | 3 | ?count? |' \
     grep -r --no-filename KIT/ pages/docs/headline
 expect 'a name that an import gives' 0 '*?much? is ?counted? of low.*' cat pages/docs/headline/TOP.md
-expect 'a type before what speaks of it' 0 $'pub data Way : Type 0 where\nabbrev pub Ends : N -> Way -> N' \
+expect 'a type before what speaks of it' 0 $'pub record Way : Type 0 where\nabbrev pub Ends : N -> Way -> N' \
     grep 'pub .*Way' pages/docs/headline/TOP.md
 expect 'the pages on the headline as they were made' 0 '' on_pages headline --check
 expect 'the page of definitions as it was made' 0 '' on_pages definitions --check
-expect 'a definition that nothing cites' 0 '' made_page headline pages/crates/low/specs/Number.antt 's/^one = 1/one = 2/'
+expect 'a definition that nothing cites' 0 '' made_page headline pages/crates/low/specs/Number.antt 's/^two = 2/two = 3/'
 expect 'one definition more to read' 1 '*HEADLINE.md is not what*README.md is not what*' \
-    made_page headline pages/crates/station_top/specs/Run.antt 's/^Ends replay far = none/Ends replay far = none + one/'
+    made_page headline pages/crates/station_top/specs/Run.antt 's/^Ends replay way = none/Ends replay way = none + two/'
 expect 'a definition that says another thing' 1 '*LOW.md is not what*' \
     made_page headline pages/crates/low/specs/Number.antt 's/^none = 0/none = 1/'
 on_pages headline
@@ -211,7 +212,7 @@ mkdir -p bare/bin && cp bin/rt bare/bin
 expect 'a toolchain without a crate that is cited' 1 'ported.Count: no definition of count is found there' \
     env PATH="$work/bare/bin:$PATH" pages/tools/headline.py --check
 on_pages headline
-expect 'a page that is too long' 1 'TOP.md has 12 lines of definitions: more than 11' made_page headline \
+expect 'a page that is too long' 1 'TOP.md has 15 lines of definitions: more than 11' made_page headline \
     pages/tools/headline/pages.toml 's/^name = "TOP"/&\nmost_lines = 11/'
 sed -i '/most_lines/d' pages/tools/headline/pages.toml
 : >pages/docs/headline/OLD.md
