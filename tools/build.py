@@ -12,7 +12,6 @@ import errno
 import fcntl
 import hashlib
 import os
-import re
 import shutil
 import signal
 import sys
@@ -24,8 +23,8 @@ import build_rooms
 import build_runs
 import crate_list
 
-# What a first build takes, as measured one crate after another on a busy machine.
-FIRST_MINUTES = 60  # of processors; 20 by the clock on four of them
+# What a first build takes, as measured on a quiet machine and on a busy one.
+FIRST_MINUTES = '60 to 100'  # of processors; 20 to 50 by the clock on four of them
 FIRST_MEMORY = 4  # GB at most for one proof
 FIRST_DISK = 7  # GB
 
@@ -72,12 +71,6 @@ def stands():
         return False
     with open(BUILT, encoding='ascii') as file:
         return file.read().strip() == now
-
-
-def free_memory():
-    """The bytes of memory that are free."""
-    with open('/proc/meminfo', encoding='ascii') as file:
-        return 1024 * int(re.search(r'MemAvailable: *(\d+)', file.read())[1])
 
 
 def free_disk():
@@ -145,8 +138,8 @@ def report(plan, ended, seconds):
 
 def build(lock):
     """Proves and builds the program, and all that it stands on, from the sources as they stand now."""
-    say(f'proves and builds the program first; from nothing that takes some {FIRST_MINUTES} minutes of processor time, up to'
-        f' {FIRST_MEMORY} GB of memory for each proof and {FIRST_DISK} GB of disk ({free_memory() // GB} GB and'
+    say(f'proves and builds the program first; from nothing that takes {FIRST_MINUTES} minutes of processor time, up to'
+        f' {FIRST_MEMORY} GB of memory for each proof and {FIRST_DISK} GB of disk ({build_plan.free_memory() // GB} GB and'
         f' {free_disk() // GB} GB are free)')
     if full_disk():
         raise Fault(full_disk())
@@ -155,7 +148,7 @@ def build(lock):
     try:
         rooms.open()
         now, tasks = sum_of(rooms.sources, crates), build_plan.tasks_of(crates, rooms.sources)
-        build_all(build_plan.Plan(crates, tasks, len(os.sched_getaffinity(0)), free_memory()), rooms, runs)
+        build_all(build_plan.Plan(crates, tasks, len(os.sched_getaffinity(0)), build_plan.free_memory()), rooms, runs)
     finally:
         with contextlib.suppress(build_runs.Stopped):
             rooms.close()

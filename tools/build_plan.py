@@ -1,4 +1,5 @@
 """Which crate is proved next, and by how many processes: as many side by side as processors and memory allow."""
+import re
 from typing import NamedTuple
 
 import crate_list
@@ -12,6 +13,12 @@ OF_A_FURTHER_PROCESS = 0.6  # of what the first takes
 
 SHARE_OF_FREE_MEMORY = 0.85  # some proofs take more than is reckoned
 MOST_PROCESSES = 4  # of one proof: more gain nothing
+
+
+def free_memory():
+    """The bytes of memory that are free."""
+    with open('/proc/meminfo', encoding='ascii') as file:
+        return 1024 * int(re.search(r'MemAvailable: *(\d+)', file.read())[1])
 
 
 class Task(NamedTuple):
@@ -35,9 +42,13 @@ def tasks_of(crates, folder):
         for used in crates[name].uses:
             above[used] = max(above[used], chain)
         below = sum(code[lower] for lower in crate_list.all_below(crates, name))
-        tasks[name] = Task(chain, OF_ANY_CRATE + OF_A_LINE_OF_CODE * code[name] + OF_A_LINE_OF_PROOF * proofs[name]
-                           + OF_A_LINE_BELOW * below)
+        tasks[name] = Task(chain, memory_of(code[name], proofs[name], below))
     return tasks
+
+
+def memory_of(code, proofs, below):
+    """The memory that a proof takes, by the lines of its crate's code and proofs, and of the code below."""
+    return OF_ANY_CRATE + OF_A_LINE_OF_CODE * code + OF_A_LINE_OF_PROOF * proofs + OF_A_LINE_BELOW * below
 
 
 class Plan:

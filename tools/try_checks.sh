@@ -1,7 +1,8 @@
 #!/usr/bin/env bash
-# Tries that no wrong body passes try_edits.sh unless it was refused, with a script in rt's place, that one which cannot be
-# made is named, that a case of a table fails where it has to, with a script in the program's place, and that a page which is
-# not what the definitions make it is refused. The last line is 'N passed, M failed', and the status is 1 if any failed.
+# Tries that no wrong body passes try_edits.py unless it was refused, with a script in the toolchain's place; that one which
+# cannot be made is named; that what the gate does is told apart; that a case of a table fails where it has to, with a script
+# in the program's place; and that a page which is not what the definitions make it is refused. The last line is
+# 'N passed, M failed', and the status is 1 if any failed.
 set -u
 tools=$(cd "$(dirname "$0")" && pwd)
 work=$(mktemp -d)
@@ -10,35 +11,230 @@ cd "$work" || exit 1
 # shellcheck source=tools/expecting.sh
 . "$tools/expecting.sh"
 
-mkdir -p tree/tools tree/crates/a/{more-edits,must-fail,out} tree/crates/b/{more-edits,must-fail} bin
-cp "$tools/try_edits.sh" tree/tools
-printf '%s: causes\n' a b >tree/crates.txt
-: >tree/HANDLES
-: >tree/crates/b/must-fail/of_the_gate.edit
+mkdir bin
+# A toolchain in which a function is proved if its body has the word of each of its clauses, and what it calls is proved.
+mkdir -p kit/bin
+: >kit/KIT-ID
+cat >kit/bin/rtlib.py <<'RTLIB'
+import hashlib, os, pathlib, re
+KIT = os.path.dirname(os.path.dirname(os.path.realpath(__file__)))
+RATTLE, PARTS, STALE = f"{KIT}/bin/rattle", ("src", "specs", "proofs"), re.compile("Run the lower steps again")
+
+def guarded():
+    return []
+
+class Crate:
+    def __init__(self, top, name, deps):
+        self.folder, self.name, self.deps = f"{top}/crates/{name}", name, deps
+        self.rlib, self.kept = f"{self.folder}/out/rlib/{name}.rlib", pathlib.Path(self.folder, "out/rlib/stamp")
+
+    def below(self):
+        return [it for dep in self.deps for it in [*dep.below(), dep]]
+
+    def words(self, flags, keeps):
+        return ["--crate-name", self.name, *flags]
+
+    def stamp(self):
+        files = sorted(it for part in PARTS for it in pathlib.Path(self.folder, part).rglob("*") if it.is_file())
+        told = [it.read_bytes() for it in files], [it.stamp() for it in self.deps]
+        return hashlib.sha256(repr(told).encode()).hexdigest()
+
+    def is_built(self):
+        return self.kept.is_file() and self.kept.read_text() == self.stamp()
+
+def crates_below(top):
+    known = {}
+    for line in pathlib.Path(top, "crates.txt").read_text().splitlines():
+        name, _, deps = line.partition(":")
+        known[name] = Crate(top, name, [known[it] for it in deps.split()])
+    return [*known.values()]
+RTLIB
+cat >kit/bin/rattle <<'RATTLE'
+#!/usr/bin/env python3
+import os, pathlib, re, sys
+crate, text = sys.argv[sys.argv.index("--crate-name") + 1], pathlib.Path("src/lib.rt").read_text()
+specs = pathlib.Path("specs/Word.antt").read_text().split() if os.path.isdir("specs") else []
+if "--incremental" in sys.argv:
+    os.makedirs(sys.argv[sys.argv.index("--incremental") + 1], exist_ok=True)
+if "compiles not" in text:
+    sys.exit(print("src/lib.rt:1:1: error[E0]: it compiles not") or 1)
+unproved = set()
+for name, clauses, body in re.findall(r"fn (\w+)\(\)\n((?: [^\n]*\n)*)\{\n(.*?)\n\}", text, re.S):
+    body += "".join(value for constant, value in re.findall(r"const (\w+): u8 = (\w+);", text) if constant in body)
+    asked = dict(re.findall(r"ensures (\w+) \{ (\w+) \}", clauses))
+    asked = {clause: specs[0] if specs and word == "Word" else word for clause, word in asked.items()}
+    goals = ", ".join(f"`returns-clause-{clause}`" for clause, word in asked.items() if word not in body)
+    called = next((it for it in unproved if f"{it}()" in body), None)
+    why = f"no proof: `search` did not prove {goals}" if goals else f"no proof: it calls `{crate}::{called}`, which is not proved"
+    unproved |= {name} if goals or called else set()
+    print(f"fn {crate}::{name}: {why if name in unproved else 'proved'}")
+print("logic=not-proved" if unproved else "logic=proved")
+sys.exit(1 if unproved else 0)
+RATTLE
 cat >bin/rt <<'RT'
 #!/bin/sh
-[ "$*" = 'ci a' ] && [ -d .git ] && [ -e HANDLES ] && [ ! -e crates/a/out ] && [ ! -e crates/b/must-fail ] || exit 3
-[ ! -s crates/a/must-fail/x.edit ] || echo "rt: must-fail a/x.edit: $(cat crates/a/must-fail/x.edit)"
-exit "$(cat "$ENDED")"
+case $1 in
+    doc) echo "$(dirname "$(dirname "$(readlink -f "$0")")")/kit/START-HERE.md" ;;
+    lib) PYTHONPATH=$(dirname "$(dirname "$(readlink -f "$0")")")/kit/bin python3 -c '
+import os, pathlib, rtlib
+crate = next(it for it in rtlib.crates_below("../..") if it.name == os.path.basename(os.getcwd()))
+pathlib.Path(crate.rlib).mkdir(parents=True, exist_ok=True)
+pathlib.Path(crate.rlib, "format").touch()
+crate.kept.write_text(crate.stamp())' ;;
+esac
 RT
-chmod +x bin/rt
-try_edits=(env PATH="$work/bin:$PATH" ENDED="$work/ended" tree/tools/try_edits.sh)
+chmod +x bin/rt kit/bin/rattle
 
-while IFS='|' read -r said ended wanted pattern; do
-    echo "$ended" >ended
-    printf '%s' "$said" >tree/crates/a/more-edits/x.edit
-    expect "a wrong body of which rt says '$said' and ends with $ended" "$wanted" "*$pattern" "${try_edits[@]}" a
-done <<'SAYINGS'
-refused, as it must be|0|0|1 of 1 wrong bodies were refused
-refused, as it must be (only by a limit of the prover)|0|0|1 of 1 wrong bodies were refused
-refused, as it must be (only because a proof file names it)|0|1|a/x.edit: refused*0 of 1 wrong bodies were refused
-NOT REFUSED|1|1|a/x.edit: NOT REFUSED*0 of 1 wrong bodies were refused
-BAD EDIT|0|1|a/x.edit: BAD EDIT*0 of 1 wrong bodies were refused
-|0|1|a/x.edit: NOT TRIED*0 of 1 wrong bodies were refused
-refused, as it must be|1|1|rt ci ended with status 1*1 of 1 wrong bodies were refused
-SAYINGS
-expect 'a crate without wrong bodies' 2 'b has no wrong body in more-edits' "${try_edits[@]}" a b
-expect 'a crate that is none' 2 'c is no crate' "${try_edits[@]}" c
+# A tree in which low is below high, high has a function that calls another, and apart a constant.
+mkdir -p tree/tools tree/crates/{low,high,apart}/{src,must-fail,more-edits} tree/crates/high/specs
+cp "$tools"/{try_edits,edit_groups,edit_checks,edit_verdicts,applied_edits,build_plan,crate_list}.py tree/tools
+printf 'low:\nhigh: low\napart:\n' >tree/crates.txt
+echo '/crates/*/out/' >tree/.gitignore
+printf 'pub fn least()\n    ensures is_zero { zero }\n{\n    zero\n}\n' >tree/crates/low/src/lib.rt
+echo 'five' >tree/crates/high/specs/Word.antt
+cat >tree/crates/high/src/lib.rt <<'LIB'
+pub fn count()
+    ensures is_one { one }
+    ensures is_two { two }
+{
+    one + two
+}
+
+pub fn total()
+    ensures is_three { three }
+{
+    count() + three
+    + four
+}
+
+pub fn last()
+    ensures is_word { Word }
+{
+    five
+}
+LIB
+cat >tree/crates/apart/src/lib.rt <<'LIB'
+const LEAST: u8 = seven;
+
+pub fn least()
+    ensures is_seven { seven }
+{
+    LEAST
+}
+
+pub fn above()
+    ensures is_eight { eight }
+{
+    least() + eight
+}
+
+pub fn other()
+    ensures is_ten { ten }
+{
+    ten
+}
+LIB
+
+# Writes a wrong body of a crate: its name, the file, the text to find, what takes its place, and a clause if one is meant.
+wrong_body() {
+    printf "file: %s\nold: %s\nnew: %s\n${5:+# clause: $5\n}" "$2" "$3" "$4" >"tree/crates/$1.edit"
+}
+
+try_edits() {
+    PATH=$work/bin:$PATH JOFITRANA_EDITS=$work/refused timeout 300 tree/tools/try_edits.py --jobs 1 "$@"
+}
+
+wrong_body low/must-fail/not_zero src/lib.rt '    zero' '    none'
+wrong_body high/must-fail/not_two src/lib.rt 'one + two' 'one' is_two
+wrong_body high/more-edits/not_one src/lib.rt 'one + two' 'two' is_one
+wrong_body high/more-edits/not_three src/lib.rt 'count() + three' 'count()'
+wrong_body high/more-edits/another_word specs/Word.antt five six
+expect 'wrong bodies over a library that is not built' 3 '*--build builds them: low' try_edits high
+expect 'wrong bodies in groups, of which two change one function' 0 $'building low
+high: * s: as it stands
+high: * s: not_two not_three
+high: * s: another_word
+high: * s: not_one
+4 of 4 wrong bodies of 1 crates were refused; *' try_edits --build high
+expect 'the same again' 0 '4 of 4 wrong bodies of 1 crates were refused (4 of them before); 0.0 minutes of processor' try_edits high
+wrong_body high/more-edits/not_three src/lib.rt 'count() + three' 'count() + 3'
+expect 'a wrong body that is changed' 0 $'*as it stands\n*: not_three\n4 of 4 *(3 of them before)*' try_edits high
+echo >>tree/crates/high/src/lib.rt
+expect 'a crate that is changed' 0 $'*not_two not_three\n*4 of 4 wrong bodies of 1 crates were refused; *' try_edits high
+echo >>tree/crates/low/src/lib.rt
+expect 'a crate below that is changed' 3 '*--build builds them: low' try_edits high
+expect 'a crate over one below that is changed' 0 $'*not_two not_three\n*4 of 4 wrong bodies of 1 crates were refused; *' try_edits --build high
+rm tree/crates/low/out/rlib/stamp
+touch tree/crates/low/out/rlib/low.rlib/format
+expect 'a library as the gate leaves it' 0 '4 of 4 *' try_edits high
+touch tree/crates/low/src/lib.rt
+expect 'a library that is older than its source' 3 '*--build builds them: low' try_edits high
+expect 'a library that is built anew' 0 '*building low*4 of 4 *' try_edits --build high
+
+rm -r refused
+wrong_body high/more-edits/not_four src/lib.rt '    + four' '    '
+expect 'a wrong body that hides behind what its function calls' 1 $'*: not_two not_four\nhigh: * s: not_four
+high: * s: not_four, from nothing
+high/more-edits/not_four.edit: NOT REFUSED: its crate is still proved with it\n*: not_one not_three\n4 of 5 *' try_edits high
+rm tree/crates/high/more-edits/not_four.edit
+rm -r refused
+wrong_body high/more-edits/compiles_not src/lib.rt '    + four' '    compiles not'
+expect 'a wrong body that does not compile' 1 $'*: not_two compiles_not\nhigh: * s: not_two\nhigh: * s: compiles_not\nhigh/more-edits/compiles_not.edit: BAD EDIT: src/lib.rt:1:1: error\[E0\]*\n*: not_one not_three\n4 of 5 *' try_edits high
+wrong_body high/more-edits/compiles_not src/lib.rt 'five six' ''
+expect 'a wrong body that cannot be made' 1 $'high/more-edits/compiles_not.edit: BAD EDIT: src/lib.rt has 0 times: five six\n4 of 5 *' try_edits high
+rm tree/crates/high/more-edits/compiles_not.edit
+wrong_body high/must-fail/not_two src/lib.rt 'one + two' 'one' is_one
+expect 'a wrong body that is refused at another clause' 1 \
+    $'*high/must-fail/not_two.edit: REFUSED ELSEWHERE: not at the clause is_one, but at returns-clause-is_two\n3 of 4 *' try_edits high
+wrong_body high/must-fail/not_two src/lib.rt 'one + two' 'one' is_two
+sed -i.kept '/is_three/d' tree/crates/high/src/lib.rt
+expect 'a wrong body whose clause is gone, in a group' 1 $'*not_two not_three\n*
+high/more-edits/not_three.edit: NOT REFUSED: *\n3 of 4 wrong bodies of 1 crates were refused*' try_edits high
+sed 's/five$/six/' tree/crates/high/src/lib.rt.kept >tree/crates/high/src/lib.rt
+expect 'a crate that is not proved as it stands' 1 $'*high is not proved as it stands: *\n0 of 4 *' try_edits high
+mv tree/crates/high/src/lib.rt.kept tree/crates/high/src/lib.rt
+wrong_body apart/more-edits/another_least src/lib.rt 'u8 = seven' 'u8 = nine'
+wrong_body apart/more-edits/not_eight src/lib.rt '+ eight' ''
+wrong_body apart/more-edits/not_ten src/lib.rt '    ten' '    '
+expect 'a constant, and a caller of the function that has it' 0 $'*: another_least not_ten
+apart/more-edits/another_least.edit: refused: at returns-clause-is_seven\n*apart: * s: not_eight\n*3 of 3 *' try_edits --each apart
+sed -i 's/is_seven { seven }/is_seven { seven }\n    ensures is_least { LEAST }/' tree/crates/apart/src/lib.rt
+expect 'a constant that a clause has' 0 $'*: another_least\napart: * s: not_eight not_ten\n3 of 3 *' try_edits apart
+expect 'a crate that is none' 2 'no crate: none' try_edits none
+
+# A checkout, in which the file names a commit.
+in_git() {
+    git -C tree -c user.name=a -c user.email=a@example.org "$@" >git.log 2>&1 || cat git.log >&2
+}
+in_git init -q
+in_git add .
+in_git commit -qm one
+expect 'a file that names no commit' 2 '*names commit none, which is not known here*' try_edits --changed
+touch tree/new
+expect 'all wrong bodies of a checkout with a change' 0 $'*8 of 8 wrong bodies of 3 crates were refused*\n*tried_edits.txt stays*' \
+    try_edits --all
+rm tree/new
+expect 'all wrong bodies of a checkout' 0 '8 of 8 wrong bodies of 3 crates were refused*before)*' try_edits --all
+expect 'the commit of that checkout' 0 "$(git -C tree rev-parse HEAD) all 8 *" cat tree/tools/tried_edits.txt
+expect 'no change since that commit' 0 $'0 crates differ*\n0 of 0 wrong bodies of 0 crates were refused*' try_edits --changed
+wrong_body high/more-edits/not_four src/lib.rt '    + four' '    '
+expect 'one crate with a wrong body more' 1 $'1 crates differ from commit *: high\n*: NOT REFUSED: *\n3 of 4 wrong bodies of 1 crates *' \
+    try_edits --changed
+
+# What the gate does, by the words of a process and the folder that it runs in: of the crate, of a copy, or of one with a wrong body.
+mkdir -p gate/{crates/a,copy,wrong}/src
+echo 'one' | tee gate/crates/a/src/lib.rt >gate/copy/src/lib.rt
+echo 'two' >gate/wrong/src/lib.rt
+expect 'the kinds of what the gate does' 0 $'proof\nproof\ntests\nfirst body\nfirst body\nfurther bodies\nsecond proof' \
+    python3 -B - "$tools/../bench" <<'KINDS'
+import pathlib, sys
+sys.path.insert(0, sys.argv[1])
+import gate
+gate.CRATES, tasks = pathlib.Path("gate/crates").resolve(), gate.Tasks()
+for words, folder in [("build", "crates/a"), ("check", "crates/a"), ("build --test", "crates/a"), ("check", "wrong"),
+                      ("check --incremental K", "wrong"), ("check --incremental K", "wrong"), ("check --incremental K", "copy")]:
+    print(tasks.task_by(["rattle", *words.split(), "--crate-name", "a"], pathlib.Path("gate", folder).resolve())[1])
+KINDS
 
 # Whether a wrong body of these lines can be made.
 made_edit() {
@@ -54,6 +250,10 @@ expect 'a wrong body of a file that is gone' 1 'a/more-edits/x.edit: there is no
 expect 'a wrong body of a line that is gone' 1 'a/more-edits/x.edit: src/lib.rt has 0 times: three' made_edit src/lib.rt three
 expect 'a wrong body of a line that stands twice' 1 'a/more-edits/x.edit: src/lib.rt has 2 times: two' \
     made_edit src/lib.rt two
+mv edits/crates/a/more-edits/x.{edit,edt}
+expect 'a wrong body with another name' 1 'a/more-edits/x.edt: its name does not end in .edit, so that nothing tries it' \
+    edits/tools/applied_edits.py
+rm edits/crates/a/more-edits/x.edt
 
 cat >stand_in <<'PROGRAM'
 #!/usr/bin/env bash
