@@ -106,7 +106,7 @@ def await_that(what, holds):
     """Waits until something holds."""
     began = SLEEPER.now()
     while not holds():
-        if time.monotonic() - began.time > TO_WRITE + SLEEPER.late - began.late:
+        if began.is_over(TO_WRITE):
             raise Differs(f"{what} after {TO_WRITE} s")
         time.sleep(BETWEEN_LOOKS)
 

@@ -18,7 +18,10 @@ AT_ONCE = 0.25  # seconds in which what does not wait is done
 SLACK = 0.25  # the part of a time by which it may be missed
 MOST_TEXT = 500  # characters of what was in the way of a case
 NAP = 0.02  # seconds of one sleep of a sleeper
+STEPS = 2000  # that a sleeper counts behind each sleep, in some 0.1 ms
+MOST_LATE = 0.5  # seconds: if the sleeper came later than that within a case, each time that the case held may have been missed
 TRIES = 3  # how often a case that missed a time is tried, since other processes may have been in its way
+GLANCE = 1  # seconds between one look whether a run takes too long and the next
 
 
 class LeftOut(Exception):
@@ -44,9 +47,26 @@ class Moment(NamedTuple):
     time: float
     late: float
 
+    def seconds(self):
+        """How long ago it is."""
+        return time.monotonic() - self.time
+
+    def lateness(self):
+        """How long the sleeper has been kept from running since."""
+        return SLEEPER.late - self.late
+
+    def stretched(self, limit):
+        """A limit for what began then. It is as many times as long as the sleeper took as many times as long as it should."""
+        seconds = self.seconds()
+        return limit * seconds / max(seconds - self.lateness(), NAP)
+
+    def is_over(self, limit):
+        """Whether what began then has taken longer than a limit, stretched by how busy the machine is."""
+        return self.seconds() > max(limit, self.stretched(limit))
+
 
 class Sleeper:
-    """Sleeps again and again, and counts by how much it wakes too late: so long the machine ran others."""
+    """Sleeps again and again, counts to some number, and adds up by how much it is too late: so long the machine ran others."""
 
     def __init__(self):
         self.late = 0.0
@@ -57,11 +77,14 @@ class Sleeper:
         while True:
             began = time.monotonic()
             time.sleep(NAP)
+            for _ in range(STEPS):
+                pass
             self.late += max(0.0, time.monotonic() - began - 2 * NAP)
 
-    def now(self):
+    @staticmethod
+    def now():
         """This moment."""
-        return Moment(time.monotonic(), self.late)
+        return Moment(time.monotonic(), SLEEPER.late)
 
 
 SLEEPER = Sleeper()
@@ -84,15 +107,18 @@ class Run:
 
     def seconds(self):
         """How long ago it began."""
-        return time.monotonic() - self.began.time
+        return self.began.seconds()
 
     def end(self):
         """Waits for its end, and gives its status and what it printed."""
-        try:
-            printed, _ = self.process.communicate(timeout=LONGEST)
-        except subprocess.TimeoutExpired:
-            raise Differs(f"it still runs after {self.seconds():.0f} s") from None
-        return Ended(self.process.returncode, printed.decode())
+        asked = SLEEPER.now()
+        while True:
+            try:
+                printed, _ = self.process.communicate(timeout=GLANCE)
+                return Ended(self.process.returncode, printed.decode())
+            except subprocess.TimeoutExpired:
+                if asked.is_over(LONGEST):
+                    raise Differs(f"it still runs after {self.seconds():.0f} s") from None
 
 
 class Program:
@@ -135,7 +161,7 @@ def hold_seconds(what, began, wanted):
     late = 0.0
     if seconds > wanted + slack:
         time.sleep(2 * NAP)  # until the sleeper has counted too
-        late = SLEEPER.late - began.late
+        late = began.lateness()
     if not wanted - slack <= seconds <= wanted + slack + late:
         raise Missed(f"{what}: {seconds:.2f} s, in place of {wanted:.2f} s; others took {late:.2f} s")
     return now
@@ -160,10 +186,12 @@ def try_once(path, case):
 
 
 def try_case(path, case):
-    """Tries a case, also again; gives what was in its way at last, or nothing."""
+    """Tries a case, also again if a time may have been missed; gives what was in its way at last, or nothing."""
     for _ in range(TRIES):
+        began = SLEEPER.now()
         reason = try_once(path, case)
-        if not isinstance(reason, Missed):
+        is_missed = isinstance(reason, Missed) or reason is not None and began.lateness() > MOST_LATE
+        if isinstance(reason, LeftOut) or not is_missed:
             break
     return reason
 
