@@ -4,14 +4,19 @@
     jofitrana-salvage [--program PROGRAM] OLD NEW >behind.rows
 
 OLD is only read. NEW must not be there. It is judged by the program at once, and taken away again if that refuses it.
-The rows behind the damage that can be read are printed as row lines. What was found goes to standard error.
+The rows behind the damage that can be read are printed as row lines; if they cannot be printed, NEW is taken away again too.
+What was found goes to standard error, also if the last row is later than this machine's clock.
 Statuses: 0 if NEW was made, 1 if not, 2 if the words are out of form.
 """
 import argparse
+import errno
 import fcntl
 import os
+import signal
+import stat
 import struct
 import sys
+from contextlib import contextmanager, suppress
 from datetime import date, datetime, timedelta
 
 sys.dont_write_bytecode = True  # nothing is left beside an installed script
@@ -39,6 +44,7 @@ SUMMARY = struct.Struct('<BBHiB3sI8s')
 # Least and its stamp, greatest and its stamp, sum, count, weighted sum, seconds.
 ENTRY = struct.Struct('<iHHiHHqIqq')
 TIMES_OF_ENTRY = {*range(4, 8), *range(12, 16), *range(36, 44)}  # the bytes of both stamps and of the seconds
+DAY_BYTES = {*range(4, 8)}  # of a summary: the number of its day, which comes of the stamp of a row
 BATCH_BYTES = {0, 2, 3}  # the gate and the number of slots, which a reading of a summary does not test
 
 
@@ -116,9 +122,12 @@ def summary_slot(rows, part):
 def is_own_damage(slot, right):
     """Whether a summary slot differs from the right one as only a byte of itself that was changed can make it.
 
-    A value of a row that was changed moves several numbers of the summary, and its stamp or its interval may move one.
+    A value of a row that was changed moves several numbers of the summary, and its stamp or its interval may move one. The
+    stamp of a day's only row moves the number of the day too.
     """
     differing = [place for place in range(SLOT_BYTES) if slot[place] != right[place] and place not in BATCH_BYTES]
+    if not DAY_BYTES.isdisjoint(differing):
+        return False
     if any(place < SUMMARY.size or place >= SUMMARY.size + FIELDS_OF_PART * ENTRY.size for place in differing):
         return True
     return len(differing) == 1 and (differing[0] - SUMMARY.size) % ENTRY.size not in TIMES_OF_ENTRY
@@ -161,7 +170,7 @@ class Reading:
             raise Damage(place, None if self.last_follows else self.last_place)
         is_later_day = bool(self.last) and day_of(row.stamp) > day_of(self.last.stamp)
         if self.parts != (PARTS if is_later_day else 0):
-            raise Damage(place)
+            raise Damage(place, None if self.parts else self.day_place)  # this row or the day's first one is of another day
         if is_later_day or not self.last:
             self.day_rows, self.day_place = [], place
         self.day_rows.append(row)
@@ -236,6 +245,8 @@ def give_up(text):
 
 def opened(name):
     """A file that no other program writes, for reading, and its size."""
+    if not stat.S_ISREG(os.stat(name).st_mode):  # to open a pipe could take for ever
+        give_up(f'{name} is no plain file')
     file = open(name, 'rb')
     try:
         fcntl.flock(file, fcntl.LOCK_SH | fcntl.LOCK_NB)
@@ -244,36 +255,70 @@ def opened(name):
     return file, os.fstat(file.fileno()).st_size
 
 
-def write_new(name, whole, program):
-    """Writes the whole batches to a new file, and has the program judge it."""
-    end, count, _ = whole.ends[-1]
-    with open(name, 'xb') as new:
-        new.write(HEAD.ljust(SLOT_BYTES, b'\0'))
-        for place in range(SLOT_BYTES, end, SLOT_BYTES * MOST_SLOTS):
-            new.write(whole.bytes_at(place, min(SLOT_BYTES * MOST_SLOTS, end - place)))
-        new.write(CLOSED)
-        new.flush()
-        os.fsync(new.fileno())
+@contextmanager
+def new_file(name):
+    """A new file. It is taken away again if what is done with it fails or is ended."""
+    file = open(name, 'xb')
+    try:
+        yield file
+    except BaseException as fault:
+        os.remove(name)
+        if isinstance(fault, OSError):
+            give_up(f'{name} is taken away again: {fault.filename or name}: {fault.strerror}')
+        raise
+    finally:
+        with suppress(OSError):  # what it could not write was told
+            file.close()
+
+
+def write(new, whole):
+    """Writes the whole batches to a new file."""
+    end, _, _ = whole.ends[-1]
+    new.write(HEAD.ljust(SLOT_BYTES, b'\0'))
+    for place in range(SLOT_BYTES, end, SLOT_BYTES * MOST_SLOTS):
+        new.write(whole.bytes_at(place, min(SLOT_BYTES * MOST_SLOTS, end - place)))
+    new.write(CLOSED)
+    new.flush()
+    os.fsync(new.fileno())
+
+
+def judge(name, whole, program):
+    """Has the program judge a new archive of the whole batches."""
+    _, count, _ = whole.ends[-1]
     found, line, status = archives.rows_of(program, name)
     if status or found != count:
-        os.remove(name)
         give_up(f'the program does not take {name}, which is taken away again: {line}')
 
 
-def report(whole, old, new):
-    """Prints the rows behind the whole batches, and what was found."""
-    _, count, last = whole.ends[-1]
+def print_rows(whole):
+    """Prints the rows behind the whole batches; gives how many there are."""
     behind = 0
-    for row in whole.rows_behind():
-        behind += 1
-        print(row.line())
-    sys.stdout.flush()
+    try:
+        if sys.stdout is None:
+            raise OSError(errno.EBADF, os.strerror(errno.EBADF))
+        for row in whole.rows_behind():
+            behind += 1
+            print(row.line())
+        sys.stdout.flush()
+    except OSError as fault:
+        sys.stdout = None  # it would be flushed once more
+        raise OSError(fault.errno, fault.strerror, 'standard output') from fault
+    return behind
+
+
+def report(whole, old, new, behind):
+    """Prints what was found."""
+    _, count, last = whole.ends[-1]
     say(f'{old} is ' + ('not damaged' if whole.damage is None else f'damaged at {whole.damage}'))
     say(f'{new} has its first {count} rows' + (f', the last of {last.stamp:%Y-%m-%d %H:%M}' if last else ''))
     if whole.damage or behind:
         say(f'{behind} rows behind them can be read. They are printed, and may be wrong: {new} has none of them')
         say(f'the other rows behind them are missing. The next round with {new} adds what the console still has:')
         say(f'the records later than the last row, out of its last {CONSOLE_RECORDS:,}')
+    now = datetime.now()
+    if last and last.stamp > now:
+        say(f"the last row of {new} is later than this machine's clock, which shows {now:%Y-%m-%d %H:%M}: its stamp may be wrong.")
+        say('No round adds a record until the console\'s clock has passed that stamp')
 
 
 def archive_word(name):
@@ -284,13 +329,20 @@ def archive_word(name):
     return name
 
 
+def stop(*_):
+    """Ends the run, which takes NEW away again."""
+    give_up('it was stopped')
+
+
 def main():
     words = argparse.ArgumentParser(prog='jofitrana-salvage', description='Makes an archive of what is whole of a damaged one.')
     words.add_argument('old', type=archive_word, metavar='OLD', help='the damaged archive, which is only read')
     words.add_argument('new', type=archive_word, metavar='NEW', help='the archive to make, which must not be there')
     words.add_argument('--program', default='jofitrana', help='the program that judges NEW')
-    chosen = words.parse_args()
+    for number in (signal.SIGINT, signal.SIGTERM):
+        signal.signal(number, stop)
     try:
+        chosen = words.parse_args()
         if os.path.lexists(chosen.new):
             give_up(f'{chosen.new} is there already')
         file, size = opened(chosen.old)
@@ -299,10 +351,13 @@ def main():
             whole.read()
             if size <= EMPTY_BYTES or not whole.ends[-1][1] and not any(whole.rows_behind()):
                 give_up(f'{chosen.old} has no row that can be read')
-            write_new(chosen.new, whole, chosen.program)
-            report(whole, chosen.old, chosen.new)
+            with new_file(chosen.new) as new:
+                write(new, whole)
+                judge(chosen.new, whole, chosen.program)
+                behind = print_rows(whole)
+            report(whole, chosen.old, chosen.new, behind)
     except OSError as fault:
-        give_up(f'{fault.filename}: {fault.strerror}')
+        give_up(f'{fault.filename or chosen.old}: {fault.strerror}')
 
 
 if __name__ == '__main__':
