@@ -110,7 +110,8 @@ compare_period() {
     period=$((16#$said))
     if [ -n "$settings" ]; then
         owner=$settings
-        wanted=$(python3 -c 'import sys, tomllib; print(tomllib.load(open(sys.argv[1], "rb")).get("period", 5))' \
+        # -I: no module of the current folder is taken
+        wanted=$(python3 -I -c 'import sys, tomllib; print(tomllib.load(open(sys.argv[1], "rb")).get("period", 5))' \
             "$settings" 2>/dev/null) || finish 3 "$settings cannot be read as settings"
     fi
     [ "$period" = "$wanted" ] ||

@@ -57,14 +57,14 @@ done
 folder=$(mktemp -d -t jofitrana-demo.XXXXXX)
 cp "$examples/week.toml" "$examples/week.schedule" "$folder"
 cd "$folder" || exit
-port=$(python3 -c 'import socket; s = socket.socket(); s.bind(("127.0.0.1", 0)); print(s.getsockname()[1])')
+port=$(python3 -I -c 'import socket; s = socket.socket(); s.bind(("127.0.0.1", 0)); print(s.getsockname()[1])')
 address=127.0.0.1:$port
 
 echo "All files are made in $folder"
 serve
 show "jofitrana station week.toml week.archive $address"
 show "jofitrana report week.archive days 2024-10-11 2024-10-20 | grep ' outTemp '"
-if /usr/bin/python3 -c 'import matplotlib' 2>/dev/null; then
+if /usr/bin/python3 -P -c 'import matplotlib' 2>/dev/null; then
     show 'jofitrana report week.archive rows 2024-10-11 2024-10-20 | jofitrana-chart week.png'
     printf '\nThe picture is %s\n' "$folder/week.png"
 else

@@ -73,7 +73,7 @@ mkdir -p "$root/usr" "$root/DEBIAN"
 rm "$root/usr/share/jofitrana/installed"
 install -m 644 "$top/tools/debian/copyright" "$documents/copyright"
 install -D -m 644 "$top/tools/debian/lintian-overrides" "$overrides/jofitrana"
-install -m 755 "$top"/tools/debian/{postinst,prerm,postrm} "$root/DEBIAN"
+install -m 755 "$top"/tools/debian/{preinst,postinst,prerm,postrm} "$root/DEBIAN"
 changes | gzip -9n >"$documents/changelog.gz"
 compress_pages
 needed=$(libraries)

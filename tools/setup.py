@@ -9,6 +9,7 @@ begin with `!` are troubles, each with what to do.
 Statuses: 0, 1 if there is a trouble, 2 if the words are out of form.
 """
 import argparse
+import errno
 import os
 import re
 import sys
@@ -39,6 +40,7 @@ WHOLE_UNITS = 3  # of a unit of time; a shorter span is given in the next smalle
 SECONDS_TO_SET = 4  # from the first byte to the console until it has the time that was said
 SHORT_FILE = 177  # bytes; a longer file is an archive, or is refused
 STAMP = '%Y-%m-%d %H:%M:%S'
+MASK = 0o022  # the user of the rounds reads what is written here, whatever root keeps from others elsewhere
 
 # A name is one word of the units, and no name of another file.
 NAME = re.compile(r'[A-Za-z0-9][A-Za-z0-9_.-]*')
@@ -251,12 +253,24 @@ def look_at_clock(station, chosen, memory, report):
         report.trouble(f'{text}\n  To set it forward loses nothing: jofitrana task {station.address} time set DATE TIME')
 
 
+def write(name, text):
+    """Makes a file of a text, and none if it cannot be written whole."""
+    data = text.encode()
+    with open(name, 'xb', buffering=0) as file:
+        try:
+            if file.write(data) < len(data):
+                raise OSError(errno.ENOSPC, os.strerror(errno.ENOSPC))
+            os.fsync(file.fileno())
+        except OSError as fault:
+            os.remove(name)
+            raise OSError(fault.errno, fault.strerror, name) from fault
+
+
 def write_or_compare(name, pairs, found, report):
     """Writes a file of these keys and values if it is not there, and else reports which of them differ."""
     if found is None:
         os.makedirs(os.path.dirname(name), exist_ok=True)
-        with open(name, 'x', encoding='utf-8') as file:
-            file.writelines(f'{key}{value}\n' for key, value in pairs)
+        write(name, ''.join(f'{key}{value}\n' for key, value in pairs))
         report.found(f'Written: {name}')
         return
     report.found(f'Kept as it is: {name}')
@@ -268,7 +282,7 @@ def write_or_compare(name, pairs, found, report):
 def keys_of_environment(name):
     """The keys of a file of the units, with their values; none if it is not there."""
     try:
-        with open(name, encoding='utf-8') as file:
+        with open(name, encoding='utf-8', errors='replace') as file:
             lines = [line.strip() for line in file if '=' in line and not line.startswith('#')]
     except FileNotFoundError:
         return None
@@ -363,13 +377,14 @@ def main():
     station = Station(chosen, report)
     print(FIRST_OF_ALL)
     zone = os.environ.get('TZ', '')
-    refusal = archives.refusal_of(station.archive)
-    if not is_zone_known(zone):
-        refusal = f'TZ={zone} is no time zone of this system (package tzdata)'
-    if refusal:
-        report.trouble(refusal)
-        sys.exit(1)
+    os.umask(MASK)
     try:
+        refusal = archives.refusal_of(station.archive)
+        if not is_zone_known(zone):
+            refusal = f'TZ={zone} is no time zone of this system (package tzdata)'
+        if refusal:
+            report.trouble(refusal)
+            sys.exit(1)
         look_at_all(station, chosen, report)
     except OSError as fault:
         report.trouble(f'{fault.filename}: {fault.strerror}. Below /etc it takes sudo.')

@@ -52,6 +52,7 @@ begin setup "$tools/setup.py" --program "$program" --set-clock --settings talk -
 odd_console back --clock '2024-10-27 02:30' --run '2024-10-27 01:00' 24 --run '2024-10-27 02:00' 24
 begin check round_and_check "127.0.0.1:$port"
 begin salvage "$tools/try_salvage.py" "$program"
+begin written "$tools/try_setup.sh"
 begin page "$tools/try_page.py" "$program"
 begin sql "$tools/try_sql.py"
 mkdir shown path
@@ -516,6 +517,7 @@ expect 'the schedule of the stormy week' 0 '' cmp <(python3 "$tools/make_week.py
 expect_end setup 0 "*Its clock was set to this machine's time*Its clock shows *, as this machine's does*Now make *"
 expect_end check 2 $'round ok attempts 1 pages 10 skipped 0 acked 36 rows 36\nJOFITRANA CRITICAL *, before the last row: *'
 expect_end salvage 0 '* passed, 0 failed'
+expect_end written 0 '*[1-9]* passed, 0 failed'
 if /usr/bin/python3 -c 'import jinja2, matplotlib' 2>/dev/null; then
     expect_end page 0 '*[1-9]* passed, 0 failed'
 else
