@@ -61,6 +61,18 @@ IN_1970 = """import runpy, sys, time
 time.time = lambda: 0
 del sys.argv[0]
 runpy.run_path(sys.argv[0], run_name='__main__')"""
+# A clock that is so many seconds ahead for each entry that was written, so that a minute passes sooner.
+SECONDS_OF_AN_ENTRY, ENTRIES_OF_A_MINUTE = 21, 3
+IN_HASTE = f"""import os, runpy, sys, time
+write, clock, ahead = os.write, time.monotonic, 0
+def write_and_wait(*words):
+    global ahead
+    ahead += {SECONDS_OF_AN_ENTRY}
+    return write(*words)
+os.write, time.monotonic = write_and_wait, lambda: clock() + ahead
+del sys.argv[0]
+runpy.run_path(sys.argv[0], run_name='__main__')"""
+SYNCS = "fsync,fdatasync"
 ROOM = 1024  # bytes of a file that may not grow further, which are no whole entries
 
 
@@ -495,6 +507,42 @@ def writes_of_a_run(program):
          [("write", str(ENTRY_BYTES))] * 2 + [("fsync", "0")])
 
 
+def in_haste(program, *options):
+    """The command under which a minute passes with a few entries, and the calls on the file are traced."""
+    return [*tracing(program, *options), sys.executable, "-c", IN_HASTE]
+
+
+def sync_of_each_minute(program):
+    """Once a minute has passed since the disk had all entries, it is waited for again."""
+    count = 2 * ENTRIES_OF_A_MINUTE
+    under = in_haste(program, f"trace=write,{SYNCS}")
+    with taking(program, seconds=count * SECONDS_OF_AN_ENTRY, under=under) as console:
+        console.agree()
+        for number in range(count):
+            console.give(packet_of(number))
+        console.hold_end(0, NONE_PASSED, "")
+    calls = re.findall(r"^\d+ +(write|f\w*sync)\(.*\) += (-?\d+)", program.read("trace").decode(errors="replace"), re.MULTILINE)
+    minute = [str(ENTRY_BYTES)] * ENTRIES_OF_A_MINUTE + ["0"]
+    hold("the entries between the syncs", [answer for _, answer in calls], [*minute, *minute, "0"])
+
+
+def sync_that_fails(program):
+    """A disk that fails at a sync ends the run, be it within or at its end."""
+    fails = f"inject={SYNCS}:error=EIO:when=1"
+    error = f"{FILE}: Input/output error\n"
+    with taking(program, seconds=LONG * LONG, under=in_haste(program, fails)) as console:
+        console.agree()
+        for number in range(ENTRIES_OF_A_MINUTE):
+            console.give(packet_of(number))
+        ended = console.run.end()
+        hold("the run whose sync failed", (ended.status, console.errors()), (FILE_FAULT, error))
+        console.hold_file()
+    with taking(program, seconds=FEW, under=tracing(program, fails)) as console:
+        console.agree()
+        console.give(packet_of(1))
+        console.hold_end(FILE_FAULT, NONE_PASSED, error)
+
+
 def file_that_is_full(program):
     """An entry that the disk takes in part is cut off again, and the cause is named."""
     def bound():
@@ -536,7 +584,7 @@ CASES = (modelled_console, line_that_harms_packets, packets_within_a_second, clo
          clock_of_another_zone, part_of_an_entry, silent_console, console_without_packets, packets_that_stop,
          answers_that_are_lost, console_that_still_sends, all_packets_of_an_asking, line_that_ends, call_where_nobody_listens,
          call_to_itself, seconds_that_pass, run_that_is_stopped, run_that_is_killed, run_that_is_killed_at_a_write,
-         writes_of_a_run, file_that_is_full, file_that_is_refused, words_out_of_form)
+         writes_of_a_run, sync_of_each_minute, sync_that_fails, file_that_is_full, file_that_is_refused, words_out_of_form)
 
 if __name__ == "__main__":
     sys.exit(try_all(sys.argv, __doc__, CASES, len(CASES)))
