@@ -1,0 +1,257 @@
+#!/usr/bin/env bash
+# Tries what is installed and the package: modes, what is left by each way to take it away, what the units run, and how far they
+# are shut in. The package is installed in a root of its own over this machine's, which sees no change. The last line is
+# 'N passed, M failed', and the status is 1 if any failed. What cannot be tried here is named.
+#
+#     tools/try_package.sh [PROGRAM]
+#
+# Without a program it is that of this checkout, which is built first if that is not done yet.
+set -u
+tools=$(cd "$(dirname "$0")" && pwd)
+
+# Whether a root of its own can be had by these words before a command.
+has_room() {
+    # shellcheck disable=SC2016  # the inner shell expands it
+    command -v unshare >/dev/null && "$@" sh -c 'f=$(mktemp -d) && mount -t tmpfs none "$f" && mkdir "$f/u" "$f/w" "$f/r" &&
+        mount -t overlay none -o "lowerdir=/,upperdir=$f/u,workdir=$f/w" "$f/r"; s=$?; umount -R "$f"; rmdir "$f"; exit $s' 2>/dev/null
+}
+
+# In mounts of its own it can lay a root over this machine's.
+if [ -z "${OWN_ROOT-}" ]; then
+    space=(unshare -m)
+    if [ "$(id -u)" != 0 ]; then
+        space=(unshare -rm)
+        export AS_HIMSELF=1
+    fi
+    if has_room "${space[@]}"; then
+        OWN_ROOT=yes exec "${space[@]}" "$0" "$@"
+    fi
+    OWN_ROOT=no
+fi
+
+# shellcheck source=tools/served_console.sh
+. "$tools/served_console.sh"
+prepare "${1-}"
+# shellcheck source=tools/expecting.sh
+. "$tools/expecting.sh"
+export TZ=UTC
+
+# Installs below a prefix under a mask, the first word.
+installed_under() (
+    umask "$1"
+    "$tools/install.sh" install --prefix "$2" --program "$program"
+)
+
+# The names below a prefix of files that can be run.
+commands_of() {
+    find "$1" -type f -perm /111 -printf '%P\n' | sort
+}
+
+# The names that the commands of a prefix stand for.
+wanted_commands() {
+    find "$1/bin" -exec readlink -f {} + | sed -n "s|^$(readlink -f "$1")/||p" | grep -v '^bin$' | sort
+}
+
+for mask in 077 000; do
+    mkdir -m 755 "prefix$mask"
+    expect "what is installed under the mask $mask" 0 'station: systemd finds no unit *' installed_under "$mask" "prefix$mask"
+    expect "folders that are not 755 under the mask $mask" 0 '' find "prefix$mask" -type d ! -perm 755 -printf '%m %P\n'
+    expect "files that are neither 644 nor 755 under the mask $mask" 0 '' \
+        find "prefix$mask" -type f ! -perm 644 ! -perm 755 -printf '%m %P\n'
+    expect "the mode of the program under the mask $mask" 0 755 stat -c %a "prefix$mask/bin/jofitrana"
+    expect "just the commands can be run under the mask $mask" 0 '' diff <(wanted_commands "prefix$mask") <(commands_of "prefix$mask")
+done
+
+# In each folder there is something of another's.
+find prefix077 -type d -exec sh -c 'echo mine >"$1/foreign"' sh {} \;
+find prefix077 -type d -o -name foreign | sort >wanted
+expect 'an uninstall beside foreign files' 0 '' "$tools/install.sh" uninstall --prefix prefix077
+expect 'foreign files stay, and nothing else' 0 '' diff wanted <(find prefix077 | sort)
+expect 'what is in them' 0 mine eval 'find prefix077 -type f -exec cat {} + | sort -u'
+
+# The lines that shut a unit in, which have to be just these.
+common='CapabilityBoundingSet=
+DevicePolicy=closed
+EnvironmentFile=/etc/jofitrana/%i.env
+KeyringMode=private
+LockPersonality=yes
+NoNewPrivileges=yes
+PrivateDevices=yes
+PrivateIPC=yes
+PrivateMounts=yes
+PrivateTmp=yes
+PrivateUsers=yes
+ProcSubset=pid
+ProtectClock=yes
+ProtectControlGroups=yes
+ProtectHome=yes
+ProtectHostname=yes
+ProtectKernelLogs=yes
+ProtectKernelModules=yes
+ProtectKernelTunables=yes
+ProtectProc=invisible
+ProtectSystem=strict
+RemoveIPC=yes
+RestrictNamespaces=yes
+RestrictRealtime=yes
+RestrictSUIDSGID=yes
+SystemCallArchitectures=native
+SystemCallFilter=@system-service
+User=jofitrana'
+linked='MemoryDenyWriteExecute=yes
+RestrictAddressFamilies=AF_INET AF_INET6 AF_UNIX
+SystemCallFilter=~@privileged @resources'
+writing='StateDirectory=jofitrana
+StateDirectoryMode=0755
+UMask=0022'
+declare -A shut_in=(
+    [jofitrana]="$common
+$linked
+$writing"
+    [jofitrana-check]="$common
+$linked"
+    [jofitrana-page]="$common
+$writing
+CacheDirectory=jofitrana
+PrivateNetwork=yes
+RestrictAddressFamilies=none
+SystemCallFilter=~@privileged")
+kinds='User|Group|DynamicUser|SupplementaryGroups|EnvironmentFile|.*Capabilit.*|Device.*|Keyring.*|Lock.*|NoNew.*|Private.*|ProcSubset'
+kinds+='|Protect.*|RemoveIPC|Restrict[A-Z].*|SystemCall.*|Memory.*|State.*|Cache.*|Bind.*|Read.*|UMask'
+for name in "${!shut_in[@]}"; do
+    expect "the lines that shut $name in" 0 '' diff <(sort <<<"${shut_in[$name]}") \
+        <(grep -E "^($kinds)=" "$tools/../systemd/$name@.service" | sort)
+done
+if command -v systemd-analyze >/dev/null; then
+    mkdir units
+    cp "$tools"/../systemd/*@.* units
+    sed -i 's|^ExecStart=jofitrana[-a-z]* |ExecStart=/bin/true |' units/*
+    for name in "${!shut_in[@]}"; do
+        expect "an exposure of $name of at most 1.1" 0 '*exposure level*' \
+            systemd-analyze security --offline=true --threshold=11 "units/$name@.service"
+    done
+else
+    echo 'systemd-analyze is missing: no exposure of a unit was tried' >&2
+fi
+
+# What comes next takes a package, and a root to install it in.
+if ! command -v dpkg-shlibdeps >/dev/null || ! git -C "$tools" rev-parse 2>/dev/null; then
+    echo 'dpkg-dev or the repository of git is missing: no package was installed' >&2
+    conclude
+    exit
+fi
+package=$("$tools/package.sh" --program "$program")
+expect 'who owns the files of the package, and their modes' 0 $'-rw-r--r-- root/root\n-rwxr-xr-x root/root
+drwxr-xr-x root/root\nlrwxrwxrwx root/root' eval "dpkg-deb -c '$package' | awk '{ print \$1, \$2 }' | sort -u"
+expect 'its program' 0 '-rwxr-xr-x*' eval "dpkg-deb -c '$package' | grep ' ./usr/bin/jofitrana\$'"
+if [ "$OWN_ROOT" = no ]; then
+    echo 'unshare or a mount of overlay is refused: no package was installed, and no unit was run' >&2
+    conclude
+    exit
+fi
+
+# The root: this machine's, with a database of packages, commands of systemd that note their words, and a system that runs.
+root=$folder/root
+mkdir "$root" over
+mount -t tmpfs none over
+mkdir over/upper over/work
+mount -t overlay none -o "lowerdir=/,upperdir=$folder/over/upper,workdir=$folder/over/work" "$root" || lack 'there is no root'
+leave_root() {
+    umount -R "$root" && umount over
+    tidy
+}
+trap leave_root EXIT
+mount --rbind /proc "$root/proc"
+touch "$root/dev/null"
+mount --bind /dev/null "$root/dev/null"
+mkdir -p "$root"/packages/{info,updates,triggers} "$root/noting" "$root/run/systemd/system" "$root/etc/systemd/system/timers.target.wants"
+touch "$root"/packages/{status,available}
+for name in systemctl deb-systemd-invoke ${AS_HIMSELF+systemd-sysusers}; do
+    printf '#!/bin/sh\necho "%s $*" >>/noted\n' "$name" >"$root/noting/$name"
+    chmod 755 "$root/noting/$name"
+done
+cp "$package" "$root/package.deb"
+wants=$root/etc/systemd/system/timers.target.wants
+rm -rf "${root:?}"/etc/jofitrana "$root"/var/{lib,cache}/jofitrana "${wants:?}"/*
+
+# Runs a command in the root.
+in_root() {
+    chroot "$root" env PATH="/noting:/usr/local/sbin:/usr/local/bin:/usr/sbin:/usr/bin:/sbin:/bin" "$@"
+}
+
+# Runs dpkg in the root, and empties the notes before.
+packages() {
+    : >"$root/noted"
+    in_root dpkg --admindir=/packages --force-depends --force-unsafe-io --no-triggers "$@" </dev/null
+}
+
+# What the observer has, with modes, owners and sums.
+data() {
+    find "$root"/etc/jofitrana "$root"/var/lib/jofitrana -printf '%m %U %P\n' | sort
+    find "$root"/etc/jofitrana "$root"/var/lib/jofitrana -type f -exec sha256sum {} + | sort
+}
+
+# Runs a unit of the station roof in the root, as it stands.
+unit() {
+    in_root "$tools/run_unit.py" "/usr/lib/systemd/system/$1@.service" roof
+}
+
+expect 'the package is installed' 0 '*Setting up jofitrana *' packages -i /package.deb
+expect 'a first installation starts nothing' 1 '' grep start "$root/noted"
+
+# A station whose console keeps a record every half an hour, and has those of the last day.
+port=$(free_port)
+half_hours=$((($(date +%s) / 1800 - 47) * 1800))
+start half "$tools/fake_console.py" --byte 2D=1e --run "$(date -d "@$half_hours" '+%F %H:%M')" 48 "$port"
+await half listens "$port"
+expect 'a setup of it' 0 '*every 30 minutes.*Written: /etc/jofitrana/roof.toml*' in_root jofitrana-setup roof "127.0.0.1:$port"
+expect 'settings that others can read' 0 $'period = 30\n644 /etc/jofitrana/roof.toml' \
+    in_root sh -c 'cat /etc/jofitrana/roof.toml && stat -c "%a %n" /etc/jofitrana/roof.toml'
+expect 'a round by its unit' 0 'round ok attempts 1 pages * acked 48 rows 48' unit jofitrana
+expect 'a next round by its unit' 0 'round ok attempts 1 pages 0 * rows 48' unit jofitrana
+expect 'the settings behind its rounds' 0 'period = 30' cat "$root/etc/jofitrana/roof.toml"
+owner=jofitrana
+[ -z "${AS_HIMSELF-}" ] || owner=root
+expect 'whose archive it is' 0 $"755 $owner /var/lib/jofitrana
+644 $owner /var/lib/jofitrana/roof.archive" in_root stat -c '%a %U %n' /var/lib/jofitrana /var/lib/jofitrana/roof.archive
+expect 'the rows of the archive' 0 48 eval "in_root jofitrana report /var/lib/jofitrana/roof.archive rows 1999-12-31 2127-12-31 | wc -l"
+expect 'a round beside one that holds the archive' 0 'left out by its condition' \
+    flock "$root/var/lib/jofitrana/roof.archive" chroot "$root" "$tools/run_unit.py" /usr/lib/systemd/system/jofitrana@.service roof
+expect 'a check by its unit' 0 'JOFITRANA OK *' unit jofitrana-check
+sed -i 's/30/15/' "$root/etc/jofitrana/roof.toml"
+expect 'a check by its unit, of settings of another period' 2 'JOFITRANA CRITICAL *, and /etc/jofitrana/roof.toml has 15: *' \
+    unit jofitrana-check
+if in_root /usr/bin/python3 -c 'import jinja2, matplotlib' 2>/dev/null; then
+    echo 'PAGE=--metric' >>"$root/etc/jofitrana/roof.env"
+    expect 'a page by its unit' 0 '' unit jofitrana-page
+    expect 'whose page it is' 0 "$owner" in_root stat -c %U /var/lib/jofitrana/roof.page/index.html
+else
+    echo 'python3-jinja2 or python3-matplotlib is missing: no page was made by its unit' >&2
+fi
+
+# An upgrade starts no timer, and neither way to take the package away touches what the observer has.
+ln -s /usr/lib/systemd/system/jofitrana@.timer "$wants/jofitrana@roof.timer"
+ln -s /usr/lib/systemd/system/other.timer "$wants/other.timer"
+echo mine >"$root/var/lib/jofitrana/notes"
+echo mine >"$root/etc/jofitrana/other.toml"
+data >wanted
+expect 'an upgrade' 0 '*Setting up jofitrana *' packages -i /package.deb
+expect 'an upgrade starts and stops nothing' 1 '' grep -E 'start|stop' "$root/noted"
+expect 'an upgrade in two steps' 0 '*' packages --unpack /package.deb
+expect 'its second step' 0 '*Setting up jofitrana *' packages --configure jofitrana
+expect 'an upgrade in two steps starts nothing' 1 '' grep start "$root/noted"
+expect 'what an upgrade keeps' 0 '' diff wanted <(data)
+expect 'the package is removed' 0 '*Removing jofitrana *' packages -r jofitrana
+expect 'a removal stops rounds and checks' 0 "*stop jofitrana@?.timer jofitrana-check@?.timer jofitrana@?.service *" \
+    grep stop "$root/noted"
+expect 'what a removal keeps' 0 '' diff wanted <(data)
+expect 'a removal takes the program away' 1 '' [ -e "$root/usr/bin/jofitrana" ]
+expect 'the package is installed again' 0 '*Setting up jofitrana *' packages -i /package.deb
+expect 'the enabled timers start again' 0 'deb-systemd-invoke start jofitrana@roof.timer' grep start "$root/noted"
+expect 'an upgrade behind it' 0 '*Setting up jofitrana *' packages -i /package.deb
+expect 'an upgrade behind it starts nothing' 1 '' grep start "$root/noted"
+expect 'the package is purged' 0 '*/etc/jofitrana is kept*/var/lib/jofitrana is kept*' packages -P jofitrana
+expect 'what a purge keeps' 0 '' diff wanted <(data)
+expect 'the timers that a purge leaves enabled' 0 other.timer ls "$wants"
+
+conclude
