@@ -41,21 +41,21 @@ make_folder() {
     make_folder "$folder" && mkdir -m 755 "$prefix/$folder" && made+=("folder $folder")
 }
 
-# Copies a file, or makes a link, by a line of the list, and notes it.
+# Notes a file, and copies it, or makes a link, by a line of the list.
 copy() {
     local mode=$1 from=$2 to=$3
     make_folder "$to" || return
+    made+=("file $to")
     case $mode/$from in
         link/*) ln -s "$from" "$prefix/$to" ;;
         */PROGRAM) install -m "$mode" "$program" "$prefix/$to" ;;
         *) install -m "$mode" "$top/$from" "$prefix/$to" ;;
-    esac && made+=("file $to")
+    esac
 }
 
-# Takes away the files of the note, and the folders of it that are empty then.
-uninstall() {
+# Takes away the files that were noted, and the folders that were noted and are empty then.
+take_away() {
     local kind name
-    mapfile -t made <"$prefix/$note" || fail "$prefix/$note cannot be read"
     while read -r kind name; do
         case $kind in
             file) rm -f "$prefix/$name" || fail "$prefix/$name cannot be taken away" ;;
@@ -64,7 +64,13 @@ uninstall() {
     done < <(printf '%s\n' "${made[@]}" | tac)
 }
 
-# Copies all that is listed. What was copied before a failure is noted too.
+# Takes away what the note of an installation lists.
+uninstall() {
+    mapfile -t made <"$prefix/$note" || fail "$prefix/$note cannot be read"
+    take_away
+}
+
+# Copies all that is listed, or leaves nothing of it.
 install_all() {
     local mode from to failed=
     [ -x "$program" ] || fail "the program is not there: $program"
@@ -76,8 +82,12 @@ install_all() {
     while read -r mode from to; do
         copy "$mode" "$from" "$to" || { failed=$to; break; }
     done < <(listed)
-    printf '%s\n' "${made[@]}" >"$prefix/$note" && chmod 644 "$prefix/$note"
-    [ -z "$failed" ] || fail "$prefix/$failed could not be installed; uninstall takes away what was"
+    if [ -z "$failed" ]; then
+        printf '%s\n' "${made[@]}" >"$prefix/$note" && chmod 644 "$prefix/$note" && return
+        failed=$note
+    fi
+    take_away
+    fail "$prefix/$failed could not be written: nothing is installed"
 }
 
 # Reports that systemd finds neither the units nor the program, unless it looks below this prefix.

@@ -62,6 +62,17 @@ for mask in 077 000; do
     expect "just the commands can be run under the mask $mask" 0 '' diff <(wanted_commands "prefix$mask") <(commands_of "prefix$mask")
 done
 
+# Installs a small program below a prefix on a disk that takes no longer file than 64 KiB.
+installed_on_a_full_disk() (
+    cp -L /bin/true small
+    ulimit -f 64
+    "$tools/install.sh" install --prefix "$1" --program ./small
+)
+mkdir full
+expect 'what is installed on a full disk' 1 '*station: full/* could not be written: nothing is installed' \
+    installed_on_a_full_disk full
+expect 'what is left of it' 0 full find full
+
 # In each folder there is something of another's.
 find prefix077 -type d -exec sh -c 'echo mine >"$1/foreign"' sh {} \;
 find prefix077 -type d -o -name foreign | sort >wanted
@@ -145,7 +156,7 @@ expect 'who owns the files of the package, and their modes' 0 $'-rw-r--r-- root/
 drwxr-xr-x root/root\nlrwxrwxrwx root/root' eval "dpkg-deb -c '$package' | awk '{ print \$1, \$2 }' | sort -u"
 expect 'its program' 0 '-rwxr-xr-x*' eval "dpkg-deb -c '$package' | grep ' ./usr/bin/jofitrana\$'"
 if [ "$OWN_ROOT" = no ]; then
-    echo 'unshare or a mount of overlay is refused: no package was installed, and no unit was run' >&2
+    echo 'unshare with a mount of overlay is refused: no package was installed, and no unit was run' >&2
     conclude
     exit
 fi

@@ -516,6 +516,7 @@ expect_end check 2 $'round ok attempts 1 pages 10 skipped 0 acked 36 rows 36\nJO
 expect_end salvage 0 '* passed, 0 failed'
 expect_end written 0 '*[1-9]* passed, 0 failed'
 expect_end package 0 '*[1-9]* passed, 0 failed'
+grep -E ' (is missing|is refused): ' package.output >&2
 if /usr/bin/python3 -c 'import jinja2, matplotlib' 2>/dev/null; then
     expect_end page 0 '*[1-9]* passed, 0 failed'
 else
