@@ -4,7 +4,7 @@
     tools/run_unit.py UNIT INSTANCE
 
 It makes the unit's folders, and reads its environment. It runs ExecCondition and then ExecStart with specifiers and variables
-replaced, as the unit's user and with the unit's mask. Another user than root runs them as himself.
+replaced, as the unit's user and with the unit's mask. It has to be run by root.
 The status is that of the command; 0 if the condition leaves it out, which is printed; 250 if the unit cannot be run so.
 """
 import os
@@ -68,7 +68,7 @@ def user_options(unit):
     """How a process is begun as the unit's user; as root if it names none."""
     options = {'umask': int(unit.last('UMask', MASK), 8), 'cwd': '/'}
     name = unit.last('User', '')
-    if name and os.getuid() == 0 and 'AS_HIMSELF' not in os.environ:
+    if name:
         user = pwd.getpwnam(name)
         options.update(user=user.pw_uid, group=user.pw_gid, extra_groups=[])
     return options

@@ -9,23 +9,16 @@
 set -u
 tools=$(cd "$(dirname "$0")" && pwd)
 
-# Whether a root of its own can be had by these words before a command.
+# Whether mounts of its own can be had, with a root over this machine's.
 has_room() {
     # shellcheck disable=SC2016  # the inner shell expands it
-    command -v unshare >/dev/null && "$@" sh -c 'f=$(mktemp -d) && mount -t tmpfs none "$f" && mkdir "$f/u" "$f/w" "$f/r" &&
+    [ "$(id -u)" = 0 ] && command -v unshare >/dev/null && unshare -m sh -c 'f=$(mktemp -d) && mount -t tmpfs none "$f" && mkdir "$f/u" "$f/w" "$f/r" &&
         mount -t overlay none -o "lowerdir=/,upperdir=$f/u,workdir=$f/w" "$f/r"; s=$?; umount -R "$f"; rmdir "$f"; exit $s' 2>/dev/null
 }
 
 # In mounts of its own it can lay a root over this machine's.
 if [ -z "${OWN_ROOT-}" ]; then
-    space=(unshare -m)
-    if [ "$(id -u)" != 0 ]; then
-        space=(unshare -rm)
-        export AS_HIMSELF=1
-    fi
-    if has_room "${space[@]}"; then
-        OWN_ROOT=yes exec "${space[@]}" "$0" "$@"
-    fi
+    has_room && OWN_ROOT=yes exec unshare -m "$0" "$@"
     OWN_ROOT=no
 fi
 
@@ -42,6 +35,11 @@ installed_under() (
     "$tools/install.sh" install --prefix "$2" --program "$program"
 )
 
+# Prints on one line what is lacking in the second of two files, and what is there besides.
+differing() {
+    diff "$1" "$2" | sed -n 's/^< /lacking: /p; s/^> /besides: /p' | paste -sd'|' | sed 's/|/; /g'
+}
+
 # The names below a prefix of files that can be run.
 commands_of() {
     find "$1" -type f -perm /111 -printf '%P\n' | sort
@@ -55,11 +53,11 @@ wanted_commands() {
 for mask in 077 000; do
     mkdir -m 755 "prefix$mask"
     expect "what is installed under the mask $mask" 0 'station: systemd finds no unit *' installed_under "$mask" "prefix$mask"
-    expect "folders that are not 755 under the mask $mask" 0 '' find "prefix$mask" -type d ! -perm 755 -printf '%m %P\n'
+    expect "folders that are not 755 under the mask $mask" 0 '' find "prefix$mask" -type d ! -perm 755 -printf '%m %P; '
     expect "files that are neither 644 nor 755 under the mask $mask" 0 '' \
-        find "prefix$mask" -type f ! -perm 644 ! -perm 755 -printf '%m %P\n'
+        find "prefix$mask" -type f ! -perm 644 ! -perm 755 -printf '%m %P; '
     expect "the mode of the program under the mask $mask" 0 755 stat -c %a "prefix$mask/bin/jofitrana"
-    expect "just the commands can be run under the mask $mask" 0 '' diff <(wanted_commands "prefix$mask") <(commands_of "prefix$mask")
+    expect "just the commands can be run under the mask $mask" 0 '' differing <(wanted_commands "prefix$mask") <(commands_of "prefix$mask")
 done
 
 # Installs a small program below a prefix on a disk that takes no longer file than 64 KiB.
@@ -77,7 +75,7 @@ expect 'what is left of it' 0 full find full
 find prefix077 -type d -exec sh -c 'echo mine >"$1/foreign"' sh {} \;
 find prefix077 -type d -o -name foreign | sort >wanted
 expect 'an uninstall beside foreign files' 0 '' "$tools/install.sh" uninstall --prefix prefix077
-expect 'foreign files stay, and nothing else' 0 '' diff wanted <(find prefix077 | sort)
+expect 'foreign files stay, and nothing else' 0 '' differing wanted <(find prefix077 | sort)
 expect 'what is in them' 0 mine eval 'find prefix077 -type f -exec cat {} + | sort -u'
 
 # The lines that shut a unit in, which have to be just these.
@@ -130,16 +128,26 @@ SystemCallFilter=~@privileged")
 kinds='User|Group|DynamicUser|SupplementaryGroups|EnvironmentFile|.*Capabilit.*|Device.*|Keyring.*|Lock.*|NoNew.*|Private.*|ProcSubset'
 kinds+='|Protect.*|RemoveIPC|Restrict[A-Z].*|SystemCall.*|Memory.*|State.*|Cache.*|Bind.*|Read.*|UMask'
 for name in "${!shut_in[@]}"; do
-    expect "the lines that shut $name in" 0 '' diff <(sort <<<"${shut_in[$name]}") \
+    expect "the lines that shut $name in" 0 '' differing <(sort <<<"${shut_in[$name]}") \
         <(grep -E "^($kinds)=" "$tools/../systemd/$name@.service" | sort)
 done
+
+# Prints the exposure of a unit, and returns whether it is at most 1.1.
+exposure() {
+    local told status
+    told=$(systemd-analyze security --offline=true --threshold=11 "$1")
+    status=$?
+    tail -n 1 <<<"$told"
+    return "$status"
+}
+
 if command -v systemd-analyze >/dev/null; then
     mkdir units
     cp "$tools"/../systemd/*@.* units
     sed -i 's|^ExecStart=jofitrana[-a-z]* |ExecStart=/bin/true |' units/*
     for name in "${!shut_in[@]}"; do
         expect "an exposure of $name of at most 1.1" 0 '*exposure level*' \
-            systemd-analyze security --offline=true --threshold=11 "units/$name@.service"
+            exposure "units/$name@.service"
     done
 else
     echo 'systemd-analyze is missing: no exposure of a unit was tried' >&2
@@ -156,7 +164,7 @@ expect 'who owns the files of the package, and their modes' 0 $'-rw-r--r-- root/
 drwxr-xr-x root/root\nlrwxrwxrwx root/root' eval "dpkg-deb -c '$package' | awk '{ print \$1, \$2 }' | sort -u"
 expect 'its program' 0 '-rwxr-xr-x*' eval "dpkg-deb -c '$package' | grep ' ./usr/bin/jofitrana\$'"
 if [ "$OWN_ROOT" = no ]; then
-    echo 'unshare with a mount of overlay is refused: no package was installed, and no unit was run' >&2
+    echo 'an overlay in mounts of its own is refused: no package was installed and no unit was run, which takes root' >&2
     conclude
     exit
 fi
@@ -168,7 +176,8 @@ mount -t tmpfs none over
 mkdir over/upper over/work
 mount -t overlay none -o "lowerdir=/,upperdir=$folder/over/upper,workdir=$folder/over/work" "$root" || lack 'there is no root'
 leave_root() {
-    umount -R "$root" && umount over
+    umount -Rl "$root"
+    umount -l over
     tidy
 }
 trap leave_root EXIT
@@ -177,7 +186,7 @@ touch "$root/dev/null"
 mount --bind /dev/null "$root/dev/null"
 mkdir -p "$root"/packages/{info,updates,triggers} "$root/noting" "$root/run/systemd/system" "$root/etc/systemd/system/timers.target.wants"
 touch "$root"/packages/{status,available}
-for name in systemctl deb-systemd-invoke ${AS_HIMSELF+systemd-sysusers}; do
+for name in systemctl deb-systemd-invoke; do
     printf '#!/bin/sh\necho "%s $*" >>/noted\n' "$name" >"$root/noting/$name"
     chmod 755 "$root/noting/$name"
 done
@@ -196,11 +205,12 @@ packages() {
     in_root dpkg --admindir=/packages --force-depends --force-unsafe-io --no-triggers "$@" </dev/null
 }
 
-# What the observer has, with modes, owners and sums.
-data() {
-    find "$root"/etc/jofitrana "$root"/var/lib/jofitrana -printf '%m %U %P\n' | sort
-    find "$root"/etc/jofitrana "$root"/var/lib/jofitrana -type f -exec sha256sum {} + | sort
-}
+# What the observer has in the root, with modes, owners and sums.
+data() (
+    cd "$root" || exit
+    find etc/jofitrana var/lib/jofitrana -printf '%p %m of %U\n' | sort
+    find etc/jofitrana var/lib/jofitrana -type f -exec sha256sum {} + | sort
+)
 
 # Runs a unit of the station roof in the root, as it stands.
 unit() {
@@ -209,6 +219,7 @@ unit() {
 
 expect 'the package is installed' 0 '*Setting up jofitrana *' packages -i /package.deb
 expect 'a first installation starts nothing' 1 '' grep start "$root/noted"
+command -v systemd-sysusers >/dev/null || in_root useradd --system --no-create-home jofitrana  # as systemd does where it is
 
 # A station whose console keeps a record every half an hour, and has those of the last day.
 port=$(free_port)
@@ -221,10 +232,8 @@ expect 'settings that others can read' 0 $'period = 30\n644 /etc/jofitrana/roof.
 expect 'a round by its unit' 0 'round ok attempts 1 pages * acked 48 rows 48' unit jofitrana
 expect 'a next round by its unit' 0 'round ok attempts 1 pages 0 * rows 48' unit jofitrana
 expect 'the settings behind its rounds' 0 'period = 30' cat "$root/etc/jofitrana/roof.toml"
-owner=jofitrana
-[ -z "${AS_HIMSELF-}" ] || owner=root
-expect 'whose archive it is' 0 $"755 $owner /var/lib/jofitrana
-644 $owner /var/lib/jofitrana/roof.archive" in_root stat -c '%a %U %n' /var/lib/jofitrana /var/lib/jofitrana/roof.archive
+expect 'whose archive it is' 0 $'755 jofitrana /var/lib/jofitrana
+644 jofitrana /var/lib/jofitrana/roof.archive' in_root stat -c '%a %U %n' /var/lib/jofitrana /var/lib/jofitrana/roof.archive
 expect 'the rows of the archive' 0 48 eval "in_root jofitrana report /var/lib/jofitrana/roof.archive rows 1999-12-31 2127-12-31 | wc -l"
 expect 'a round beside one that holds the archive' 0 'left out by its condition' \
     flock "$root/var/lib/jofitrana/roof.archive" chroot "$root" "$tools/run_unit.py" /usr/lib/systemd/system/jofitrana@.service roof
@@ -235,7 +244,7 @@ expect 'a check by its unit, of settings of another period' 2 'JOFITRANA CRITICA
 if in_root /usr/bin/python3 -c 'import jinja2, matplotlib' 2>/dev/null; then
     echo 'PAGE=--metric' >>"$root/etc/jofitrana/roof.env"
     expect 'a page by its unit' 0 '' unit jofitrana-page
-    expect 'whose page it is' 0 "$owner" in_root stat -c %U /var/lib/jofitrana/roof.page/index.html
+    expect 'whose page it is' 0 jofitrana in_root stat -c %U /var/lib/jofitrana/roof.page/index.html
 else
     echo 'python3-jinja2 or python3-matplotlib is missing: no page was made by its unit' >&2
 fi
@@ -251,18 +260,18 @@ expect 'an upgrade starts and stops nothing' 1 '' grep -E 'start|stop' "$root/no
 expect 'an upgrade in two steps' 0 '*' packages --unpack /package.deb
 expect 'its second step' 0 '*Setting up jofitrana *' packages --configure jofitrana
 expect 'an upgrade in two steps starts nothing' 1 '' grep start "$root/noted"
-expect 'what an upgrade keeps' 0 '' diff wanted <(data)
+expect 'what an upgrade keeps' 0 '' differing wanted <(data)
 expect 'the package is removed' 0 '*Removing jofitrana *' packages -r jofitrana
 expect 'a removal stops rounds and checks' 0 "*stop jofitrana@?.timer jofitrana-check@?.timer jofitrana@?.service *" \
     grep stop "$root/noted"
-expect 'what a removal keeps' 0 '' diff wanted <(data)
+expect 'what a removal keeps' 0 '' differing wanted <(data)
 expect 'a removal takes the program away' 1 '' [ -e "$root/usr/bin/jofitrana" ]
 expect 'the package is installed again' 0 '*Setting up jofitrana *' packages -i /package.deb
 expect 'the enabled timers start again' 0 'deb-systemd-invoke start jofitrana@roof.timer' grep start "$root/noted"
 expect 'an upgrade behind it' 0 '*Setting up jofitrana *' packages -i /package.deb
 expect 'an upgrade behind it starts nothing' 1 '' grep start "$root/noted"
 expect 'the package is purged' 0 '*/etc/jofitrana is kept*/var/lib/jofitrana is kept*' packages -P jofitrana
-expect 'what a purge keeps' 0 '' diff wanted <(data)
+expect 'what a purge keeps' 0 '' differing wanted <(data)
 expect 'the timers that a purge leaves enabled' 0 other.timer ls "$wants"
 
 conclude
