@@ -5,8 +5,9 @@
 
 The cases run side by side in some 25 seconds, each with a console and a file of its own. Each file is held byte by byte: it
 has whole entries, with just the packets that were sent whole. Their moments rise, and are those at which they were heard.
-A case that misses a time is tried again. A case that cannot be run here is named with the reason: some take strace. The last
-line is 'N passed, M failed', and the status is 1 if any failed.
+A case that misses a time is tried again, and so is one that fails while the machine runs others; limits are longer then. A case
+that cannot be run here is named with the reason: some take strace. The last line is 'N passed, M failed', and the status is 1
+if any failed.
 """
 import os
 import random
