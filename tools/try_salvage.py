@@ -51,7 +51,7 @@ ROWS_BY_ONE = {'a first day of one row': ((1, 12, 0), (2, 12, 0), (3, 12, 0), (3
                'a first day of two rows': ((1, 12, 0), (1, 12, 5), (2, 0, 10), (2, 0, 15)),
                'a last day of one row': ((1, 23, 55), (2, 0, 0), (2, 12, 0))}
 MOST_SLOTS = 70  # of a batch
-CHANGES_OF_PERIOD = 3
+CHANGES_OF_PERIOD = 2
 
 TOOL = os.path.join(os.path.dirname(os.path.abspath(__file__)), 'salvage.py')
 LONGEST = 60  # seconds
@@ -307,8 +307,9 @@ class ToolTrial:
     """The tool, run in a folder on an archive that is damaged, and on others."""
 
     def __init__(self, program, folder):
-        self.program, self.folder = program, folder
+        self.program, self.folder = program, os.path.join(folder, 'tool')
         self.passed = self.failed = 0
+        os.mkdir(self.folder)
         self.write('cut', Image(made_rows()).bytes[:8000])
         self.write('later', Image([rows.Row(stamps.stamp_of_parts(FUTURE, 7, 1, 12, 0), PERIOD, rows_of_period(PERIOD, 1)[0].values)],
                                   (1,)).bytes)
