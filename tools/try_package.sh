@@ -69,7 +69,7 @@ installed_on_a_full_disk() (
 mkdir full
 expect 'what is installed on a full disk' 1 '*station: full/* could not be written: nothing is installed' \
     installed_on_a_full_disk full
-expect 'what is left of it' 0 full find full
+expect 'what is left of it' 0 'full ' find full -printf '%p '
 
 # In each folder there is something of another's.
 find prefix077 -type d -exec sh -c 'echo mine >"$1/foreign"' sh {} \;
@@ -160,8 +160,9 @@ if ! command -v dpkg-shlibdeps >/dev/null || ! git -C "$tools" rev-parse 2>/dev/
     exit
 fi
 package=$("$tools/package.sh" --program "$program")
-expect 'who owns the files of the package, and their modes' 0 $'-rw-r--r-- root/root\n-rwxr-xr-x root/root
-drwxr-xr-x root/root\nlrwxrwxrwx root/root' eval "dpkg-deb -c '$package' | awk '{ print \$1, \$2 }' | sort -u"
+expect 'who owns the files of the package, and their modes' 0 \
+    '-rw-r--r-- root/root,-rwxr-xr-x root/root,drwxr-xr-x root/root,lrwxrwxrwx root/root' \
+    eval "dpkg-deb -c '$package' | awk '{ print \$1, \$2 }' | sort -u | paste -sd,"
 expect 'its program' 0 '-rwxr-xr-x*' eval "dpkg-deb -c '$package' | grep ' ./usr/bin/jofitrana\$'"
 if [ "$OWN_ROOT" = no ]; then
     echo 'an overlay in mounts of its own is refused: no package was installed and no unit was run, which takes root' >&2
