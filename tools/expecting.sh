@@ -1,6 +1,8 @@
 # shellcheck shell=bash
 # Sourced by scripts that run commands and hold each to a status and an output. Such a script ends with `conclude`.
 
+# shellcheck source=tools/left_out.sh
+. "$(dirname "${BASH_SOURCE[0]}")/left_out.sh"
 passed=0
 failed=0
 

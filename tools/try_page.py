@@ -29,7 +29,7 @@ from model.reports import report_lines
 from model.rows import Row, row_line
 from model.stamps import FIRST_DAY, LAST_DAY, stamp_of_texts
 from stand_in import write_archive
-from trying import Differs, Missed, hold, need, try_all
+from trying import Differs, Missed, hold, leave_out, need, try_all
 
 try:
     import page
@@ -38,7 +38,7 @@ try:
     from reports import summaries
     from units import Units
 except SystemExit as reason:  # a library is missing
-    print(f'{reason}: no page was tried', file=sys.stderr)
+    leave_out(f'{str(reason).split(";", maxsplit=1)[0]}: no page was tried')
     sys.exit(0)
 
 TOOLS = Path(__file__).resolve().parent

@@ -20,12 +20,12 @@ from pathlib import Path
 
 sys.dont_write_bytecode = True  # nothing is left beside the scripts
 
-from trying import LONGEST, MOST_TEXT, NAP, Differs, hold
+from trying import LONGEST, MOST_TEXT, NAP, Differs, hold, leave_out
 
 try:
     import psycopg2
 except ImportError:
-    print('python3-psycopg2 is missing: no sql was tried', file=sys.stderr)
+    leave_out('python3-psycopg2 is missing: no sql was tried')
     sys.exit(0)
 
 TOOLS = Path(__file__).resolve().parent
@@ -284,7 +284,7 @@ def main(words):
         sys.exit(__doc__)
     found = sorted(glob.glob(SERVERS))
     if not found:
-        print('postgresql is missing: no sql was tried', file=sys.stderr)
+        leave_out('postgresql is missing: no sql was tried')
         return 0
     with tempfile.TemporaryDirectory() as folder:
         server = Server(found[-1], folder)

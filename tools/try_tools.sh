@@ -119,7 +119,7 @@ if /usr/bin/python3 -c 'import matplotlib' 2>/dev/null; then
     expect 'a chart of nothing' 1 'chart: there is no row' on nothing "$tools/chart.py" chart.png
     expect 'a picture of another kind' 2 '*ends neither in .png nor in .svg' on rows "$tools/chart.py" chart.gif
 else
-    echo 'python3-matplotlib is missing: no chart was tried' >&2
+    leave_out 'python3-matplotlib is missing: no chart was tried'
 fi
 
 expect 'an export' 0 '' on rows "$tools/export.py" table.csv
@@ -434,7 +434,7 @@ if command -v flock >/dev/null; then
     expect 'an archive in another program' 1 'salvage: cut.archive is open in another program: *' \
         flock -o cut.archive "$tools/salvage.py" --program "$program" cut.archive new.archive
 else
-    echo 'flock is missing: no salvage of an archive in another program was tried' >&2
+    leave_out 'flock is missing: no salvage of an archive in another program was tried'
 fi
 expect 'a damaged archive that is not there' 1 'salvage: missing.archive: No such file *' salvage missing.archive new.archive
 head -c 2000 /dev/zero >zeros.archive
@@ -492,7 +492,7 @@ if command -v dpkg-shlibdeps >/dev/null && git -C "$tools" rev-parse 2>/dev/null
     expect 'each version above the one before' 0 '' cmp <(printf '%s\n' "${versions[@]}") \
         <(printf '%s\n' "${versions[@]}" | sort -uVr)
 else
-    echo 'dpkg-dev or the repository of git is missing: no package was tried' >&2
+    leave_out 'dpkg-dev or the repository of git is missing: no package was tried'
 fi
 
 if command -v systemd-analyze >/dev/null; then
@@ -500,13 +500,13 @@ if command -v systemd-analyze >/dev/null; then
     sed -i "s|^ExecStart=jofitrana[-a-z]* |ExecStart=$folder/program |" units/*
     expect 'the units' 0 '' systemd-analyze verify --man=no --recursive-errors=no "$folder"/units/*
 else
-    echo 'systemd-analyze is missing: no unit was tried' >&2
+    leave_out 'systemd-analyze is missing: no unit was tried'
 fi
 if command -v systemd-sysusers >/dev/null; then
     expect 'the user of the rounds' 0 "*Creating user 'jofitrana'*" \
         on "$tools/../systemd/jofitrana.conf" systemd-sysusers --dry-run --root="$folder" -
 else
-    echo 'systemd-sysusers is missing: no user was tried' >&2
+    leave_out 'systemd-sysusers is missing: no user was tried'
 fi
 
 expect 'the schedule of the stormy week' 0 '' cmp <(python3 "$tools/make_week.py") "$tools/../examples/week.schedule"

@@ -20,6 +20,7 @@ MOST_TEXT = 500  # characters of what was in the way of a case
 NAP = 0.02  # seconds of one sleep of a sleeper
 STEPS = 2000  # that a sleeper counts behind each sleep, in some 0.1 ms
 MOST_LATE = 0.5  # seconds: if the sleeper came later than that within a case, each time that the case held may have been missed
+NOT_TRIED = 'NOT_TRIED'  # of the environment: the file in which the gate collects what is left out
 TRIES = 3  # how often a case that missed a time is tried, since other processes may have been in its way
 GLANCE = 1  # seconds between one look whether a run takes too long and the next
 
@@ -175,6 +176,14 @@ def need(*command):
         raise LeftOut(f"{command[0]} is refused")
 
 
+def leave_out(what):
+    """Reports what is not tried on this machine, here and at the end of the gate."""
+    print(what, file=sys.stderr)
+    if os.environ.get(NOT_TRIED):
+        with open(os.environ[NOT_TRIED], 'a', encoding='utf-8') as file:
+            file.write(f'{what}\n')
+
+
 def try_once(path, case):
     """Tries a case in a folder of its own; gives what was in its way, or nothing."""
     with tempfile.TemporaryDirectory() as folder:
@@ -209,8 +218,10 @@ def try_all(words, usage, cases, at_once):
         if reason is None:
             passed += 1
             continue
-        failed += not isinstance(reason, LeftOut)
-        answer = "left out" if isinstance(reason, LeftOut) else "failed"
-        print(f"{case.__name__} {answer}: {reason!r:.{MOST_TEXT}}", file=sys.stderr)
+        if isinstance(reason, LeftOut):
+            leave_out(f"{reason}: no {case.__name__} was tried")
+            continue
+        failed += 1
+        print(f"{case.__name__} failed: {reason!r:.{MOST_TEXT}}", file=sys.stderr)
     print(f"{passed} passed, {failed} failed")
     return 1 if failed else 0
