@@ -5,7 +5,7 @@
 
 The name says the kind of the picture, by its end .png or .svg. Values that are missing, and rows that are, leave gaps. Of
 many rows just the values that can be seen are drawn.
-Statuses: 0, 1 where the input has no rows or the picture cannot be written, 2 where the words are out of form.
+Statuses: 0, 1 where the input has no rows or is cut or the picture cannot be written, 2 where the words are out of form.
 """
 import argparse
 import math

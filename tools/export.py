@@ -3,17 +3,20 @@
 
     jofitrana report weather.archive rows 2024-01-01 2024-12-31 | jofitrana-export --zone Europe/Berlin weather.csv
 
-The configuration is weather.conf then. Neither file may be there already. Stamps are the console's own civil time. With
-`--zone` each row has its time in UTC besides. A row in the hour that the end of summer time doubles could be of either time, and one in the hour that its
-beginning leaves out of none: each such row is named on standard error and left out.
-Statuses: 0, 1 if the input has no rows or a file is there or cannot be written, 2 if the words are out of form, 3 if rows
-were left out.
+The configuration is weather.conf then. Neither file may be there already. Both are written under other names first, and are
+there once they are whole. Stamps are the console's own civil time. With `--zone` each row has its time in UTC besides. A row in
+the hour that the end of summer time doubles could be of either time, and one in the hour that its beginning leaves out of none:
+each such row is named on standard error and left out.
+Statuses: 0, 1 if the input has no rows or is cut or a file is there or cannot be written, 2 if the words are out of form, 3
+if rows were left out.
 """
 import argparse
 import csv
 import os
 import sys
+from contextlib import contextmanager
 from datetime import timezone
+from tempfile import TemporaryDirectory
 from zoneinfo import ZoneInfo
 
 sys.dont_write_bytecode = True  # nothing is left beside an installed script
@@ -93,27 +96,47 @@ def told(rows, zone):
     return kept
 
 
-def write_table(name, rows, names, zone):
+def write_table(file, rows, names, zone):
     """Writes the rows as CSV, a value that is missing as nothing."""
     heads = [*times(rows[0].stamp, zone), INTERVAL, *map(column, names)] if rows else []
-    with open(name, 'x', encoding='utf-8', newline='') as file:
-        table = csv.DictWriter(file, heads, restval='', lineterminator='\n')
-        table.writeheader()
-        for row in rows:
-            values = {column(name): f'{value:.{DIGITS}f}'.rstrip('0').rstrip('.') for name, value in row.values.items()}
-            minutes = {INTERVAL: int(row.interval.total_seconds()) // 60}
-            table.writerow(times(row.stamp, zone) | minutes | values)
+    table = csv.DictWriter(file, heads, restval='', lineterminator='\n')
+    table.writeheader()
+    for row in rows:
+        values = {column(name): f'{value:.{DIGITS}f}'.rstrip('0').rstrip('.') for name, value in row.values.items()}
+        minutes = {INTERVAL: int(row.interval.total_seconds()) // 60}
+        table.writerow(times(row.stamp, zone) | minutes | values)
 
 
-def write_configuration(name, table, names, zone):
-    """Writes the configuration for WeeWX, whose table has these fields."""
+def configuration_of(name, table, names, zone):
+    """The configuration for WeeWX, whose table has these fields."""
     entries = [('dateTime', EPOCH if zone else STAMP, 'unix_epoch'), ('interval', INTERVAL, 'minute')]
     entries += [(OTHER_NAMES.get(field, field), column(field), row_lines.unit_of(field))
                 for field in names if field not in WITHOUT_PLACE]
     mapped = ''.join(ENTRY.format(name=name, column=column, unit=unit) for name, column, unit in entries)
-    with open(name, 'x', encoding='utf-8') as file:
-        file.write(CONFIGURATION.format(file=os.path.abspath(table), conf=os.path.abspath(name), map=mapped,
-                                        has_uv='UV' in names, has_sun='radiation' in names))
+    return CONFIGURATION.format(file=os.path.abspath(table), conf=os.path.abspath(name), map=mapped,
+                                has_uv='UV' in names, has_sun='radiation' in names)
+
+
+@contextmanager
+def draft(folder, name):
+    """A new file in the folder of drafts. At its end the disk has all of it, or has told that it cannot."""
+    with open(os.path.join(folder, os.path.basename(name)), 'x', encoding='utf-8', newline='') as file:
+        yield file
+        file.flush()
+        os.fsync(file.fileno())
+
+
+def write_both(table, configuration, rows, zone):
+    """Writes the table and the configuration. They have their names once both are whole."""
+    names = [name for name in row_lines.FIELDS if any(name in row.values for row in rows)]
+    with TemporaryDirectory(prefix='.new-', dir=os.path.dirname(table) or '.') as folder:
+        with draft(folder, table) as file:
+            write_table(file, rows, names, zone)
+        with draft(folder, configuration) as file:
+            file.write(configuration_of(configuration, table, names, zone))
+        refuse_taken([table, configuration])
+        for name in (table, configuration):
+            os.rename(os.path.join(folder, os.path.basename(name)), name)
 
 
 def refuse_taken(names):
@@ -149,9 +172,7 @@ def main():
     try:
         rows = row_lines.read_rows(sys.stdin, chosen.bucket)
         kept = told(rows, chosen.zone)
-        names = [name for name in row_lines.FIELDS if any(name in row.values for row in kept)]
-        write_table(chosen.table, kept, names, chosen.zone)
-        write_configuration(configuration, chosen.table, names, chosen.zone)
+        write_both(chosen.table, configuration, kept, chosen.zone)
     except (row_lines.NotRows, OSError) as trouble:
         sys.exit(f'export: {trouble}')
     sys.exit(0 if len(kept) == len(rows) else LEFT_OUT)

@@ -6,7 +6,7 @@
 FOLDER gets index.html, its charts, and a page of climate tables for each year with each table as CSV beside it. A page asks
 no other host and has no script. Each file is replaced as a whole, and a new chart has a new name, so a reader of the folder
 never sees half a page. Times are the console's: this machine's clock has to show them, so set TZ if it does not.
-Statuses: 0, 1 if the report is refused or the folder cannot be written, 2 if the words are out of form.
+Statuses: 0, 1 if a report is refused or cut or the folder cannot be written, 2 if the words are out of form.
 """
 import argparse
 import hashlib
@@ -149,7 +149,8 @@ class Page:
             self.write_index(made, None, [], [])
             return
         last = self.last_day(months)
-        rows = self.archive.rows(last - page_now.MOST_DAYS_OF_ROWS * DAY, last, self.units.bucket)
+        lines = self.archive.lines_of_rows(last - page_now.MOST_DAYS_OF_ROWS * DAY, last)
+        rows = row_lines.rows_of_lines(lines, self.units.bucket)
         days = self.archive.days(last - (YEAR_DAYS - 1) * DAY, last)
         now = page_now.now_of(rows, days, months, self.units, made)
         years = self.write_years((self.first_day(months), last), months)

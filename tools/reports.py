@@ -124,24 +124,30 @@ class Archive:
         self.program, self.name = program, name
 
     def lines(self, *words):
-        """The lines that the program prints, and its status."""
+        """The lines that the program prints, with their line feeds, and its status."""
         try:
             ran = subprocess.run([self.program, *words], stdout=subprocess.PIPE, text=True, check=False)
         except OSError as fault:
             raise Refused(f'the program is missing: {self.program}') from fault
-        return ran.stdout.splitlines(), ran.returncode
+        return ran.stdout.splitlines(keepends=True), ran.returncode
+
+    def answered(self, lines, status):
+        """The lines, if they are a whole answer."""
+        if status:
+            raise Refused(f'{self.name}: {lines[-1].rstrip() if lines else f"status {status}"}')
+        try:
+            return [row_lines.whole(line) for line in lines]
+        except row_lines.NotRows as reason:
+            raise Refused(f'{self.name}: {reason}') from None
 
     def report(self, kind, first=FIRST_DAY, last=LAST_DAY):
         """The lines of a report."""
         first, last = max(first, FIRST_DAY), min(last, LAST_DAY)
-        lines, status = self.lines('report', self.name, kind, first.isoformat(), last.isoformat())
-        if status:
-            raise Refused(f'{self.name}: {lines[-1] if lines else f"status {status}"}')
-        return lines
+        return self.answered(*self.lines('report', self.name, kind, first.isoformat(), last.isoformat()))
 
-    def rows(self, first, last, bucket):
-        """The rows of some days, of which there is one at least."""
-        return row_lines.read_rows(self.report('rows', first, last), bucket)
+    def lines_of_rows(self, first, last):
+        """The row lines of some days."""
+        return self.report('rows', first, last)
 
     def days(self, first, last):
         """The summaries of some days."""
@@ -154,8 +160,4 @@ class Archive:
     def climate(self, year):
         """The climate of a year, or None if the program does not know the command."""
         lines, status = self.lines('climate', self.name, str(year))
-        if status == USAGE:
-            return None
-        if status:
-            raise Refused(f'{self.name}: {lines[-1] if lines else f"status {status}"}')
-        return climate_year(lines, year)
+        return None if status == USAGE else climate_year(self.answered(lines, status), year)

@@ -57,30 +57,50 @@ def value_of(name, number, bucket):
     return number / (BUCKETS[bucket] if unit.startswith('click') else divisor)
 
 
-def row_of(line, bucket):
-    """The row of a row line; values that limits took away are missing."""
+def counted_row(line):
+    """The row of a row line, its values counted as they are there; values that limits took away are missing."""
     match = ROW.fullmatch(line)
     if not match:
         raise NotRows(f'this is no row line: {line[:80]}')
-    pairs = (pair.split('=') for pair in match[3].split())
+    values = dict(pair.split('=') for pair in match[3].split())
+    for name in values:
+        if name not in FIELDS:
+            raise NotRows(f"there is no field '{name}'")
     try:
-        values = {name: value_of(name, int(number), bucket) for name, number in pairs if number != 'limit'}
-        return Row(datetime.strptime(match[1], '%Y-%m-%d %H:%M'), timedelta(minutes=int(match[2])), values)
-    except KeyError as name:
-        raise NotRows(f'there is no field {name}') from None
+        numbers = {name: int(number) for name, number in values.items() if number != 'limit'}
+        return Row(datetime.strptime(match[1], '%Y-%m-%d %H:%M'), timedelta(minutes=int(match[2])), numbers)
     except ValueError as fault:
         raise NotRows(f'{fault}: {line[:80]}') from None
 
 
+def row_of(line, bucket):
+    """The row of a row line, its values in the units of their fields."""
+    row = counted_row(line)
+    return row._replace(values={name: value_of(name, number, bucket) for name, number in row.values.items()})
+
+
+def whole(line):
+    """A line without its line feed. One that has none is the rest of a line, whose last digits may be gone."""
+    if not line.endswith('\n'):
+        raise NotRows(f'the report is cut: its last line has no line feed: {line[:80]}')
+    return line.removesuffix('\n')
+
+
 def read_rows(lines, bucket):
-    """The rows of what `report .. rows` or `replay` printed. Any other line is what the program ended with."""
-    rows = []
+    """The rows of what `report .. rows` or `replay` printed, each line with its line feed."""
+    return rows_of_lines(map(whole, lines), bucket)
+
+
+def rows_of_lines(lines, bucket):
+    """The rows of whole lines, in order. Any other line is what the program ended with. Of two rows of one stamp, as two
+    archives of a station have them, the later line is taken."""
+    rows = {}
     for line in lines:
-        line = line.rstrip('\n')
         if line.startswith('row '):
-            rows.append(row_of(line, bucket))
+            row = row_of(line, bucket)
+            rows[row.stamp] = row
         elif line.split(' ')[0] not in OTHER_WORDS:
             raise NotRows(f'the program said: {line[:80]}')
     if not rows:
         raise NotRows('there is no row')
-    return rows
+    return [rows[stamp] for stamp in sorted(rows)]

@@ -5,15 +5,17 @@
     jofitrana-sql --since --station roof --zone Europe/Zurich dbname=weather    # the days to report from, as two words
 
 Tables that are not there are made. Just the rows that differ are written, those of a station in one transaction. Without
-`--station` the input has rows of many stations, those of each behind a line `station NAME`. A row in the hour that the end of
-summer time doubles could be of either time, and one in the hour that its beginning leaves out of none: such rows are named on
-standard error and left out.
-Statuses: 0, 1 if the input has no rows or the database fails, 2 if the words are out of form, 3 if rows were left out.
+`--station` the input has rows of many stations, those of each behind a line `station NAME`. With `--since` a row that is ahead
+of this machine's clock is named on standard error, and does not count. A row in the hour that the end of summer time doubles
+could be of either time, and one in the hour that its beginning leaves out of none: such rows are named on standard error and
+left out.
+Statuses: 0, 1 if a station has no rows or no name, if the input is cut or the database fails, 2 if the words are out of form,
+3 if rows were left out.
 """
 import argparse
 import io
 import sys
-from datetime import timedelta, timezone
+from datetime import datetime, timedelta, timezone
 from itertools import groupby
 
 sys.dont_write_bytecode = True  # nothing is left beside an installed script
@@ -35,10 +37,12 @@ COLUMNS = ', '.join(['minutes', *NAMES])
 NEW_COLUMNS = ', '.join(f'excluded.{name}' for name in ['minutes', *NAMES])
 OLD_COLUMNS = ', '.join(f'old.{name}' for name in ['minutes', *NAMES])
 COPY = f'COPY incoming (station, time, {COLUMNS}) FROM STDIN'
+NUL, SHOWN_NUL = '\0', '\\0'  # no text of PostgreSQL has this byte
+SLACK = timedelta(minutes=5)  # by which a console's clock may be ahead of this machine's
 NAME_STATION = 'INSERT INTO station (name, zone) VALUES (%s, %s) ON CONFLICT (name) DO NOTHING'
 FIND_STATION = 'SELECT number, zone FROM station WHERE name = %s'
 COUNT_OLD = 'SELECT count(*) FROM incoming JOIN weather USING (station, time)'
-LAST_TIME = 'SELECT time FROM weather WHERE station = %s ORDER BY time DESC LIMIT 1'
+LAST_TIME = 'SELECT time FROM weather WHERE station = %s AND time <= %s ORDER BY time DESC LIMIT 1'
 # A row that is there with the same values is not written again, so the log of the database and its triggers stay quiet.
 MERGE = f"""\
 INSERT INTO weather AS old (station, time, {COLUMNS}) SELECT station, time, {COLUMNS} FROM incoming
@@ -90,51 +94,87 @@ def write_station(link, name, zone, rows):
     return len(kept) == len(rows)
 
 
+def trouble_of_name(name):
+    """Why a text is no name of a station, if so."""
+    if not name:
+        return 'a station needs a name'
+    return 'no name has a byte of zero' if NUL in name else None
+
+
 def stations_of(lines, name):
-    """The lines of each station with its name."""
+    """The name of each station with its lines, of which there may be none."""
     if name is not None:
         yield name, lines
         return
     for is_name, group in groupby(lines, lambda line: line.startswith(BEGIN)):
         if is_name:
-            *without_lines, line = group
-            name = line.removeprefix(BEGIN).rstrip('\n')
+            *without_lines, name = (row_lines.whole(line).removeprefix(BEGIN) for line in group)
+            yield from ((one, ()) for one in without_lines)
         elif name is None:
             raise Trouble("the rows have no station: give --station, or a line 'station NAME' before them")
         else:
             yield name, group
+            name = None
+    if name is not None:
+        yield name, ()
+
+
+def write_rows(link, name, lines, chosen):
+    """Brings a station up to date from row lines; gives whether all rows name one time."""
+    trouble = trouble_of_name(name)
+    if trouble:
+        raise Trouble(trouble)
+    return write_station(link, name, chosen.zone, row_lines.read_rows(lines, chosen.bucket))
 
 
 def write_all(link, lines, chosen):
     """Brings the stations of the input up to date; gives the status. A station with a trouble does not stop the others."""
-    status = 0
+    status, name = 0, None
     for name, group in stations_of(lines, chosen.station):
         try:
-            rows = row_lines.read_rows(group, chosen.bucket)
-            if not write_station(link, name, chosen.zone, rows):
+            if not write_rows(link, name, group, chosen):
                 status = status or export.LEFT_OUT
         except (row_lines.NotRows, Trouble) as trouble:
-            print(f'sql: station {name}: {trouble}', file=sys.stderr)
+            print(f'sql: station {name.replace(NUL, SHOWN_NUL)}: {trouble}', file=sys.stderr)
             status = 1
+    if name is None:
+        raise Trouble('there is no row')
     return status
 
 
+def last_time(cursor, name, latest):
+    """The time of a station's last row that is not later than a moment, if there is one."""
+    cursor.execute(FIND_STATION, [name])
+    cursor.execute(LAST_TIME, [(cursor.fetchone() or [None])[0], latest])
+    return next(iter(cursor.fetchone() or []), None)
+
+
 def days_to_report(link, name, zone):
-    """The first and the last day of which rows may be new: the row of midnight is of the day before."""
-    first = FIRST_DAY
+    """The first and the last day of which rows may be new: the row of midnight is of the day before. A row of the future is
+    told, and does not count: rows before it are still to come."""
+    now = datetime.now(timezone.utc)
     with link, link.cursor() as cursor:
-        if has_table(cursor, 'weather'):
-            cursor.execute(FIND_STATION, [name])
-            cursor.execute(LAST_TIME, [(cursor.fetchone() or [None])[0]])
-            found = cursor.fetchone()
-            first = (found[0].astimezone(zone) - MINUTE).date() if found else first
-    return first, LAST_DAY
+        if not has_table(cursor, 'weather'):
+            return FIRST_DAY, LAST_DAY
+        last, known = last_time(cursor, name, 'infinity'), last_time(cursor, name, now + SLACK)
+    if last != known:
+        print(f'sql: station {name}: its row of {last.astimezone(zone):%Y-%m-%d %H:%M} is ahead of this machine\'s clock, '
+              'and does not count here', file=sys.stderr)
+    return (known.astimezone(zone) - MINUTE).date() if known else FIRST_DAY, LAST_DAY
+
+
+def station_named(name):
+    """The name of a station, which is a word of the command line."""
+    trouble = trouble_of_name(name)
+    if trouble:
+        raise argparse.ArgumentTypeError(trouble)
+    return name
 
 
 def main():
     words = argparse.ArgumentParser(prog='sql', description='Brings tables of PostgreSQL up to date from row lines.')
     words.add_argument('database', help="the database as libpq takes it, for example 'dbname=weather'")
-    words.add_argument('--station', help='the name of the station; without it lines of the input name stations')
+    words.add_argument('--station', type=station_named, help='the name of the station; without it lines of the input name stations')
     words.add_argument('--zone', type=export.zone_named, required=True, help="the console's time zone, as Europe/Berlin")
     words.add_argument('--bucket', choices=row_lines.BUCKETS, default='0.01in', help='a click of the rain bucket')
     words.add_argument('--since', action='store_true', help='print the days to report from, and write nothing')
@@ -147,7 +187,7 @@ def main():
             print(*days_to_report(link, chosen.station, chosen.zone))
             return
         sys.exit(write_all(link, sys.stdin, chosen))
-    except (Trouble, psycopg2.Error) as trouble:
+    except (row_lines.NotRows, Trouble, psycopg2.Error) as trouble:
         sys.exit('sql: ' + ' '.join(str(trouble).split()))
 
 

@@ -20,6 +20,7 @@ from pathlib import Path
 
 sys.dont_write_bytecode = True  # nothing is left beside the scripts
 
+import field_values
 from trying import LONGEST, MOST_TEXT, NAP, Differs, hold, leave_out
 
 try:
@@ -35,7 +36,7 @@ PERIOD = timedelta(minutes=5)
 STATIONS, ROWS = 1000, 300
 LEFT_OUT = 3
 FIRST = datetime(2024, 6, 30, 23, 0)
-BERLIN = 'Europe/Berlin'
+BERLIN, HERE = 'Europe/Berlin', 'UTC'  # the last one of this machine's clock
 WRITER = "SELECT 1 FROM pg_stat_activity WHERE query LIKE 'INSERT INTO weather%'"
 SUMMER = """\
 row 2024-10-27 01:55 5 outTemp=502
@@ -133,6 +134,35 @@ def same_rows_twice(database):
          [('roof', '18.33', '0.508', '1013.2')])
 
 
+def columns(database, table, station):
+    """The values of the fields of a station in a table or a view, by the names of the fields."""
+    chosen = ', '.join(f'{name}::float8' for name in field_values.NAMES)
+    lines = database.ask(f'SELECT {chosen} FROM {table} WHERE station = {station} ORDER BY time')
+    return dict(zip(field_values.NAMES, zip(*lines)))
+
+
+def units_of(database, table):
+    """The units of a table's columns by the names of fields, as its comments have them."""
+    found = dict(database.ask("SELECT attname, col_description(attrelid, attnum) FROM pg_attribute "
+                              f"WHERE attrelid = '{table}'::regclass AND attnum > 0"))
+    return [found[name.lower()] for name in field_values.NAMES]
+
+
+def values_of_all_fields(database):
+    """Each field is in its unit in the table, and in the metric one in the view, by each bucket: values above and below zero,
+    zeros, and none where the row has none."""
+    for bucket, fields in field_values.FIELDS.items():
+        hold(f'a run of {bucket}', database.run(''.join(field_values.LINES), '--bucket', bucket, station=bucket)[0], 0)
+        number, = database.ask(f"SELECT number FROM station WHERE name = '{bucket}'")[0]
+        hold('the minutes', database.ask(f'SELECT minutes FROM weather WHERE station = {number} ORDER BY time'),
+             [(minutes,) for minutes in field_values.MINUTES])
+        field_values.hold_values(f'weather of {bucket}', columns(database, 'weather', number), field_values.values(bucket))
+        field_values.hold_values(f'weather_metric of {bucket}', columns(database, 'weather_metric', f"'{bucket}'"),
+                                 field_values.metric_values(bucket))
+    for place, table in enumerate(('weather', 'weather_metric')):
+        hold(f'the units of {table}', units_of(database, table), [worked.units[place] for worked in fields.values()])
+
+
 def rows_that_changed(database):
     """Just the rows that differ are written: new ones, other values, and values that are gone."""
     database.run(row_lines(20))
@@ -170,6 +200,23 @@ def days_to_report(database):
     hold('of another station', database.run('', '--since', station='barn'), (0, '1999-12-31 2127-12-31\n', ''))
 
 
+def days_behind_a_row_of_the_future(database):
+    """A row that is ahead of the clock is told, and the days begin with the last row that is not."""
+    now = datetime.now(timezone.utc).replace(tzinfo=None)
+    soon, late = now + timedelta(minutes=3), now + timedelta(minutes=9)
+    database.run(row_lines(14) + row_lines(1, datetime(2088, 7, 2, 12, 0)))
+    hold('behind it', database.run('', '--since'),
+         (0, '2024-07-01 2127-12-31\n', "sql: station roof: its row of 2088-07-02 12:00 is ahead of this machine's clock, "
+          'and does not count here\n'))
+    database.run(row_lines(1, soon), station='soon', zone=HERE)
+    hold('a clock that is a little ahead', database.run('', '--since', station='soon', zone=HERE),
+         (0, f'{soon - timedelta(minutes=1):%Y-%m-%d} 2127-12-31\n', ''))
+    database.run(row_lines(1, late), station='late', zone=HERE)
+    status, printed, trouble = database.run('', '--since', station='late', zone=HERE)
+    hold('a clock that is ahead', (status, printed, f'its row of {late:%Y-%m-%d %H:%M} is ahead' in trouble),
+         (0, '1999-12-31 2127-12-31\n', True))
+
+
 def rows_of_two_years(database):
     """Each year of UTC has a table of its own, and each column a comment with its unit."""
     hold('a run', database.run(row_lines(4, datetime(2025, 1, 1, 0, 50))), (0, counts(4, 4, 0), ''))
@@ -205,12 +252,32 @@ def refusals(database):
          (1, '', 'sql: station roof: the program said: disk fault\n'))
     hold('no row', database.run(''), (1, '', 'sql: station roof: there is no row\n'))
     hold('rows of no station', database.run(row_lines(1), station=None)[:2], (1, ''))
+    hold('no station at all', database.run('', station=None), (1, '', 'sql: there is no row\n'))
+    hold('a report that is cut', database.run(row_lines(2)[:-1]),
+         (1, '', 'sql: station roof: the report is cut: its last line has no line feed: '
+          'row 2024-06-30 23:05 5 outTemp=651 rain=2 barometer=29921 windDir=4\n'))
+    hold('a name that is cut', database.run('station roof', station=None)[:2], (1, ''))
+    status, printed, trouble = database.run(row_lines(1), '--station', '')
+    hold('an empty name', (status, printed, 'a station needs a name' in trouble), (2, '', True))
     hold('a zone that is none', database.run(row_lines(1), zone='Nowhere')[0], 2)
     hold('the days of no station', database.run('', '--since', station=None)[0], 2)
     hold('its tables', database.ask("SELECT to_regclass('weather')"), [(None,)])
     database.name = 'nowhere'
     status, printed, trouble = database.run(row_lines(1))
     hold('a database that is missing', (status, printed, 'database "nowhere" does not exist' in trouble), (1, '', True))
+
+
+def stations_without_rows(database):
+    """A station without rows is named, wherever it stands, and so is one without a good name; the others are written."""
+    names = ('before', 'first', 'between', '', 'second', 'a\0b', 'third', 'behind')
+    with_rows = {'first', '', 'second', 'a\0b', 'third'}
+    lines = ''.join(f'station {name}\n' + (row_lines(1) if name in with_rows else '') for name in names)
+    hold('a run', database.run(lines, station=None),
+         (1, counts(1, 1, 0, station='first') + counts(1, 1, 0, station='second') + counts(1, 1, 0, station='third'),
+          'sql: station before: there is no row\nsql: station between: there is no row\n'
+          'sql: station : a station needs a name\nsql: station a\\0b: no name has a byte of zero\n'
+          'sql: station behind: there is no row\n'))
+    hold('the stations', database.ask('SELECT name FROM station ORDER BY name'), [('first',), ('second',), ('third',)])
 
 
 def two_stations_at_once(database):
@@ -262,8 +329,9 @@ def queries_of_the_manual(database):
          [('barn', '21:00'), ('roof', '22:35')])
 
 
-CASES = (same_rows_twice, rows_that_changed, hour_that_comes_twice, days_to_report, rows_of_two_years, run_that_is_killed,
-         refusals, two_stations_at_once, queries_of_the_manual, many_stations)
+CASES = (same_rows_twice, values_of_all_fields, rows_that_changed, hour_that_comes_twice, days_to_report,
+         days_behind_a_row_of_the_future, rows_of_two_years, run_that_is_killed, refusals, stations_without_rows,
+         two_stations_at_once, queries_of_the_manual, many_stations)
 
 
 def try_all(server):

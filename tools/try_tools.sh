@@ -54,6 +54,7 @@ begin check round_and_check "127.0.0.1:$port"
 begin salvage "$tools/try_salvage.py" "$program"
 begin written "$tools/try_setup.sh"
 begin package "$tools/try_package.sh" "$program"
+begin fields "$tools/try_fields.py"
 begin page "$tools/try_page.py" "$program"
 begin sql "$tools/try_sql.py"
 mkdir shown path
@@ -517,6 +518,7 @@ expect_end salvage 0 '* passed, 0 failed'
 expect_end written 0 '*[1-9]* passed, 0 failed'
 expect_end package 0 '*[1-9]* passed, 0 failed'
 grep -E ' (is missing|is refused): ' package.output >&2
+expect_end fields 0 '*[1-9]* passed, 0 failed'
 if /usr/bin/python3 -c 'import jinja2, matplotlib' 2>/dev/null; then
     expect_end page 0 '*[1-9]* passed, 0 failed'
 else
