@@ -161,7 +161,7 @@ def month_table(rows, month):
 
 
 def merged(summaries):
-    """The summary of a field over several months, which are in order."""
+    """The summary of a field over several days or months, which are in order."""
     low, high = min(summaries, key=lambda one: one.least), max(summaries, key=lambda one: one.greatest)
     return summaries[0]._replace(
         least=low.least, least_at=low.least_at, greatest=high.greatest, greatest_at=high.greatest_at,
@@ -169,11 +169,15 @@ def merged(summaries):
         seconds=sum(one.seconds for one in summaries))
 
 
+def merged_fields(spans):
+    """The summaries of several days or months, which are in order, as those of one."""
+    return {name: merged([fields[name] for fields in spans if name in fields])
+            for name in row_lines.FIELDS if any(name in fields for fields in spans)}
+
+
 def fields_of_year(rows):
     """The summaries of a year, out of those of its months."""
-    months = [fields_of_month(rows, month) for month in range(1, MONTHS + 1)]
-    return {name: merged([fields[name] for fields in months if name in fields])
-            for name in row_lines.FIELDS if any(name in fields for fields in months)}
+    return merged_fields([fields_of_month(rows, month) for month in range(1, MONTHS + 1)])
 
 
 def count_cells(rows, climate, days):

@@ -5,7 +5,8 @@
 
 FOLDER gets index.html, its charts, and a page of climate tables for each year with each table as CSV beside it. A page asks
 no other host and has no script. Each file is replaced as a whole, and a new chart has a new name, so a reader of the folder
-never sees half a page. Times are the console's: this machine's clock has to show them, so set TZ if it does not.
+never sees half a page. With `--also OLD`, once or more, it has the rows of archives that were put aside too. Times are the
+console's: this machine's clock has to show them, so set TZ if it does not.
 Statuses: 0, 1 if a report is refused or cut or the folder cannot be written, 2 if the words are out of form.
 """
 import argparse
@@ -28,6 +29,7 @@ except ImportError:
 import page_now
 import rows as row_lines
 from climate_tables import YearOfRows, tables_of
+from joined import joined
 from reports import Archive, Refused
 from units import Units
 
@@ -164,11 +166,13 @@ def main():
     words.add_argument('--metric', action='store_true', help='degrees Celsius, hPa, m/s and mm')
     words.add_argument('--bucket', choices=row_lines.BUCKETS, default='0.01in', help='a click of the rain bucket')
     words.add_argument('--name', default='Weather station', help='the name of the station')
+    words.add_argument('--also', action='append', default=[], metavar='OLD', help='an older archive of the station, put aside')
     words.add_argument('--program', default='jofitrana', help='the program, if it is another one')
     chosen = words.parse_args()
     try:
         units = Units(chosen.metric, chosen.bucket)
-        Page(Archive(chosen.program, chosen.archive), Folder(chosen.folder), units, chosen.name).write(datetime.now())
+        archive = joined([Archive(chosen.program, name) for name in (chosen.archive, *chosen.also)])
+        Page(archive, Folder(chosen.folder), units, chosen.name).write(datetime.now())
     except (Refused, row_lines.NotRows, OSError) as trouble:
         sys.exit(f'page: {trouble}')
 

@@ -56,6 +56,7 @@ begin written "$tools/try_setup.sh"
 begin package "$tools/try_package.sh" "$program"
 begin fields "$tools/try_fields.py"
 begin page "$tools/try_page.py" "$program"
+begin values "$tools/try_page_values.py" "$program"
 begin sql "$tools/try_sql.py"
 mkdir shown path
 ln -s "$program" path/jofitrana
@@ -521,8 +522,10 @@ grep -E ' (is missing|is refused): ' package.output >&2
 expect_end fields 0 '*[1-9]* passed, 0 failed'
 if /usr/bin/python3 -c 'import jinja2, matplotlib' 2>/dev/null; then
     expect_end page 0 '*[1-9]* passed, 0 failed'
+    expect_end values 0 '*[1-9]* passed, 0 failed'
 else
     expect_end page 0 '*is missing*'
+    expect_end values 0 '*is missing*'
 fi
 if /usr/bin/python3 -c 'import psycopg2' 2>/dev/null && compgen -G '/usr/lib/postgresql/*/bin/initdb' >/dev/null; then
     expect_end sql 0 '*[1-9]* passed, 0 failed'
