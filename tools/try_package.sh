@@ -150,12 +150,12 @@ if command -v systemd-analyze >/dev/null; then
             exposure "units/$name@.service"
     done
 else
-    echo 'systemd-analyze is missing: no exposure of a unit was tried' >&2
+    leave_out 'systemd-analyze is missing: no exposure of a unit was tried'
 fi
 
 # What comes next takes a package, and a root to install it in.
 if ! command -v dpkg-shlibdeps >/dev/null || ! git -C "$tools" rev-parse 2>/dev/null; then
-    echo 'dpkg-dev or the repository of git is missing: no package was installed' >&2
+    leave_out 'dpkg-dev or the repository of git is missing: no package was installed'
     conclude
     exit
 fi
@@ -165,7 +165,7 @@ expect 'who owns the files of the package, and their modes' 0 \
     eval "dpkg-deb -c '$package' | awk '{ print \$1, \$2 }' | sort -u | paste -sd,"
 expect 'its program' 0 '-rwxr-xr-x*' eval "dpkg-deb -c '$package' | grep ' ./usr/bin/jofitrana\$'"
 if [ "$OWN_ROOT" = no ]; then
-    echo 'an overlay in mounts of its own is refused: no package was installed and no unit was run, which takes root' >&2
+    leave_out 'an overlay in mounts of its own is refused: no package was installed and no unit was run, which takes root'
     conclude
     exit
 fi
@@ -247,7 +247,7 @@ if in_root /usr/bin/python3 -c 'import jinja2, matplotlib' 2>/dev/null; then
     expect 'a page by its unit' 0 '' unit jofitrana-page
     expect 'whose page it is' 0 jofitrana in_root stat -c %U /var/lib/jofitrana/roof.page/index.html
 else
-    echo 'python3-jinja2 or python3-matplotlib is missing: no page was made by its unit' >&2
+    leave_out 'python3-jinja2 or python3-matplotlib is missing: no page was made by its unit'
 fi
 
 # An upgrade starts no timer, and neither way to take the package away touches what the observer has.
