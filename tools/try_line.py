@@ -3,29 +3,34 @@
 
     tools/try_line.py PROGRAM
 
-The cases run side by side, each with a peer of its own, in some 20 seconds. Times are held within a quarter, or longer by
-what the machine spent on others, and a case that misses one is tried again. A case that cannot be run here is named with
-the reason. The last line is 'N passed, M failed', and the status is 1 if any failed.
+The cases run side by side, each with a peer of its own, in some 30 seconds. Times are held within a quarter, or longer by
+what the machine spent on others; many waits together may be shorter by a tenth alone. A case that misses a time is tried
+again. A case that cannot be run here is named with the reason. The last line is 'N passed, M failed', and the status is 1 if
+any failed.
 """
 import re
 import signal
 import socket
 import sys
 import time
-from contextlib import contextmanager
+from contextlib import ExitStack, contextmanager
 from pathlib import Path
-from statistics import median
+from subprocess import Popen
 from threading import Thread
 
 sys.dont_write_bytecode = True  # nothing is left beside the scripts
 
+from model.archive import CLOSED_GATE, THIS_VERSION, head_slot, sealed_batch, slots_to_add
+from model.records import FIELDS
+from model.rows import Row
 from trying import LONGEST, SLEEPER, Differs, Ended, Missed, hold, hold_seconds, need, try_all
 
-HERE, ALSO_HERE = "127.0.0.1", "127.0.0.2"
+HERE, ALSO_HERE, HERE_TOO = "127.0.0.1", "127.0.0.2", "127.0.0.3"
 QUIET_WAIT = 0.4  # seconds
+SOONER = 0.1  # the part of many waits by which they may be shorter, since the check may see the first byte late
 TO_CALL = 10  # seconds for all addresses of a name: each has half of what is left
-TO_SAY = 10  # seconds for one message
-TO_BEGIN = 10  # seconds within which a console serves
+TO_TAKE = 10  # seconds in which some of a message has to be taken
+TO_BEGIN = 10  # seconds within which the program listens
 BETWEEN_LOOKS = 0.05
 WITHIN_A_WAIT, WITHIN_A_MESSAGE = 0.1, 1  # seconds between one signal and the next
 
@@ -47,11 +52,25 @@ LINK_FAULT = Ended(6, "link fault\n")
 FEW_TURNS, MANY_TURNS = 5, 1000000
 MESSAGES = 8
 ROWS_OF_MESSAGES = 5
-LEAST_DELAY = 0.04  # seconds by which Linux puts off confirming what came
+MOST_ALONE = 0.75  # the part of them that comes in segments of their own
+SEGMENTS_IN = slice(152, 156)  # the place of tcpi_data_segs_in in Linux's tcp_info
 SMALL_BUFFER, SMALL_SEGMENT = 2048, 500
 MANY_PAGES = 3000  # more than the system keeps for a caller who takes none
 CALLS_FOR_A_PART = 150  # to wake: behind so many replies Linux was seen to take a part of a page that had waited
-LISTENS = "0A"  # a state in /proc/net/tcp
+LISTENS, IS_CONNECTED = "0A", "01"  # states in /proc/net/tcp
+
+ROWS = 1000
+FIRST_STAMP, PERIOD = 12_000_000, 5  # minutes from 2000-01-01, and minutes
+ALL_ROWS = b"rows 1999-12-31 2127-12-31\n"
+ANSWERS = 250  # to so many requests, of some 40 bytes a row: more than twice what Linux keeps for a line
+TO_SERVE = 25  # seconds of a case: more than twice as long as a message has if nothing of it is taken
+PAUSE = 0.1  # seconds between two takings
+# What a caller takes a second, and the buffer and the segments that its system has for the line: with small ones the system says
+# often that some was taken. A third of what Linux keeps for such a line takes longer than a message has.
+SLOW, SLOW_BUFFER = 5000, 8192
+SLOWER = 400  # with the smallest ones: a message of 8 kB takes 20 seconds
+SHAPED_LINE = "tbf rate 400kbit burst 3000 latency 200ms"
+LEAST_OVER_IT = 15 * 20_000  # bytes that come over that line in the time of a case; what is lost there and said again is not counted
 
 
 def listener(host=HERE, **options):
@@ -83,23 +102,35 @@ def calling(program, words):
 
 
 @contextmanager
-def serving(program, turns, host=HERE):
-    """A console that listens, and its port."""
-    program.write("settings", "period = 5\n")
-    program.write("schedule", "run 2024-07-01 00:05 288 outTemp=650\n")
+def listening(program, words, host=HERE, under=()):
+    """A run that waits for a caller, and its port."""
     port = free_port()
-    with program.start(f"console settings schedule {host}:{port} {turns}") as run:
-        while not listens(port):
-            if run.seconds() > TO_BEGIN:
+    with program.start(words.format(f"{host}:{port}"), under=under) as run:
+        while not listens(run.process.pid, port):
+            if run.began.is_over(TO_BEGIN):
                 raise Missed(f"it does not listen at {host}:{port}")  # another process may have taken the port
             time.sleep(BETWEEN_LOOKS)
         yield run, port
 
 
-def listens(port):
-    """Whether somebody listens at a port of this machine. It is not called, since a console takes one caller."""
-    rows = [row.split() for row in Path("/proc/net/tcp").read_text(encoding="ascii").splitlines()[1:]]
-    return any(row[1].endswith(f":{port:04X}") and row[3] == LISTENS for row in rows)
+@contextmanager
+def serving(program, turns, host=HERE):
+    """A console that listens, and its port."""
+    program.write("settings", "period = 5\n")
+    program.write("schedule", "run 2024-07-01 00:05 288 outTemp=650\n")
+    with listening(program, f"console settings schedule {{}} {turns}", host) as (run, port):
+        yield run, port
+
+
+def sockets(process, port, state):
+    """The sockets in this state at a port where that process runs, as rows of words."""
+    rows = [row.split() for row in Path(f"/proc/{process}/net/tcp").read_text(encoding="ascii").splitlines()[1:]]
+    return [row for row in rows if row[1].endswith(f":{port:04X}") and row[3] == state]
+
+
+def listens(process, port):
+    """Whether somebody listens at a port where that process runs. It is not called, since the program takes one caller."""
+    return sockets(process, port, LISTENS) != []
 
 
 def is_taken(host, port):
@@ -123,11 +154,12 @@ def hear(line, count):
 
 
 def hold_talk(line, wanted):
-    """Holds what comes over a line, and the waits before each piece."""
-    before = SLEEPER.now()
+    """Holds what comes over a line, and the waits before each piece and altogether."""
+    first = before = SLEEPER.now()
     for waits, piece in wanted:
         hold("it said", line.recv(SMALL_BUFFER), piece)
         before = hold_seconds(f"the waits before {piece}", before, waits * QUIET_WAIT)
+    hold_seconds("all waits", first, sum(waits for waits, _ in wanted) * QUIET_WAIT, SOONER)
 
 
 def stop_and_continue(process):
@@ -201,16 +233,36 @@ def call_where_nobody_listens(program):
     hold("it called", called, [(str(port).encode(), HERE.encode())])
 
 
-def call_by_a_name(program):
-    """Each address of a name is called until one answers, be it the first or the last."""
-    program.write("hosts", f"{HERE} console\n{ALSO_HERE} console\n")
+def with_a_name(program, *hosts):
+    """The command under which these addresses have the name `console`."""
+    program.write("hosts", "".join(f"{host} console\n" for host in hosts))
     naming = f'mount --bind {program.folder}/hosts /etc/hosts && exec "$@"'
     under = ["unshare", "-rm", "sh", "-c", naming, "sh"]
     need(*under, "true")
+    return under
+
+
+def call_by_a_name(program):
+    """Each address of a name is called until one answers, be it the first or the last."""
+    under = with_a_name(program, HERE, ALSO_HERE)
     for host in (HERE, ALSO_HERE):
         with listener(host) as peer, program.start(TASK.format(f"console:{peer.getsockname()[1]}"), under=under) as run:
             peer.accept()[0].close()
             hold("the task", run.end(), LINK_FAULT)
+
+
+def call_by_a_name_that_is_not_answered(program):
+    """Each address of a name has half of the time that is left."""
+    hosts = HERE, ALSO_HERE, HERE_TOO
+    under = with_a_name(program, *hosts)
+    port = free_port()
+    with ExitStack() as queues:
+        for host in hosts:
+            queues.enter_context(socket.create_server((host, port), backlog=0))
+            queues.enter_context(socket.create_connection((host, port)))
+        with program.start(TASK.format(f"console:{port}"), under=under) as run:
+            hold("the task", run.end(), LINK_FAULT)
+            hold_seconds("the calls", run.began, TO_CALL * (1 - 0.5 ** len(hosts)))
 
 
 def with_one_port(port):
@@ -247,19 +299,21 @@ def caller_elsewhere(program):
         hold("the console", run.end(), LINK_FAULT)
 
 
+def segments_in(line):
+    """How many segments with data came over a line."""
+    return int.from_bytes(line.getsockopt(socket.IPPROTO_TCP, socket.TCP_INFO, SEGMENTS_IN.stop)[SEGMENTS_IN], sys.byteorder)
+
+
 def messages_in_a_row(program):
-    """A message is sent at once, and not only when the one before it is confirmed."""
-    delays = []
+    """A message is sent at once, and does not wait for the next one until the one before it is confirmed."""
     with serving(program, MANY_TURNS) as (_, port), socket.create_connection((HERE, port)) as line:
         for _ in range(ROWS_OF_MESSAGES):
             line.setsockopt(socket.IPPROTO_TCP, socket.TCP_QUICKACK, 0)
             line.sendall(MESSAGES * LF)
-            hear(line, len(AWAKE))
-            began = time.monotonic()
-            hear(line, (MESSAGES - 1) * len(AWAKE))
-            delays.append(time.monotonic() - began)
-    if median(delays) > LEAST_DELAY / 2:
-        raise Differs(f"the messages behind the first are late by {delays} s")
+            hear(line, MESSAGES * len(AWAKE))
+        segments = segments_in(line)
+    if segments < ROWS_OF_MESSAGES * MESSAGES * MOST_ALONE:
+        raise Differs(f"{ROWS_OF_MESSAGES * MESSAGES} messages came in {segments} segments")
 
 
 @contextmanager
@@ -273,31 +327,102 @@ def untaken_message(program, calls):
             line.sendall(said)
             hear(line, count)
         line.sendall(ACK + MANY_PAGES * NAK)
-        yield run
+        yield run, port
 
 
-def hold_untaken(run):
-    """Holds how a console ends that cannot say its message, and when."""
-    began = SLEEPER.now()
+def hold_untaken(run, port):
+    """Holds how a console ends that cannot say its message, and when: so long after the system took the last part of it."""
+    queued, rose = 0, SLEEPER.now()
+    while run.process.poll() is None and not rose.is_over(LONGEST):
+        before, queued = queued, sum(int(row[4].split(":")[0], 16) for row in sockets(run.process.pid, port, IS_CONNECTED))
+        rose = SLEEPER.now() if queued > before else rose
+        time.sleep(BETWEEN_LOOKS)
+    hold_seconds("the message", rose, TO_TAKE)
     hold("the console", run.end(), LINK_FAULT)
-    hold_seconds("the message", began, TO_SAY)
 
 
 def message_that_is_not_taken(program):
-    """A message ends by itself, though the system takes another part of it at the last moment."""
-    with untaken_message(program, CALLS_FOR_A_PART) as run:
-        hold_untaken(run)
+    """A message ends by itself, and waits as long again if the system takes another part of it."""
+    with untaken_message(program, CALLS_FOR_A_PART) as (run, port):
+        hold_untaken(run, port)
 
 
 def message_that_is_disturbed(program):
-    """A process that is stopped and goes on has as long to say a message, no less and no more."""
-    with untaken_message(program, 1) as run, disturbed(run, WITHIN_A_MESSAGE):
-        hold_untaken(run)
+    """A process that is stopped and goes on waits as long for a message to be taken, no less and no more."""
+    with untaken_message(program, 1) as (run, port), disturbed(run, WITHIN_A_MESSAGE):
+        hold_untaken(run, port)
+
+
+def archive_of_rows(count):
+    """An archive with so many rows of one field, each in a batch of its own."""
+    rows, batches = [], []
+    for number in range(count):
+        row = Row(FIRST_STAMP + PERIOD * number, PERIOD, (number, *[None] * (len(FIELDS) - 1)))
+        batches.append(sealed_batch(slots_to_add(rows, [row])))
+        rows.append(row)
+    return head_slot(THIS_VERSION) + b"".join(batches) + CLOSED_GATE
+
+
+@contextmanager
+def asked(program, buffer, segment=None):
+    """A service that was asked for more than the system keeps, and a line with a buffer of this size, of which nothing is taken yet."""
+    program.write("archive", archive_of_rows(ROWS))
+    with listening(program, f"serve archive {{}} {MANY_TURNS}") as (run, port), socket.socket() as line:
+        line.setsockopt(socket.SOL_SOCKET, socket.SO_RCVBUF, buffer)
+        if segment:
+            line.setsockopt(socket.IPPROTO_TCP, socket.TCP_MAXSEG, segment)
+        line.connect((HERE, port))
+        line.sendall(ANSWERS * ALL_ROWS)
+        yield run, line
+
+
+def hold_served(run, line, speed):
+    """Holds that a caller who takes so many bytes a second is served for some time."""
+    began = SLEEPER.now()
+    taken = 0
+    while began.seconds() < TO_SERVE:
+        due = int(speed * began.seconds()) - taken
+        taken += len(line.recv(due)) if due > 0 else 0
+        if run.process.poll() is not None:
+            raise Differs(f"{run.end()} after {began.seconds():.1f} s and {taken} bytes")
+        time.sleep(PAUSE)
+
+
+def caller_who_takes_slowly(program):
+    """Who takes 5 kB a second is served on, though the queue of the line has a third of its room again only after minutes."""
+    with asked(program, SLOW_BUFFER) as (run, line):
+        hold_served(run, line, SLOW)
+
+
+def message_that_is_taken_slowly(program):
+    """A message may take longer than 10 seconds, as long as some of it is taken."""
+    with asked(program, SMALL_BUFFER, SMALL_SEGMENT) as (run, line):
+        hold_served(run, line, SLOWER)
+
+
+def caller_over_a_slow_line(program):
+    """Who is at the end of a slow line is served on, as fast as the line is."""
+    shaped = f'ip link set lo mtu 1500 up && tc qdisc add dev lo root {SHAPED_LINE} && exec "$@"'
+    under = ["unshare", "-rn", "sh", "-c", shaped, "sh"]
+    for command in (["ip", "-V"], ["tc", "-V"], ["nsenter", "-V"], [*under, "true"]):
+        need(*command)
+    program.write("archive", archive_of_rows(ROWS))
+    program.write("requests", ANSWERS * ALL_ROWS)
+    with listening(program, f"serve archive {{}} {MANY_TURNS}", under=under) as (run, port):
+        taking = f"exec 3<>/dev/tcp/{HERE}/{port} && cat requests >&3 && exec cat <&3 >taken"
+        inside = ["nsenter", "--preserve-credentials", "-U", "-n", "-t", str(run.process.pid), "bash", "-c", taking]
+        with Popen(inside, cwd=program.folder) as caller:
+            time.sleep(TO_SERVE)
+            ended = run.process.poll()
+            caller.kill()
+        hold("the service has ended", ended, None)
+        hold("as much came as the line takes", len(program.read("taken")) > LEAST_OVER_IT, True)
 
 
 CASES = (task_at_a_silent_console, round_at_a_silent_console, task_that_is_disturbed, console_that_hangs_up,
-         call_that_is_not_answered, call_where_nobody_listens, call_by_a_name, call_to_itself, turns_of_a_console,
-         caller_elsewhere, messages_in_a_row, message_that_is_not_taken, message_that_is_disturbed)
+         call_that_is_not_answered, call_where_nobody_listens, call_by_a_name, call_by_a_name_that_is_not_answered,
+         call_to_itself, turns_of_a_console, caller_elsewhere, messages_in_a_row, message_that_is_not_taken,
+         message_that_is_disturbed, caller_who_takes_slowly, message_that_is_taken_slowly, caller_over_a_slow_line)
 
 if __name__ == "__main__":
     sys.exit(try_all(sys.argv, __doc__, CASES, len(CASES)))

@@ -153,17 +153,18 @@ def hold(what, seen, wanted):
         raise Differs(f"{what}: {seen!r}, in place of {wanted!r}")
 
 
-def hold_seconds(what, began, wanted):
-    """Holds the time since a moment against the one that is wanted, within a quarter, and gives this moment. The time may be
-    longer by what the machine spent on others meanwhile."""
+def hold_seconds(what, began, wanted, sooner=SLACK):
+    """Holds the time since a moment against the one that is wanted, and gives this moment. It may be shorter by that part, and
+    longer by a quarter and by what the machine spent on others meanwhile."""
     now = SLEEPER.now()
     seconds = now.time - began.time
     slack = max(SLACK * wanted, AT_ONCE)
+    least = wanted - max(sooner * wanted, AT_ONCE)
     late = 0.0
     if seconds > wanted + slack:
         time.sleep(2 * NAP)  # until the sleeper has counted too
         late = began.lateness()
-    if not wanted - slack <= seconds <= wanted + slack + late:
+    if not least <= seconds <= wanted + slack + late:
         raise Missed(f"{what}: {seconds:.2f} s, in place of {wanted:.2f} s; others took {late:.2f} s")
     return now
 

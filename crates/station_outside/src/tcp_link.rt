@@ -16,8 +16,12 @@ const QUIET: u64 = 400;
 /// How long a call may take, all addresses of its name together, in milliseconds.
 const CALLING: u64 = 10_000;
 
-/// How long a message may take to be said, in milliseconds.
-const SAYING: u64 = 10_000;
+/// How long a message may wait while nothing of it is taken, in milliseconds.
+const TAKING: u64 = 10_000;
+
+/// One write of a message, in milliseconds. Linux wakes a write that waits only once a third of what
+/// it keeps for the line is free, but a new write takes what is free.
+const WRITING: u64 = 400;
 
 /// The least time in milliseconds that the system is asked to wait, since 0 would be no limit to it.
 const LEAST: u64 = 1;
@@ -122,25 +126,29 @@ fn left(clock: &impl Clock, begun: Instant, millis: u64) -> io::Result<Duration>
     Ok(left.max(Duration::from_millis(LEAST)))
 }
 
-// Says all of the bytes. What is left once the time has passed is not said.
+// Says all of the bytes. What is left once nothing was taken for so long is not said.
 fn say(clock: &impl Clock, stream: &mut Option<TcpStream>, bytes: &[u8]) -> io::Result<()> {
     let stream = connected(stream)?;
-    let begun = Instant::now(clock)?;
+    let mut taken = Instant::now(clock)?;
     let mut at = 0;
     for _ in 0..u64::MAX {
         if at == bytes.len() {
             return Ok(());
         }
-        if begun.elapsed(clock)? >= Duration::from_millis(SAYING) {
-            break;
+        let wait = left(clock, taken, TAKING)?.min(Duration::from_millis(WRITING));
+        stream.set_write_timeout(Some(wait))?;
+        match understand(stream.write(&bytes[at..])) {
+            Outcome::Moved(count) => {
+                at += count;
+                taken = Instant::now(clock)?;
+            }
+            Outcome::Waited | Outcome::Interrupted => {
+                if taken.elapsed(clock)? >= Duration::from_millis(TAKING) {
+                    break;
+                }
+            }
+            Outcome::Ended | Outcome::Failed => break,
         }
-        stream.set_write_timeout(Some(left(clock, begun, SAYING)?))?;
-        let count = match understand(stream.write(&bytes[at..])) {
-            Outcome::Moved(count) => count,
-            Outcome::Interrupted => continue,
-            Outcome::Ended | Outcome::Waited | Outcome::Failed => break,
-        };
-        at += count;
     }
     Err(ErrorKind::BrokenPipe.into())
 }
