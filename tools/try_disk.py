@@ -14,7 +14,9 @@ import socket
 import subprocess
 import sys
 import time
+from concurrent.futures import ThreadPoolExecutor
 from contextlib import contextmanager
+from functools import partial
 from pathlib import Path
 
 sys.dont_write_bytecode = True  # nothing is left beside the scripts
@@ -43,7 +45,11 @@ WRITE_FAULT = Ended(9, "")
 CALLS = ("fsync", "fdatasync", "flock", "pwrite64")
 COPY_ASKS = ["flock new LOCK_EX|LOCK_NB", "fsync .", "fdatasync new", "pwrite64 new 177 at 0", "fdatasync new",
              "pwrite64 new 352 at 177", "fdatasync new", "pwrite64 new 1 at 176", "fdatasync new"]
-SYNCS = [call for call, *_ in map(str.split, COPY_ASKS) if "sync" in call]
+CALLED = [call for call, *_ in map(str.split, COPY_ASKS)]
+OF_MAKING = 5  # of these calls
+READS = "pread64"
+ERRORS = {"flock": ["EIO", "ENOLCK"], "fsync": ["EIO"], "fdatasync": ["EIO", "ENOSPC"], "pwrite64": ["EIO", "ENOSPC"]}
+MASK, MODE = 0o022, "0o100644"  # of a new file: all may read it, and its owner may write it
 
 
 def row_slot(gate, rows, minute, tenths):
@@ -52,8 +58,16 @@ def row_slot(gate, rows, minute, tenths):
         + tenths.to_bytes(2, "little") + bytes(154)
 
 
-# An archive with one batch of two rows.
-ARCHIVE = b"DVARCH02" + bytes(168) + row_slot(1, 2, 5, 651) + row_slot(0, 0, 10, 652) + bytes(1)
+# An archive without rows, and one with a batch of two.
+NEW_ARCHIVE = b"DVARCH02" + bytes(169)
+ARCHIVE = NEW_ARCHIVE[:-1] + row_slot(1, 2, 5, 651) + row_slot(0, 0, 10, 652) + bytes(1)
+LENGTHS = range(len(NEW_ARCHIVE) + 1)
+MARK_LENGTH = 8  # of what an archive begins with; zeros follow
+ZERO, ONES = 0, 0xFF  # what a power cut may leave in place of a byte
+OTHER = ord("=")
+SETTINGS = b"period = 5\nrows = 5000\n" + 20 * b"# calibration\n"
+MOST_SHOWN = 20  # bytes of such a file
+ROUNDS_AT_ONCE = 8
 
 
 def with_archive(program):
@@ -91,22 +105,135 @@ def closing(streams):
     return lambda: [os.close(stream) for stream in streams]
 
 
-def calls_in_order(program):
-    """A copy locks its archive, syncs the folder, and waits for the disk twice in each batch."""
-    with_archive(program)
-    ended, trace = traced(program, COPY, "-e", "trace=" + ",".join(CALLS))
-    hold("the copy", ended, ENDS[COPY])
+def asked_in_order(program, words, path="new", folder="."):
+    """Holds that a copy locks its archive, syncs the folder, and waits for the disk twice in each batch."""
+    wanted = [ask.replace("new", path).replace("fsync .", f"fsync {folder}") for ask in COPY_ASKS]
+    ended, trace = traced(program, words, "-e", "trace=" + ",".join(CALLS))
+    hold(words, ended, ENDS[COPY])
     calls = re.findall(r" (\w+)\(\d+<(.*?)>(?:, )?(.*)\) += ", trace)
-    hold("it asked", [asked(*call, program.folder.resolve()) for call in calls], COPY_ASKS)
+    hold(f"{words} asked", [asked(*call, program.folder.resolve()) for call in calls], wanted)
 
 
-def sync_that_fails(program):
-    """Each sync that fails is a disk fault."""
+def calls_in_order(program):
+    """So does a copy to a file that is made, which all may read, and to one that is there."""
     with_archive(program)
-    for place, call in enumerate(SYNCS):
-        inject = f"inject={call}:error=EIO:when={SYNCS[:place + 1].count(call)}"
-        ended, _ = traced(program, f"{COPY}{place}", "-e", inject)
-        hold(f"a copy with {inject}", ended, DISK_FAULT)
+    before = os.umask(MASK)
+    asked_in_order(program, COPY)
+    os.umask(before)
+    hold("the mode of what it made", oct((program.folder / "new").stat().st_mode), MODE)
+    program.write("new", b"")
+    asked_in_order(program, COPY)
+
+
+def calls_for_another_folder(program):
+    """The folder that is synced is the one where the archive lies, also if a link in another one leads to it."""
+    with_archive(program)
+    (program.folder / "below").mkdir()
+    asked_in_order(program, "copy old below/new", "below/new", "below")
+    os.symlink("below/other", program.folder / "link")
+    asked_in_order(program, "copy old link", "below/other", "below")
+    os.symlink("below/new", program.folder / "read")
+    hold("a report by a link", program.run(REPORT.replace("old", "read")), ENDS[REPORT])
+    hold("a copy by links", program.run("copy read link"), ENDS[COPY])
+
+
+def call_that_fails(program):
+    """Each call that fails is a disk fault, whatever the error, and a copy made again is whole."""
+    with_archive(program)
+    for place, call in enumerate(CALLED):
+        for error in ERRORS[call]:
+            inject = f"inject={call}:error={error}:when={CALLED[:place + 1].count(call)}"
+            name = f"new{place}{error}"
+            ended, _ = traced(program, f"copy old {name}", "-e", inject)
+            hold(f"a copy with {inject}", ended, DISK_FAULT)
+            hold(f"a copy after one with {inject}", program.run(f"copy old {name}"), ENDS[COPY])
+            hold(f"what is copied after {inject}", program.read(name), ARCHIVE)
+
+
+def read_that_fails(program):
+    """Each read of an archive that fails is a disk fault."""
+    with_archive(program)
+    of_archives = (*[word for name in ("old", "new") for word in ("-P", str(program.folder.resolve() / name))], "-e")
+    for words in (REPORT, COPY):
+        _, trace = traced(program, words, *of_archives, f"trace={READS}")
+        hold(f"{words} reads", READS in trace, True)
+        for place in range(trace.count(READS)):
+            inject = f"inject={READS}:error=EIO:when={place + 1}"
+            ended, _ = traced(program, words, *of_archives, inject)
+            hold(f"{words} with {inject}", ended, DISK_FAULT)
+
+
+def making_that_is_killed(program):
+    """An archive whose making was killed at any call is made by the next copy."""
+    with_archive(program)
+    for place, call in enumerate(CALLED[:OF_MAKING]):
+        inject = f"inject={call}:signal=KILL:when={CALLED[:place + 1].count(call)}"
+        ended, _ = traced(program, f"copy old new{place}", "-e", inject)
+        hold(f"what a copy printed with {inject}", ended.printed, "")
+        hold(f"a copy after one with {inject}", program.run(f"copy old new{place}"), ENDS[COPY])
+        hold(f"what is copied after {inject}", program.read(f"new{place}"), ARCHIVE)
+
+
+def put(image, place, byte):
+    """An image with another byte at a place."""
+    return image[:place] + bytes([byte]) + image[place + 1:]
+
+
+def images_of_making():
+    """What a power cut may leave of an archive that was being made: of each length, and with zeros or ones in its place."""
+    for length in LENGTHS:
+        yield NEW_ARCHIVE[:length]
+        yield bytes(length)
+        yield bytes([ONES]) * length
+    for place in (*range(MARK_LENGTH), len(NEW_ARCHIVE) - 1):
+        yield put(NEW_ARCHIVE, place, ONES)
+        yield put(NEW_ARCHIVE, place, ZERO)
+
+
+def images_of_others():
+    """Short files that were no archive: settings of each length, and an archive of which one byte differs."""
+    for length in LENGTHS[1:]:
+        yield SETTINGS[:length]
+    for place in range(len(NEW_ARCHIVE)):
+        yield put(NEW_ARCHIVE, place, OTHER)
+
+
+def round_over(program, wanted, left, numbered):
+    """Holds how a round ends with an archive of these bytes, and what it leaves of them."""
+    number, image = numbered
+    name = f"short{number}"
+    program.write(name, image)
+    what = f"{len(image)} bytes with {image.strip(bytes([ZERO]))[:MOST_SHOWN]!r}"
+    hold(f"a round with {what}", program.run(ROUND.replace("old", name)), wanted)
+    hold(f"what is left of {what} is as wanted", program.read(name) == (left or image), True)
+
+
+def short_archives(program):
+    """What a power cut may leave of an archive that was being made is made anew."""
+    with_archive(program)
+    with ThreadPoolExecutor(ROUNDS_AT_ONCE) as pool:
+        list(pool.map(partial(round_over, program, ENDS[ROUND], NEW_ARCHIVE), enumerate(sorted(set(images_of_making())))))
+
+
+def short_files(program):
+    """Any other short file is a disk fault, and stays as it is, also if an archive is copied to it."""
+    with_archive(program)
+    with ThreadPoolExecutor(ROUNDS_AT_ONCE) as pool:
+        list(pool.map(partial(round_over, program, DISK_FAULT, None), enumerate(sorted(set(images_of_others())))))
+    hold("a copy to settings", program.run("copy old settings"), DISK_FAULT)
+    hold("the settings", program.read("settings"), b"period = 5\n")
+
+
+def files_of_one_number(program):
+    """Two files of different disks are two files, though both have the same number there."""
+    with_archive(program)
+    for disk in ("first", "second"):
+        (program.folder / disk).mkdir()
+    mounting = 'cd "$0" && mount -t tmpfs none first && mount -t tmpfs none second && cp old first && : >second/new && "$@"'
+    under = ["unshare", "-rm", "sh", "-c", mounting, str(program.folder)]
+    need(*under, "true")
+    need(*under, "sh", "-c", '[ "$(stat -c %i first/old)" = "$(stat -c %i second/new)" ]')
+    hold("a copy", program.run("copy first/old second/new", under=under), ENDS[COPY])
 
 
 def calls_in_part(program):
@@ -190,8 +317,9 @@ def held_streams(program):
             hold(f"in place of {streams}", held, ["/dev/null"] * len(streams))
 
 
-CASES = (calls_in_order, sync_that_fails, calls_in_part, no_plain_file, pipe_is_not_opened, file_that_was_replaced,
-         archive_of_another, closed_streams, held_streams)
+CASES = (calls_in_order, calls_for_another_folder, call_that_fails, read_that_fails, making_that_is_killed, short_archives,
+         short_files, files_of_one_number, calls_in_part, no_plain_file,
+         pipe_is_not_opened, file_that_was_replaced, archive_of_another, closed_streams, held_streams)
 
 if __name__ == "__main__":
     sys.exit(try_all(sys.argv, __doc__, CASES, 1))

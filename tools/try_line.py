@@ -70,7 +70,7 @@ PAUSE = 0.1  # seconds between two takings
 SLOW, SLOW_BUFFER = 5000, 8192
 SLOWER = 400  # with the smallest ones: a message of 8 kB takes 20 seconds
 SHAPED_LINE = "tbf rate 400kbit burst 3000 latency 200ms"
-LEAST_OVER_IT = 15 * 20_000  # bytes that come over that line in the time of a case; what is lost there and said again is not counted
+LEAST_OVER_IT = 300_000  # bytes that come over that line within a case, in which it carries some 1,250,000
 
 
 def listener(host=HERE, **options):
@@ -365,7 +365,7 @@ def archive_of_rows(count):
 
 @contextmanager
 def asked(program, buffer, segment=None):
-    """A service that was asked for more than the system keeps, and a line with a buffer of this size, of which nothing is taken yet."""
+    """A service that was asked for more than the system keeps, and a line with such a buffer, of which nothing is taken yet."""
     program.write("archive", archive_of_rows(ROWS))
     with listening(program, f"serve archive {{}} {MANY_TURNS}") as (run, port), socket.socket() as line:
         line.setsockopt(socket.SOL_SOCKET, socket.SO_RCVBUF, buffer)

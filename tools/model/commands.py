@@ -4,7 +4,7 @@ import re
 
 from .archive import read_archive
 from .climate import FIRST_YEAR, LAST_YEAR, climate_lines
-from .copies import copy
+from .copies import copy, may_be_written
 from .fleets import MOST_STATIONS, fleet_outcome
 from .made import MOST_MADE, MOST_SEED, make
 from .outcomes import BAD_WORDS, DISK_FAULT, DONE, FILE_TOO_LONG, READ_FAULT, Refusal, outcome
@@ -125,5 +125,8 @@ def climate(name, year_text, files):
 
 def copied(old, new, files):
     """What a copy ends with; a new file that is not there is made."""
-    result, files[new] = copy(archive_content(old, files), files.get(new, b""))
+    source, target = archive_content(old, files), files.get(new, b"")
+    if not may_be_written(target):
+        raise Refusal(DISK_FAULT, "disk fault")
+    result, files[new] = copy(source, target)
     return result

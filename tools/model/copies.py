@@ -6,6 +6,7 @@ from .outcomes import ARCHIVE_FULL, DONE, NOT_A_PREFIX, Refusal, outcome
 from .settings import MOST_ROWS
 
 ROWS_OF_BATCH = 5
+LEFT_BY_POWER_CUT = 0, 0xFF  # in place of a byte that was being written
 
 
 def copy(old, new):
@@ -24,6 +25,12 @@ def copy(old, new):
         return outcome(NOT_A_PREFIX, [f"not a prefix at row {differs}"]), new
     new = with_rows_added(new, target, source[len(target.rows):])
     return outcome(DONE, [f"copied {len(source)}"]), new
+
+
+def may_be_written(image):
+    """Whether a file is opened to be written: a short one only if a power cut may have left it of an archive in the making."""
+    wanted = head_slot(THIS_VERSION) + CLOSED_GATE
+    return len(image) > len(wanted) or all(byte in (whole, *LEFT_BY_POWER_CUT) for byte, whole in zip(image, wanted))
 
 
 def first_difference(rows, source):

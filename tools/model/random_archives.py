@@ -247,6 +247,13 @@ def unfinished(chance, plan, rows):
     return replace(plan, tail=tail[:written] + chance.choice([b"", b"\0", b"\xff"]))
 
 
+def torn(chance, image):
+    """What a power cut may leave of bytes that were being written, with another byte now and then."""
+    cut = bytes(chance.choice([byte, 0, 0xFF]) for byte in image)
+    place = chance.randrange(len(cut)) if cut and chance.random() < 0.3 else len(cut)
+    return cut[:place] + chance.randbytes(len(cut[place:place + 1])) + cut[place + 1:]
+
+
 def target_bytes(chance, rows):
     """The bytes of a file to copy some rows to, None where there is none."""
     some = rows[:chance.randint(0, len(rows))]
@@ -256,7 +263,7 @@ def target_bytes(chance, rows):
         return None
     if what == "short":
         size = chance.choice([0, 1, 8, SLOT_BYTES, EMPTY_BYTES, chance.randrange(EMPTY_BYTES)])
-        return chance.choice([chance.randbytes(size), bytes(size)])
+        return chance.choice([chance.randbytes(size), bytes(size), torn(chance, (head_slot(THIS_VERSION) + CLOSED_GATE)[:size])])
     if what == "raw":
         return random_bytes(chance)
     kept = {"whole": rows, "more": rows + more, "different": different(chance, rows) if rows else rows,

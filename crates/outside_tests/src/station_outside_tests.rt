@@ -3,7 +3,8 @@ use disk_model::{Disk, Disked, Length};
 use serial_link::{Connected, Link, Recv, Sent, Side};
 use station_io::{Files, LONGEST, Put, TextRead};
 use station_outside::{
-    FileDisk, OpenFiles, StdFiles, TcpLink, hold_standard_streams, read_front, write_whole,
+    FileDisk, OpenFiles, StdFiles, TcpLink, hold_standard_streams, may_be_new_archive, read_front,
+    write_whole,
 };
 use std::fs::{self, File};
 use std::io::{ErrorKind, Read, Write};
@@ -156,18 +157,18 @@ fn a_disk_keeps_what_is_written(rt: HostRuntime) -> Result<(), Fail> {
     );
     assert_eq!(rt; disk.attach(NAME, true), Disked::Done);
     assert_eq!(rt; disk.length(), Length::Known(0));
-    assert_eq!(rt; disk.write_at(3, b"abc"), Disked::Done);
+    assert_eq!(rt; disk.write_at(203, b"abc"), Disked::Done);
     assert_eq!(rt; disk.sync(), Disked::Done);
     assert_eq!(rt; disk.moment(), 2);
-    assert_eq!(rt; disk.length(), Length::Known(6));
+    assert_eq!(rt; disk.length(), Length::Known(206));
     let mut back = [9; 4];
-    assert_eq!(rt; disk.read(1, &mut back), Disked::Done);
+    assert_eq!(rt; disk.read(201, &mut back), Disked::Done);
     assert_eq!(rt; back, *b"\0\0ab");
-    assert_eq!(rt; disk.read(3, &mut back), Disked::Failed, "past the end");
+    assert_eq!(rt; disk.read(203, &mut back), Disked::Failed, "past the end");
     drop(disk);
     let mut disk = FileDisk::new(&rt);
     assert_eq!(rt; disk.attach(NAME, true), Disked::Done);
-    assert_eq!(rt; disk.length(), Length::Known(6), "nothing is cut off");
+    assert_eq!(rt; disk.length(), Length::Known(206), "nothing is cut off");
     assert_eq!(rt; disk.write_at(u64::MAX - 2, b"abc"), Disked::Failed);
     drop(disk);
     let mut reader = FileDisk::new(&rt);
@@ -177,9 +178,36 @@ fn a_disk_keeps_what_is_written(rt: HostRuntime) -> Result<(), Fail> {
         Disked::Failed,
         "opened to be read"
     );
-    assert_eq!(rt; reader.read(2, &mut back), Disked::Done);
+    assert_eq!(rt; reader.read(202, &mut back), Disked::Done);
     assert_eq!(rt; back, *b"\0abc");
     fs::remove_dir_all(&rt, FOLDER)?;
+    Ok(())
+}
+
+#[test]
+fn a_new_archive_is_told_from_other_files(rt: HostRuntime) -> Result<(), Fail> {
+    let left: [&[u8]; 5] = [b"", b"DVARCH02", b"DV\0RC\xFF02", &[0; 177], &[255; 177]];
+    for bytes in left {
+        assert!(rt; may_be_new_archive(bytes), "{bytes:?}");
+    }
+    let others: [&[u8]; 5] = [b"period = 5", b"DVARCH01", b"DVARCH02\0=", b"VD", &[0; 178]];
+    for bytes in others {
+        assert!(rt; !may_be_new_archive(bytes), "{bytes:?}");
+    }
+    Ok(())
+}
+
+#[test]
+fn another_short_file_is_not_written(rt: HostRuntime) -> Result<(), Fail> {
+    const NAME: &str = "station_outside_short";
+    const TEXT: &[u8] = b"period = 5";
+    fs::write(&rt, NAME, TEXT)?;
+    let mut disk = FileDisk::new(&rt);
+    assert_eq!(rt; disk.attach(NAME, true), Disked::Failed);
+    assert_eq!(rt; disk.length(), Length::Failed, "it has no file");
+    assert_eq!(rt; disk.attach(NAME, false), Disked::Done, "it may be read");
+    assert_eq!(rt; fs::read(&rt, NAME)?.as_slice(), TEXT);
+    fs::remove_file(&rt, NAME)?;
     Ok(())
 }
 
@@ -246,7 +274,7 @@ fn a_pair_never_has_one_file_open_twice(rt: HostRuntime) -> Result<(), Fail> {
     const OLD: &str = "station_outside_pair/old";
     const LINK: &str = "station_outside_pair/link";
     const SECOND_NAME: &str = "station_outside_pair/second";
-    const BYTES: &[u8] = b"an archive";
+    const BYTES: &[u8] = b"DVARCH02";
     let _ = fs::remove_dir_all(&rt, FOLDER);
     fs::create_dir(&rt, FOLDER)?;
     fs::write(&rt, OLD, BYTES)?;
@@ -274,9 +302,10 @@ fn a_file_that_is_let_go_is_free(rt: HostRuntime) -> Result<(), Fail> {
     const FOLDER: &str = "station_outside_free";
     const OLD: &str = "station_outside_free/old";
     const NEW: &str = "station_outside_free/new";
+    const BYTES: &[u8] = b"DVARCH02";
     let _ = fs::remove_dir_all(&rt, FOLDER);
     fs::create_dir(&rt, FOLDER)?;
-    fs::write(&rt, OLD, b"an archive")?;
+    fs::write(&rt, OLD, BYTES)?;
     let mut files = OpenFiles::none();
     let (mut first, mut second) = FileDisk::pair(&rt, &mut files);
     assert_eq!(rt; first.attach(OLD, false), Disked::Done);
@@ -295,7 +324,7 @@ fn a_file_that_is_let_go_is_free(rt: HostRuntime) -> Result<(), Fail> {
         Disked::Done,
         "let go with its disk"
     );
-    assert_eq!(rt; fs::read(&rt, OLD)?.as_slice(), b"an archive".as_slice());
+    assert_eq!(rt; fs::read(&rt, OLD)?.as_slice(), BYTES);
     assert_eq!(rt; fs::read(&rt, NEW)?.as_slice(), b"its copy".as_slice());
     fs::remove_dir_all(&rt, FOLDER)?;
     Ok(())

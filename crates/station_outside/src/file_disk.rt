@@ -1,6 +1,7 @@
 ghost use Rattle.std.specs.Prelude.{◌≡◌, ◌≢◌, ◌↔◌, IsErr};
 ghost use Rattle.causes.specs.Cause.{Cause};
 
+use crate::new_archive::{NEW_SIZE, refuse_unless_new};
 use crate::open_files::{Notes, OpenFile, OpenFiles, refuse_unless_plain};
 use causes::raised;
 use disk_model::{Disk, Disked, Length};
@@ -86,9 +87,10 @@ impl<R: Files<File = File> + Alloc> Disk for FileDisk<'_, R> {
 
     /// With `make` the file is opened to be written too, and locked, and one that is not there is
     /// made. The lock is the system's advisory one, which falls with the process: where another open
-    /// has it, this fails. The folder is synced, so that a crash does not lose the name. What is no
-    /// plain file is refused, and not waited on. The file attached before is let go first, also
-    /// where this fails.
+    /// has it, this fails. A file of at most 177 bytes is refused unless it may be an archive that
+    /// was being made (`may_be_new_archive`), since a recovery for writing would overwrite it. The
+    /// folder is synced, so that a crash does not lose the name. What is no plain file is refused,
+    /// and not waited on. The file attached before is let go first, also where this fails.
     fn attach(&mut self, name: &str, make: bool) -> Disked {
         self.file = None;
         let opened = if make {
@@ -192,8 +194,21 @@ fn open_to_write<'a>(
     if open.file().try_lock().is_err() {
         return Err(ErrorKind::ResourceBusy.into());
     }
+    refuse_another_short_file(open.file())?;
     sync_folder(rt, name)?;
     Ok(open)
+}
+
+// Refuses a file that is no longer than an archive without rows, and is none that was being made.
+fn refuse_another_short_file(file: &File) -> io::Result<()> {
+    let length = file.metadata()?.len();
+    if length > NEW_SIZE as u64 {
+        return Ok(());
+    }
+    let mut bytes = [0; NEW_SIZE];
+    let bytes = &mut bytes[..length as usize];
+    file.read_exact_at(bytes, 0)?;
+    refuse_unless_new(bytes)
 }
 
 // Makes the name durable, in the folder where the file lies, which a link may lead to. It is done

@@ -2,6 +2,7 @@
 #![tactic(auto)]
 
 mod file_disk;
+mod new_archive;
 mod open_files;
 mod outcome;
 mod std_files;
@@ -10,6 +11,7 @@ mod streams;
 mod tcp_link;
 
 pub use file_disk::FileDisk;
+pub use new_archive::may_be_new_archive;
 pub use open_files::OpenFiles;
 pub use outcome::{Outcome, understand};
 pub use std_files::{StdFiles, read_front};
