@@ -7,7 +7,8 @@ use Rattle.disk_model.specs.Medium.{Medium}
 use Rattle.gated_log.specs.declared.start.Purpose.TheVariants.{Read}
 use Rattle.query_service.specs.Lines.{lines_in}
 use Rattle.query_service.specs.Service.{ReadsFor}
-use Rattle.query_service.specs.Turns.{AnswersLines, AnswersTurns}
+use Rattle.query_service.specs.AnsweredLines.{AnswersLines}
+use Rattle.query_service.specs.Turns.{AnswersTurns}
 use Rattle.query_service.specs.declared.service.QueryEnd.{QueryEnd}
 use Rattle.query_service.specs.declared.service.QueryEnd.TheVariants as query_end
 use Rattle.run_output.specs.Calls.{attaches, calls}

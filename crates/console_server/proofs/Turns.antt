@@ -12,10 +12,13 @@ use Rattle.serial_link.specs.Talk.{message}
 use Rattle.serial_link.specs.declared.talk.TalkItem.{TalkItem}
 use Rattle.serial_link.specs.declared.talk.TalkItem.TheVariants.{Heard, Quiet}
 use Rattle.serial_link.proofs.GrownTalk.{count_quiets-append}
+use Rattle.serial_link.proofs.TurnsTaken.{one_turn, turns_and_one, breaks_unheard, breaks_first, breaks_then}
+use Rattle.serial_link.specs.Turns.{AreTurns, CameOfOneReceive}
 use Rattle.wake_retry.specs.Bounds.{said}
 use Rattle.wake_retry.specs.Parts.{heard, count_met}
 use Rattle.wake_retry.proofs.Endings.{heard_both}
 use Rattle.console_server.specs.Replies.{said_items, console_after, replies}
+use Rattle.console_server.specs.ServedTurns.{IsServedTurn, ServedTurnBreaksOff, receive_room}
 use Rattle.console_server.specs.Serving.{AnswersAll, IsAnsweredInPart, IsBrokenOff, OnlySays, SaysReply, ServesTurns}
 use Rattle.console_server.specs.declared.serving.Served.{Served}
 use Rattle.console_server.specs.declared.serving.ServeEnd.{ServeEnd}
@@ -97,9 +100,9 @@ heard_whole bytes n below =
     ∙ sym (map-append Heard (take (n + 1) bytes) (drop (n + 1) bytes)) ∙ ap (λ (l : List ℕ). map Heard l) (take-append-drop (n + 1) bytes)
 
 -- what came in one turn, of which nothing was said, and then the answers to it
-pub turn_done : (came t : List TalkItem) (a b : Console) (x y z : Served) → said_items came ≡ [] → length (said came) ≡ 0 → 1 ≤ count_met came → count_met came ≤ 256
+pub turn_done : (came t : List TalkItem) (a b : Console) (x y z : Served) → CameOfOneReceive receive_room came → said_items came ≡ [] → length (said came) ≡ 0 → 1 ≤ count_met came → count_met came ≤ 256
     → z.heard ≡ x.heard + length (heard came) → y.said ≡ x.said → AnswersAll end.Done came a b y z t → ServesTurns end.Done 1 a b x z (came ++ t)
-turn_done came t a b x y z silent none some few counts keeps answers =
+turn_done came t a b x y z receives silent none some few counts keeps answers =
     let mute = only_said t answers.only in (
       record {
         heard = omega (arith, counts, heard_both came t, mute.heard);
@@ -112,14 +115,22 @@ turn_done came t a b x y z silent none some few counts keeps answers =
           record {
             said = said_items-append came t ∙ ap (λ (l : List TalkItem). l ++ said_items t) silent ∙ mute.items ∙ is.said ∙ sym (append-nil (replies k came))
                 ∙ ap (λ (l : List TalkItem). replies k came ++ l) (sym (mute.replies (console_after k came))) ∙ sym (replies_both k came t);
+            turn_by_turn = one_turn IsServedTurn k (console_after k (came ++ t)) (came ++ t) (record {
+              received = came;
+              answered = t;
+              whole = refl;
+              receives = receives;
+              says = is.said;
+              next_is = after_both k came t ∙ mute.stays (console_after k came);
+            });
             stands = subst (ConsoleStandsFor b) (sym (after_both k came t ∙ mute.stays (console_after k came))) is.stands;
           },
     )
 
 -- the same where the answers were cut off
-pub turn_cut : (came t : List TalkItem) (a b : Console) → said_items came ≡ [] → count_met came ≤ 256 → OnlySays t
+pub turn_cut : (came t : List TalkItem) (a b : Console) → CameOfOneReceive receive_room came → said_items came ≡ [] → count_met came ≤ 256 → OnlySays t
     → ((k : model.Console) → ConsoleStandsFor a k → IsAnsweredInPart k b came t) → IsBrokenOff 1 a b (came ++ t)
-turn_cut came t a b silent few only part =
+turn_cut came t a b receives silent few only part =
     let mute = only_said t only in (
       omega (arith, few, heard_both came t, mute.heard, mute.waits, count_quiets-append came t),
       λ k stands.
@@ -129,26 +140,44 @@ turn_cut came t a b silent few only part =
             came = front_before is.met came t is.front;
             said = subst (λ (l : List TalkItem). IsFrontOf l (replies k is.met))
                 (sym (said_items-append came t ∙ ap (λ (l : List TalkItem). l ++ said_items t) silent ∙ mute.items)) is.said;
+            turn_by_turn = breaks_first IsServedTurn ServedTurnBreaksOff 1 k (came ++ t) (omega arith) (record {
+              received = came;
+              answered = t;
+              whole = refl;
+              receives = receives;
+              met = is.met;
+              front = is.front;
+              says = is.said;
+            });
             stands = is.stands;
           },
     )
 
 -- by how the answers ended
-pub turn_by : (end : ServeEnd) (came t : List TalkItem) (a b : Console) (x y z : Served) → said_items came ≡ [] → length (said came) ≡ 0 → 1 ≤ count_met came
+pub turn_by : (end : ServeEnd) (came t : List TalkItem) (a b : Console) (x y z : Served) → CameOfOneReceive receive_room came → said_items came ≡ [] → length (said came) ≡ 0 → 1 ≤ count_met came
     → count_met came ≤ 256 → z.heard ≡ x.heard + length (heard came) → y.said ≡ x.said → AnswersAll end came a b y z t → ServesTurns end 1 a b x z (came ++ t)
-turn_by end.Done came t a b x y z silent none some few counts keeps answers = turn_done came t a b x y z silent none some few counts keeps answers
-turn_by end.LinkFault came t a b x y z silent none some few counts keeps answers = turn_cut came t a b silent few answers.only answers.replies
-turn_by end.OutOfMemory came t a b x y z silent none some few counts keeps answers = turn_cut came t a b silent few answers.only answers.replies
+turn_by end.Done came t a b x y z receives silent none some few counts keeps answers = turn_done came t a b x y z receives silent none some few counts keeps answers
+turn_by end.LinkFault came t a b x y z receives silent none some few counts keeps answers = turn_cut came t a b receives silent few answers.only answers.replies
+turn_by end.OutOfMemory came t a b x y z receives silent none some few counts keeps answers = turn_cut came t a b receives silent few answers.only answers.replies
 
 -- a turn in which nothing came
 pub turn_none : (a : Console) → IsBrokenOff 1 a a []
-turn_none a = (omega arith, λ k stands. record { met = []; came = ([], refl); said = ([], refl); stands = stands })
+turn_none a = (
+  omega arith,
+  λ k stands. record {
+    met = [];
+    came = ([], refl);
+    said = ([], refl);
+    turn_by_turn = breaks_unheard IsServedTurn ServedTurnBreaksOff 1 k (omega arith);
+    stands = stands;
+  },
+)
 
 -- no turn was taken
 pub serves_none : (console : Console) (count : Served) → ServesTurns end.Done 0 console console count count []
 serves_none console count = (
   record { heard = omega arith; said = omega arith; least = omega arith; most = omega arith },
-  λ k stands. record { said = refl; stands = stands },
+  λ k stands. record { said = refl; turn_by_turn = (refl, refl); stands = stands },
 )
 
 -- one more turn was taken
@@ -166,6 +195,8 @@ serves_more turns s t a b c x y z before turn = (
       let now = turn.1 (console_after k s) was.stands in
       record {
         said = said_items-append s t ∙ ap (λ (l : List TalkItem). l ++ said_items t) was.said ∙ ap (λ (l : List TalkItem). replies k s ++ l) now.said ∙ sym (replies_both k s t);
+        turn_by_turn = turns_and_one IsServedTurn turns (turns + 1) k (console_after k s) (console_after k (s ++ t)) s t refl was.turn_by_turn
+            (subst (λ (next : model.Console). AreTurns IsServedTurn 1 (console_after k s) t next) (sym (after_both k s t)) now.turn_by_turn);
         stands = subst (ConsoleStandsFor c) (sym (after_both k s t)) now.stands;
       },
 )
@@ -184,6 +215,7 @@ serves_cut turns most s t a b c x y below before turn = (
         said = subst (λ (l : List TalkItem). IsFrontOf l (replies k (s ++ now.met)))
             (sym (said_items-append s t ∙ ap (λ (l : List TalkItem). l ++ said_items t) was.said))
             (subst (IsFrontOf (replies k s ++ said_items t)) (sym (replies_both k s now.met)) (front_behind (replies k s) (said_items t) (replies (console_after k s) now.met) now.said));
+        turn_by_turn = breaks_then IsServedTurn ServedTurnBreaksOff turns most k (console_after k s) s t below was.turn_by_turn now.turn_by_turn;
         stands = subst (ConsoleStandsFor c) (sym (after_both k s now.met)) now.stands;
       },
 )

@@ -6,11 +6,13 @@ use Rattle.console_model.specs.Standing.{ConsoleStandsFor}
 use Rattle.console_model.specs.declared.console.Console.{Console}
 use Rattle.serial_link.specs.Link.{IsFront}
 use Rattle.serial_link.specs.Talk.{message}
+use Rattle.serial_link.specs.Turns.{AreTurns, TurnsBreakOff}
 use Rattle.serial_link.specs.declared.talk.TalkItem.{TalkItem}
 use Rattle.serial_link.specs.declared.talk.TalkItem.TheVariants.{Said, Heard, Quiet}
 use Rattle.wake_retry.specs.Bounds.{said}
 use Rattle.wake_retry.specs.Parts.{heard, count_met}
 use Rattle.console_server.specs.Replies.{said_items, console_after, replies}
+use Rattle.console_server.specs.ServedTurns.{IsServedTurn, ServedTurnBreaksOff, receive_room}
 use Rattle.console_server.specs.declared.serving.Served.{Served}
 use Rattle.console_server.specs.declared.serving.ServeEnd.{ServeEnd}
 use Rattle.console_server.specs.declared.serving.ServeEnd.TheVariants as end
@@ -20,29 +22,31 @@ pub record TalkIsCounted (turns : ℕ) (old new : Served) (t : List TalkItem) : 
   pub heard : new.heard ≡ old.heard + length (heard t)
   pub said : new.said ≡ old.said + length (said t)
   pub least : turns ≤ count_met t
-  pub most : count_met t ≤ 256 * turns
+  pub most : count_met t ≤ receive_room * turns
 
--- What was said is just the replies of this console to what came, and the console in memory is the one after that.
-pub record ConsoleIsServed (k : model.Console) (after : Console) (t : List TalkItem) : Type 0 where
+-- What was said is just the replies of this console to what came, turn by turn, and the console in memory is the one after that.
+pub record ConsoleIsServed (turns : ℕ) (k : model.Console) (after : Console) (t : List TalkItem) : Type 0 where
   pub said : said_items t ≡ replies k t
+  pub turn_by_turn : AreTurns IsServedTurn turns k t (console_after k t)
   pub stands : ConsoleStandsFor after (console_after k t)
 
 -- The console met a prefix of what came, a prefix of its replies to that was said, and there the serving broke off.
-pub record ServingBreaksOff (k : model.Console) (after : Console) (t : List TalkItem) : Type 0 where
+pub record ServingBreaksOff (turns : ℕ) (k : model.Console) (after : Console) (t : List TalkItem) : Type 0 where
   pub met : List TalkItem
   pub came : IsFrontOf met t
   pub said : IsFrontOf (said_items t) (replies k met)
+  pub turn_by_turn : TurnsBreakOff IsServedTurn ServedTurnBreaksOff turns k t
   pub stands : ConsoleStandsFor after (console_after k met)
 
 -- the same of whatever console the one in memory stood for, in so many turns at most
 abbrev pub IsBrokenOff : ℕ → Console → Console → List TalkItem → Type 0
 IsBrokenOff turns before after t =
-    (count_met t ≤ 256 * turns) × ((k : model.Console) → ConsoleStandsFor before k → ServingBreaksOff k after t)
+    (count_met t ≤ receive_room * turns) × ((k : model.Console) → ConsoleStandsFor before k → ServingBreaksOff turns k after t)
 
 -- what serving a console for so many turns says and hears, by its end
 abbrev pub ServesTurns : ServeEnd → ℕ → Console → Console → Served → Served → List TalkItem → Type 0
 ServesTurns end.Done turns before after old new t =
-    TalkIsCounted turns old new t × ((k : model.Console) → ConsoleStandsFor before k → ConsoleIsServed k after t)
+    TalkIsCounted turns old new t × ((k : model.Console) → ConsoleStandsFor before k → ConsoleIsServed turns k after t)
 ServesTurns end.LinkFault turns before after old new t = IsBrokenOff turns before after t
 ServesTurns end.OutOfMemory turns before after old new t = IsBrokenOff turns before after t
 

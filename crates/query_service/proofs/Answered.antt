@@ -8,7 +8,8 @@ use Rattle.weather_book.specs.declared.book.Book.{Book}
 use Rattle.weather_book.proofs.BookOnDisk.{to_read_stays}
 use Rattle.query_service.specs.Answers.{answer_to}
 use Rattle.query_service.specs.Lines.{lines_after, rest_after}
-use Rattle.query_service.specs.Turns.{AnswersLines, AreAnswers, AnsweringBreaksOff, AnswerIsBegun, ServesFrom}
+use Rattle.query_service.specs.AnsweredLines.{AnswersLines, AreAnswers, AnsweringBreaksOff, AnswerIsBegun}
+use Rattle.query_service.specs.Turns.{ServesFrom}
 use Rattle.query_service.specs.declared.service.QueryEnd.{QueryEnd}
 use Rattle.query_service.specs.declared.service.QueryEnd.TheVariants.{Done, LinkFault, DiskFault, OutOfMemory}
 use Rattle.query_service.proofs.HeardLines.{lines_join, rest_join}

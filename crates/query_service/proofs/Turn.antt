@@ -21,15 +21,19 @@ use Rattle.weather_book.specs.declared.book.Book.{Book}
 use Rattle.weather_book.proofs.Looks.{no_look}
 use Rattle.query_service.specs.Answers.{answer_to}
 use Rattle.query_service.specs.Asked.{LineAsks}
-use Rattle.query_service.specs.Lines.{lines_after}
+use Rattle.query_service.specs.Lines.{lines_after, rest_after}
 use Rattle.query_service.specs.Service.{ServesQueries}
 use Rattle.query_service.specs.Talk.{only_joins, only_none, said_joins}
-use Rattle.query_service.specs.Turns.{AnswersBytes, AnswersLine, AnswersLines, AnswersTurns, AnsweringBreaksOff, IsAnswer, ServesFrom, TakesTurns}
+use Rattle.query_service.specs.TurnByTurn.{HearsAndSays}
+use Rattle.query_service.specs.AnsweredLines.{AnswersLines, AnsweringBreaksOff}
+use Rattle.query_service.specs.Turns.{AnswersBytes, AnswersLine, AnswersTurns, IsAnswer, ServesFrom, TakesTurns}
 use Rattle.query_service.specs.declared.service.QueryEnd.{QueryEnd}
 use Rattle.query_service.specs.declared.service.QueryEnd.TheVariants.{Done, LinkFault, DiskFault, OutOfMemory}
 use Rattle.query_service.proofs.Answered.{from_cut, from_joins, from_none, no_lines}
 use Rattle.query_service.proofs.HeardLines.{asks_held, line_ends, line_goes_on}
 use Rattle.query_service.proofs.Joined.{serves_as, serves_joins}
+use Rattle.query_service.proofs.OneByOne.{turn_heard, turn_unheard, turn_waited, turns_by}
+use Rattle.weather_book.proofs.BookOnDisk.{to_read_stays}
 
 -- of bytes that are heard nothing is said
 heard_said : (bytes : List ℕ) → said (map Heard bytes) ≡ []
@@ -134,17 +138,28 @@ module _ {D : Type 0} (medium : Medium D) (book : Book) where
 
   -- no turn was taken
   pub turns_none : (disk : D) (line : List ℕ) (n : ℕ) → TakesTurns medium book disk Done 0 line line n n []
-  turns_none disk line n = record { most = omega arith; least = λ _. omega arith; answers = from_none medium book disk Done line n }
+  turns_none disk line n = record {
+    most = omega arith;
+    least = λ _. omega arith;
+    turn_by_turn = λ begun held rows stands x told. (begun, (refl, refl), λ _. held);
+    answers = from_none medium book disk Done line n;
+  }
 
   -- a turn in which a wait passed
   pub turn_quiet : (disk : D) (line : List ℕ) (n : ℕ) → TakesTurns medium book disk Done 1 line line n n (Quiet ∷ [])
-  turn_quiet disk line n = record { most = omega arith; least = λ _. omega arith; answers = from_none medium book disk Done line n }
+  turn_quiet disk line n = record {
+    most = omega arith;
+    least = λ _. omega arith;
+    turn_by_turn = λ begun held rows stands x told. (begun, turn_waited rows begun, λ _. held);
+    answers = from_none medium book disk Done line n;
+  }
 
   -- a turn in which the link failed or found no memory
   pub turn_failed : (disk : D) (end : QueryEnd) (line : List ℕ) (n : ℕ) → end ≢ Done → TakesTurns medium book disk end 1 line line n n []
   turn_failed disk end line n broke = record {
     most = omega arith;
     least = λ e. absurd (broke e);
+    turn_by_turn = λ begun held rows stands x told. (begun, turn_unheard rows end begun begun broke, λ e. absurd (broke e));
     answers = from_none medium book disk end line n;
   }
 
@@ -162,6 +177,16 @@ module _ {D : Type 0} (medium : Medium D) (book : Book) where
       record {
         most = omega (arith, met, few);
         least = λ _. omega (arith, met, some);
+        turn_by_turn = λ begun held rows stands x told.
+            let served = one.answers begun held rows stands x told in
+            let talk : HearsAndSays (s ++ t) = record {
+              received = s;
+              answered = t;
+              whole = refl;
+              receives = inr (bytes, is, some, few);
+              only_says = one.only;
+            } in
+            (rest_after begun bytes, turn_heard rows end begun bytes a b (s ++ t) talk came served.answers, served.held);
         answers = subst (λ (l : List ℕ). ServesFrom medium book disk end l (said (s ++ t)) before after a b) (sym all)
             (subst (λ (l : List ℕ). ServesFrom medium book disk end bytes l before after a b) (sym texts) one.answers);
       }
@@ -178,6 +203,11 @@ module _ {D : Type 0} (medium : Medium D) (book : Book) where
       record {
         most = omega (arith, met, one.most, two.most, within);
         least = λ e. omega (arith, met, one.least refl, two.least e, whole e);
+        turn_by_turn = λ begun held rows stands x told.
+            let first = one.turn_by_turn begun held rows stands x told in
+            let then = two.turn_by_turn first.0 (first.2 refl) rows (to_read_stays medium book disk later rows stands stays) x
+            (stays.reads ∙ told) in
+            (then.0, turns_by rows end turns all begun first.0 then.0 s t within whole first.1 then.1, then.2);
         answers = subst (λ (l : List ℕ). ServesFrom medium book disk end l (said (s ++ t)) before after a c) (sym came)
             (subst (λ (l : List ℕ). ServesFrom medium book disk end (heard s ++ heard t) l before after a c) (sym (said_joins s t))
             (from_joins medium book disk later end (heard s) (heard t) (said s) (said t) before now after a b c stays one.answers two.answers));
@@ -189,6 +219,8 @@ module _ {D : Type 0} (medium : Medium D) (book : Book) where
   turns_answered disk end turns before after a b t none zero one = record {
     most = one.most;
     least = one.least;
+    turn_by_turn = λ rows stands x told.
+        let turns_are = one.turn_by_turn [] none rows stands x told in (turns_are.0, turns_are.1);
     answers = λ rows stands x told.
         subst (λ (n : ℕ). AnswersLines end rows (lines_after [] (heard t)) (said t) n b) zero
         (one.answers [] none rows stands x told).answers;

@@ -1,3 +1,4 @@
+pub mod AnsweredLines
 pub mod Answers
 pub mod Asked
 pub mod Ends
@@ -7,4 +8,5 @@ pub mod SaidOver
 pub mod Refused
 pub mod Service
 pub mod Talk
+pub mod TurnByTurn
 pub mod Turns

@@ -1,5 +1,5 @@
 -- What is said to the lines that are heard.
-use Rattle.std.specs.Prelude.{ℕ, ◌≡◌, ◌≤◌, ◌+◌, ◌*◌, ◌⊎◌, List, [], ◌∷◌, ◌++◌, length, take}
+use Rattle.std.specs.Prelude.{ℕ, ◌≡◌, ◌≤◌, ◌*◌, List, [], ◌∷◌, take}
 use Rattle.causes.specs.Lists.{IsFrontOf}
 use Rattle.causes.specs.Told.{WhereTold}
 use Rattle.disk_model.specs.Medium.{Medium}
@@ -9,10 +9,12 @@ use Rattle.wake_retry.specs.Bounds.{said}
 use Rattle.wake_retry.specs.Parts.{heard, count_met}
 use Rattle.weather_book.specs.Stands.{StandsToReadOn}
 use Rattle.weather_book.specs.declared.book.Book.{Book}
+use Rattle.query_service.specs.AnsweredLines.{AnswersLines}
 use Rattle.query_service.specs.Answers.{answer_to}
 use Rattle.query_service.specs.Asked.{LineAsks}
 use Rattle.query_service.specs.Lines.{lines_after, lines_in, rest_after}
 use Rattle.query_service.specs.Talk.{TalkOnlySays}
+use Rattle.query_service.specs.TurnByTurn.{TurnByTurn, receive_room}
 use Rattle.query_service.specs.declared.request.Request.{Request}
 use Rattle.query_service.specs.declared.service.QueryEnd.{QueryEnd}
 use Rattle.query_service.specs.declared.service.QueryEnd.TheVariants.{Done, LinkFault, DiskFault, OutOfMemory}
@@ -22,44 +24,14 @@ abbrev pub WhereRead : {D : Type 0} → Medium D → Book → D → (List Row �
 WhereRead medium book disk P =
     (rows : List Row) → StandsToReadOn medium book disk rows → WhereTold (medium.seen disk) (λ _. P rows)
 
--- these are the answers to the lines, in order
-abbrev pub AreAnswers : List Row → List (List ℕ) → List ℕ → Type 0
-AreAnswers rows [] bytes = bytes ≡ []
-AreAnswers rows (line ∷ lines) bytes =
-    (request : Request) × (rest : List ℕ) × LineAsks line request × (bytes ≡ answer_to rows request ++ rest) × AreAnswers rows lines rest
-
--- nothing, or a prefix of the answer to the first line
-abbrev pub AnswerIsBegun : List Row → List (List ℕ) → List ℕ → Type 0
-AnswerIsBegun rows [] bytes = bytes ≡ []
-AnswerIsBegun rows (line ∷ lines) bytes =
-    (bytes ≡ []) ⊎ ((request : Request) × LineAsks line request × IsFrontOf bytes (answer_to rows request))
-
--- The answers to some lines in front were said whole, and these lines are counted. Of the next answer a front was said.
-pub record AnsweringBreaksOff (rows : List Row) (lines : List (List ℕ)) (bytes : List ℕ) (old new : ℕ) : Type 0 where
-  pub met : List (List ℕ)
-  pub ahead : List (List ℕ)
-  pub split : met ++ ahead ≡ lines
-  pub whole : List ℕ
-  pub part : List ℕ
-  pub bytes_are : bytes ≡ whole ++ part
-  pub answers : AreAnswers rows met whole
-  pub begun : AnswerIsBegun rows ahead part
-  pub counted : new ≡ old + length met
-
--- what is said to the lines, and how a count of them goes up, by the end
-abbrev pub AnswersLines : QueryEnd → List Row → List (List ℕ) → List ℕ → ℕ → ℕ → Type 0
-AnswersLines Done rows lines bytes old new = AreAnswers rows lines bytes × (new ≡ old + length lines)
-AnswersLines LinkFault rows lines bytes old new = AnsweringBreaksOff rows lines bytes old new
-AnswersLines DiskFault rows lines bytes old new = AnsweringBreaksOff rows lines bytes old new
-AnswersLines OutOfMemory rows lines bytes old new = AnsweringBreaksOff rows lines bytes old new
-
--- All lines that end within what was heard are answered, or some in front where the service broke off. In each of so many
--- turns a wait passed, or up to 256 bytes were heard.
+-- All lines that end within what was heard are answered, or some in front where the service broke off. Each of so many
+-- turns is one receive and then the answers to the lines that end in it.
 pub record AnswersTurns {D : Type 0} (medium : Medium D) (book : Book) (disk : D) (end : QueryEnd) (turns lines : ℕ)
     (t : List TalkItem) : Type 0 where
-  pub most : count_met t ≤ 256 * turns
+  pub most : count_met t ≤ receive_room * turns
   pub least : end ≡ Done → turns ≤ count_met t
   pub answers : WhereRead medium book disk (λ rows. AnswersLines end rows (lines_in (heard t)) (said t) 0 lines)
+  pub turn_by_turn : WhereRead medium book disk (λ rows. (rest : List ℕ) × TurnByTurn end rows turns [] t rest)
 
 -- The same where a line has begun, of which up to 65 bytes are held. So are they of the one that has begun afterwards.
 pub record QueriesAreServed (end : QueryEnd) (rows : List Row) (begun came bytes line : List ℕ) (old new : ℕ) : Type 0 where
@@ -72,11 +44,17 @@ ServesFrom medium book disk end came bytes before after old new =
     (begun : List ℕ) → before ≡ take 65 begun
     → WhereRead medium book disk (λ rows. QueriesAreServed end rows begun came bytes after old new)
 
+-- the turns one by one, from whatever line has begun, and what is held behind them
+abbrev pub TurnsFrom : {D : Type 0} → Medium D → Book → D → QueryEnd → ℕ → List ℕ → List ℕ → List TalkItem → Type 0
+TurnsFrom medium book disk end turns before after t = (begun : List ℕ) → before ≡ take 65 begun
+    → WhereRead medium book disk (λ rows. (rest : List ℕ) × TurnByTurn end rows turns begun t rest × (end ≡ Done → after ≡ take 65 rest))
+
 -- so many turns were taken
 pub record TakesTurns {D : Type 0} (medium : Medium D) (book : Book) (disk : D) (end : QueryEnd) (turns : ℕ)
     (before after : List ℕ) (old new : ℕ) (t : List TalkItem) : Type 0 where
-  pub most : count_met t ≤ 256 * turns
+  pub most : count_met t ≤ receive_room * turns
   pub least : end ≡ Done → turns ≤ count_met t
+  pub turn_by_turn : TurnsFrom medium book disk end turns before after t
   pub answers : ServesFrom medium book disk end (heard t) (said t) before after old new
 
 -- these bytes had come before

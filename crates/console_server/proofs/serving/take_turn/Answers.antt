@@ -1,4 +1,4 @@
-use Rattle.std.proofs.Common.{◌≡◌, [], ◌∷◌, ◌++◌, length, map, take, refl, ap, ◌∙◌, arith, rules, length-take-le}
+use Rattle.std.proofs.Common.{◌≡◌, [], ◌∷◌, ◌++◌, length, map, take, inl, inr, refl, ap, ◌∙◌, arith, rules, length-take-le}
 use Rattle.serial_link.specs.declared.talk.TalkItem.TheVariants.{Heard, Quiet}
 use Rattle.serial_link.proofs.GrownTalk.{adds_joins, heard_waits}
 use Rattle.wake_retry.specs.Parts.{heard}
@@ -20,7 +20,7 @@ returns-in-Got-clause-talk g c =
       talk = record {
         items = map Heard bs ++ t.items;
         are = turn_by c.answer_bytes.result (map Heard bs) t.items c.args.console.now c.answer_bytes.new.console c.args.count.now _ c.answer_bytes.new.count
-            (heard_items bs) (heard_said bs) (omega (arith, bytes, waits, e.within.0)) (omega (arith, bytes, waits, e.within.1, room))
+            (inr (bs, refl, omega (arith, long, e.within.0), omega (arith, long, e.within.1, room))) (heard_items bs) (heard_said bs) (omega (arith, bytes, waits, e.within.0)) (omega (arith, bytes, waits, e.within.1, room))
             (omega (arith, bytes, c.answer_bytes.ensures.heard)) refl t.are;
         adds = adds_joins e.talk t.adds;
       };
@@ -35,7 +35,7 @@ returns-in-Quiet-clause-talk g c =
       talk = record {
         items = Quiet ∷ t.items;
         are = turn_by c.answer_wait.result (Quiet ∷ []) t.items c.args.console.now c.answer_wait.new.console c.args.count.now c.args.count.now c.answer_wait.new.count
-            refl refl (omega arith) (omega arith) (omega (arith, c.answer_wait.ensures.heard)) refl t.are;
+            (inl refl) refl refl (omega arith) (omega arith) (omega (arith, c.answer_wait.ensures.heard)) refl t.are;
         adds = adds_joins c.in-Quiet.ensures.talk t.adds;
       };
       fault = search rules;
