@@ -1,0 +1,17 @@
+pub mod Places
+pub mod FieldsInTurn
+pub mod Rows
+pub mod Behinds
+pub mod Texts
+pub mod Names
+pub mod Bits
+pub mod ToldTexts
+pub mod RowBits
+pub mod Stamps
+pub mod Written
+pub mod ReadBack
+pub mod TextLines
+pub mod TextWritten
+pub mod Feedless
+pub mod TextBack
+pub mod CountedRows

@@ -1,0 +1,9 @@
+pub mod FaultKinds
+pub mod Steps
+pub mod Words
+pub mod Numbers
+pub mod FieldsTold
+pub mod RowOfLine
+pub mod IsLineRow
+pub mod RowsOfText
+pub mod RowsLeft
