@@ -1,13 +1,14 @@
 -- What a run does that answers requests for an archive's rows: its one attach, the recovery, its one connect, the answers,
 -- and what is given of them.
-use Rattle.std.specs.Prelude.{ℕ, ◌≡◌, ◌≤◌, ◌*◌, ⊤, false, List, ◌++◌, Some, codes, decimal}
+use Rattle.std.specs.Prelude.{ℕ, ◌≡◌, ◌≤◌, ◌*◌, ⊤, false, List, [], ◌++◌, Some, codes, decimal}
 use Rattle.std.specs.declared.result.Result.{Result}
 use Rattle.disk_model.specs.Disk.{Faults, Stays}
 use Rattle.disk_model.specs.Medium.{Medium}
 use Rattle.gated_log.specs.declared.start.Purpose.TheVariants.{Read}
 use Rattle.query_service.specs.Lines.{lines_in}
-use Rattle.query_service.specs.Service.{ReadsFor}
 use Rattle.query_service.specs.AnsweredLines.{AnswersLines}
+use Rattle.query_service.specs.Service.{ReadsFor}
+use Rattle.query_service.specs.TurnByTurn.{TurnByTurn, receive_room}
 use Rattle.query_service.specs.Turns.{AnswersTurns}
 use Rattle.query_service.specs.declared.service.QueryEnd.{QueryEnd}
 use Rattle.query_service.specs.declared.service.QueryEnd.TheVariants as query_end
@@ -56,11 +57,13 @@ pub record requests_answered {L D : Type 0} (traffic : Traffic L) (medium : Medi
   pub given : output_of result ≡ queries_output end lines
 
 -- In each of so many turns a wait passed or up to 256 bytes were heard. Where the disk tells its bytes what was said are
--- the answers, by these rows, to the lines that were heard: to all, or up to a fault to some in front.
+-- the answers, by these rows, to the lines that were heard: to all, or up to a fault to some in front. Each turn's answers
+-- are said before the next one.
 pub record AnswersRows (rows : List Row) (told : Type 0) (end : QueryEnd) (turns lines : ℕ) (t : List TalkItem) : Type 0 where
-  pub most : count_met t ≤ 256 * turns
+  pub most : count_met t ≤ receive_room * turns
   pub least : end ≡ query_end.Done → turns ≤ count_met t
   pub answers : told → AnswersLines end rows (lines_in (heard t)) (said t) 0 lines
+  pub turn_by_turn : told → (rest : List ℕ) × TurnByTurn end rows turns [] t rest
 
 -- the disk tells its bytes
 abbrev pub DiskIsTold : {D : Type 0} → Medium D → D → Type 0

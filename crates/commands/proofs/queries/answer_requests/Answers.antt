@@ -33,6 +33,7 @@ returns g c =
         most = part.most;
         least = part.least;
         answers = λ told. part.answers has.0 has.1 told.0 told.1;
+        turn_by_turn = λ told. part.turn_by_turn has.0 has.1 told.0 told.1;
       });
       link_still = e.link_still;
       reads = e.reads has.0 has.1.stands_for;
