@@ -78,10 +78,10 @@ def replay(settings_name, schedule_name, files):
 
 
 def fleet(settings_name, seed_text, names, files):
-    """What stations that take turns end with, by station; each schedule is read once those before it are accepted."""
-    decimal(seed_text, 0, MOST_SEED)
+    """What stations that take turns end with; each schedule is read once those before it are accepted."""
+    seed = decimal(seed_text, 0, MOST_SEED)
     settings = read_settings(content(settings_name, files))
-    return fleet_outcome(settings, [read_schedule(content(name, files), settings.period) for name in names])
+    return fleet_outcome(seed, settings, [read_schedule(content(name, files), settings.period) for name in names])
 
 
 def decimal(text, least, greatest):

@@ -12,17 +12,18 @@ EXCHANGE_WAITS, SETTLING_WAITS = 3, 6
 WAKE_TRIES, ASKINGS = 3, 4
 MOST_PAGES = 513
 HEADER_BYTES = 7  # an acknowledgement, two numbers and a check
+SETTLING_ROOM = 256  # bytes that one receive takes at most where no answer is waited for
 
 
 def listen(line, waits, size=inf):
     """Listens until so many quiet waits came in a row, or so many bytes; gives what was heard."""
     heard, quiet = bytearray(), 0
     while quiet < waits and len(heard) < size:
-        byte = line.receive()
-        if byte is WAIT:
+        piece = line.receive(SETTLING_ROOM if size == inf else size - len(heard))
+        if piece is WAIT:
             quiet += 1
         else:
-            heard.append(byte)
+            heard += piece
             quiet = 0
     return bytes(heard)
 

@@ -1,28 +1,31 @@
-"""Stations that take turns: the lines of each. In which order their turns come the model does not say."""
+"""Stations that take turns, as they are drawn behind a seed."""
 
-import re
-
-from .outcomes import DONE, UNSEEN_HARM, Outcome, outcome
+from .draws import Draws
+from .outcomes import DONE, UNSEEN_HARM, outcome
 from .run import Run
 
 MOST_STATIONS = 8
 MOST_SEED = 2 ** 31 - 1
-COUNTS = re.compile(rb"turns [0-9]+ switches [0-9]+\n$")
 
 
-def fleet_outcome(settings, schedules):
-    """What a fleet ends with, by station, and without the numbers of turns and switches."""
+def drawn_turns(seed, counts):
+    """The station of each turn, from 0, where each takes as many turns as are counted of it."""
+    draws, left = Draws(seed), [*counts]
+    while any(left):
+        going_on = [station for station, count in enumerate(left) if count]
+        station = going_on[draws.draw() % len(going_on)]
+        left[station] -= 1
+        yield station
+
+
+def fleet_outcome(seed, settings, schedules):
+    """What a fleet ends with: the lines of each turn, in the order of the turns."""
     runs = [Run(settings) for _ in schedules]
     statuses = [run.run(schedule) for run, schedule in zip(runs, schedules)]
-    lines = [f"{number} {line}" for number, run in enumerate(runs, 1) for line in run.lines]
+    order = [*drawn_turns(seed, [len(run.turns) for run in runs])]
+    turns = [iter(run.turns) for run in runs]
+    lines = [f"{station + 1} {line}" for station in order for line in next(turns[station])]
     if UNSEEN_HARM in statuses:
         return outcome(UNSEEN_HARM, lines)
-    return outcome(DONE, [*lines, f"fleet stations {len(runs)}"])
-
-
-def by_station(found):
-    """The outcome with the lines of each station together, in their order, and without those numbers."""
-    lines = COUNTS.sub(b"\n", found.text).replace(b" \n", b"\n").splitlines(keepends=True)
-    last = [line for line in lines if line.startswith(b"fleet ")]
-    rest = sorted((line for line in lines if line not in last), key=lambda line: line[:2])
-    return Outcome(found.status, b"".join(rest + last))
+    switches = sum(one != next_one for one, next_one in zip(order, order[1:]))
+    return outcome(DONE, [*lines, f"fleet stations {len(runs)} turns {len(order)} switches {switches}"])

@@ -54,6 +54,7 @@ class Line:
         self.fates = fates
         self.mids = deque(fates.mids)
         self.messages = self.replies = self.harmed = 0
+        self.calls = 0  # messages and receives
 
     def finish(self):
         """Ends a round: what did not fall due yet does now, and fates are over."""
@@ -68,6 +69,7 @@ class Line:
 
     def send(self, message):
         """Carries a message to the console, and its replies back."""
+        self.calls += 1
         self.messages += 1
         got = delivered(self.fates.host.get(self.messages), message)
         self.console.completed = False
@@ -95,10 +97,14 @@ class Line:
                 self.flight.extend([WAIT] * waits)
             self.flight.append(byte)
 
-    def receive(self):
-        """The next byte that comes, or WAIT for a quiet wait."""
-        if self.flight and self.flight[0] is not WAIT:
-            return self.flight.popleft()
+    def receive(self, most):
+        """The bytes that come next, so many at most, or WAIT for a quiet wait."""
+        self.calls += 1
+        piece = bytearray()
+        while self.flight and self.flight[0] is not WAIT and len(piece) < most:
+            piece.append(self.flight.popleft())
+        if piece:
+            return bytes(piece)
         if self.flight:
             self.flight.popleft()
         self.tick()

@@ -1,5 +1,6 @@
 """Made schedules: records and troubles that follow from a seed, and the counts of their run."""
 
+from .draws import Draws
 from .outcomes import outcome
 from .run import Run
 from .schedule import read_schedule
@@ -13,18 +14,6 @@ TROUBLES, STOP_TROUBLE, STOP_CHANGES, STOP_PICKS = 8, 7, 12, 5
 DETAILS = {4: ["host 4 lost"], 5: ["reply 4 cut 100"], 6: ["reply 4 late 2 50"]}
 MOST_SEED, MOST_MADE = 2 ** 31 - 1, 5000
 ENDS = ("ok", "gaveup", "full", "stop")
-
-
-class Draws:
-    """Numbers that follow from a seed, each below 32,768."""
-
-    def __init__(self, seed):
-        self.state = seed
-
-    def draw(self):
-        """The next number."""
-        self.state = (self.state * 1103515245 + 12345) % 2 ** 31
-        return self.state // 2 ** 16
 
 
 def detail_lines(draws):

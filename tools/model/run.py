@@ -29,17 +29,31 @@ class Run:
         self.ends = []           # how each round ended
         self.harmed = 0          # deliveries harmed in all rounds
         self.acknowledged = 0    # rows that stood after the last batch of the round
+        self.turns = []          # the lines of each turn
 
     def run(self, steps):
         """Runs all steps; gives the status."""
         try:
             for step in steps:
                 getattr(self, "run_" + step.word)(step)
+                self.take_turn()
         except Unseen as unseen:
             self.lines.append(f"unseen round {self.rounds} {unseen}")
+            self.take_calls(self.line.calls)
+            self.take_turn()
             return UNSEEN_HARM
         self.close()
+        self.take_turn()
         return DONE
+
+    def take_turn(self):
+        """A turn is over: a step, an opening ahead of a round or of the end, or the end."""
+        told = sum(map(len, self.turns))
+        self.turns.append(self.lines[told:])
+
+    def take_calls(self, calls):
+        """Turns of a round are over, each a call over the line or a batch for the archive."""
+        self.turns += [[] for _ in range(calls + self.disk.batches)]
 
     def run_due(self, step):
         """Records fall due."""
@@ -75,6 +89,7 @@ class Run:
         counts = (f"attempts {tally.attempts} pages {tally.pages} skipped {tally.skipped}"
                   f" harmed {self.line.harmed} acked {self.acknowledged}")
         self.ends.append(end)
+        self.take_calls(self.line.calls - (end == "stop"))  # the stop ends the round within the turn of its batch
         self.harmed += self.line.harmed
         self.line.finish()
         if end == "stop":
@@ -110,6 +125,7 @@ class Run:
         if not self.is_open:
             self.disk.recover()
             self.opened()
+            self.take_turn()
 
     def opened(self):
         """Says that the archive is open."""
