@@ -25,6 +25,7 @@ use Rattle.run_output.specs.declared.status.Status.TheVariants as ends
 use Rattle.schedule_file.specs.declared.schedule.Schedule.{Schedule}
 use Rattle.schedule_replay.specs.Replayed.{IsNewDisk}
 use Rattle.schedule_replay.specs.Standing.{LineAt}
+use Rattle.schedule_replay.specs.Turns.{RunIsNew}
 use Rattle.settings_file.specs.Reading.{settings_of}
 use Rattle.settings_file.specs.StationSettings.{StationSettings}
 use Rattle.station_fleet.specs.Outcomes.{StationStands}
@@ -51,6 +52,7 @@ reads_schedules m period given (name ∷ names) old result new =
 -- A station that runs this schedule and has taken no turn. It has a line to a new console of the settings' period, with a blank packet,
 -- and a new disk that has room for the schedule's records.
 pub record IsNewStation (settings : StationSettings) (schedule : Schedule) (s : Station) : Type 0 where
+  pub is_new : RunIsNew s.run
   pub packet : LoopPacket
   pub blank : PacketIsBlank packet
   pub before : Sim

@@ -70,3 +70,10 @@ RunMoves (Some playing) None was_open is_open taken now = now ≡ taken + 1
 abbrev pub IsOneTurn : ReplayRun → ReplayRun → Type 0
 IsOneTurn old new =
     RunMoves old.playing new.playing (is_some old.run.session) (is_some new.run.session) old.taken new.taken
+
+-- no turn was taken, no step and no round either
+pub record RunIsNew (run : ReplayRun) : Type 0 where
+  pub turns : run.turns ≡ 0
+  pub taken : run.taken ≡ 0
+  pub no_round : run.playing ≡ None
+  pub closed : run.run.session ≡ None

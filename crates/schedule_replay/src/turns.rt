@@ -58,12 +58,12 @@ pub struct ReplayRun {
 impl ReplayRun {
     ghost use Rattle.schedule_replay.specs.Replaying.{Course, IsNext, MayTurn, Replaying, StandsWith, RunTakesTurn};
     ghost use Rattle.schedule_replay.specs.Replaying.{run_turns_left};
-    ghost use Rattle.schedule_replay.specs.Turns.{IsOneTurn, RunTurnsTo};
+    ghost use Rattle.schedule_replay.specs.Turns.{IsOneTurn, RunIsNew, RunTurnsTo};
 
     /// A run with these settings that begins. No memory is taken.
     pub fn new(alloc: Global, settings: &Settings) -> ReplayRun
         ensures settings { result.settings ≡ settings.now }
-        ensures turns { result.turns ≡ 0 }
+        ensures is_new { RunIsNew result }
         ensures begins { (steps : List code_step.Step) (eeprom : List ℕ) (packet : LoopPacket) (line : Sim)
             (disk : Stopping MemDisk)
             → AreAccepted settings.now.period steps → LineAt (start eeprom packet) line

@@ -1,5 +1,6 @@
 -- One turn of a station.
-use Rattle.std.proofs.Common.{ℕ, ◌≡◌, ◌≢◌, ◌⊎◌, ◌<◌, List, [], ◌∷◌, ◌++◌, inl, inr, refl, sym, ap, subst, ◌∙◌}
+use Rattle.std.proofs.Common.{ℕ, ◌≡◌, ◌≢◌, ◌⊎◌, ◌+◌, ◌<◌, true, List, [], ◌∷◌, ◌++◌, inl, inr, refl, sym, ap, subst, ◌∙◌}
+use Rattle.std.specs.Prelude.{is_some}
 use Rattle.causes.specs.Cause.{Cause}
 use Rattle.station_io.specs.Sink.{Outlet}
 use Rattle.settings_file.specs.StationSettings.{StationSettings}
@@ -19,9 +20,10 @@ use Rattle.schedule_replay.specs.declared.turns.ReplayTurn.TheVariants as replay
 use Rattle.schedule_replay.specs.Replaying.{Course, Replaying, MayTurn, run_turns_left, RunTakesTurn}
 use Rattle.schedule_steps.specs.Steps.{steps_for}
 use Rattle.schedule_replay.specs.TextTelling.{text_telling}
-use Rattle.schedule_replay.specs.Turns.{BreaksRun, CutsRun, EndsRun}
+use Rattle.schedule_replay.specs.Turns.{BreaksRun, CutsRun, EndsRun, IsOneTurn}
+use Rattle.round_play.specs.Playing.{MakesOneCall, SaysOrStores}
 use Rattle.station_fleet.specs.declared.station.Station.{Station}
-use Rattle.station_fleet.specs.Outcomes.{Cuts, StationStands, StationTurned}
+use Rattle.station_fleet.specs.Outcomes.{Cuts, StationStands, StationTurned, TurnsLeadTo, TurnsOneByOne}
 use Rattle.station_fleet.specs.StationTurns.{member_answer, station_turning}
 use Rattle.station_fleet.proofs.WholeTexts.{text_whole}
 
@@ -43,6 +45,10 @@ pub record RunTook {K : Type 0} (outlet : Outlet K) (steps : List code_step.Step
       (items : List Item) (before : Sim) (made : Stopping MemDisk) → Replaying eeprom packet steps items before line made disk old
       → CutsRun (text_telling outlet) old.settings (start eeprom packet) (steps_for old.settings.period steps) items out out_then
   pub settings : new.settings ≡ old.settings
+  pub turns : answer ≡ replay.More → new.turns ≡ old.turns + 1
+  pub one_turn : answer ≡ replay.More → IsOneTurn old new
+  pub says_or_stores : answer ≡ replay.More → SaysOrStores line disk line_then disk_then
+  pub one_call : answer ≡ replay.More → is_some new.playing ≡ true → MakesOneCall line disk line_then disk_then
   pub left : answer ≡ replay.More → run_turns_left steps new < run_turns_left steps old
   pub write_fault : Cause (outlet.faults out) (outlet.faults out_then) (answer ≡ replay.WriteFault)
   pub still : answer ≢ replay.WriteFault → outlet.faults out_then ≡ outlet.faults out
@@ -80,7 +86,7 @@ module _ {K : Type 0} (outlet : Outlet K) (s : Station) (steps : List code_step.
   front_lines member.Unseen (inl which) bytes wrote = absurd (let no : member.Unseen ≡ member.WriteFault = which in cc)
   front_lines member.Unseen (inr which) bytes wrote = absurd (let no : member.Unseen ≡ member.OutOfMemory = which in cc)
 
-  went_on : answer ≡ replay.More → StationTurned s (member.More ∷ []) (WritesLines outlet out member.More out_then)
+  went_on : answer ≡ replay.More → TurnsLeadTo s (member.More ∷ []) (WritesLines outlet out member.More out_then)
       (with_parts s run line disk)
   went_on is = λ settings c items stands.
       let turn = took.more is c.eeprom c.packet items c.before c.made
@@ -95,7 +101,7 @@ module _ {K : Type 0} (outlet : Outlet K) (s : Station) (steps : List code_step.
         };
       }
 
-  ended : answer ≡ replay.Ended → StationTurned s (member.Ended ∷ []) (WritesLines outlet out member.Ended out_then)
+  ended : answer ≡ replay.Ended → TurnsLeadTo s (member.Ended ∷ []) (WritesLines outlet out member.Ended out_then)
       (with_parts s run line disk)
   ended is = λ settings c items stands.
       let telling = text_telling outlet in
@@ -112,7 +118,7 @@ module _ {K : Type 0} (outlet : Outlet K) (s : Station) (steps : List code_step.
         took_part = ends.took_part;
       }
 
-  unseen : answer ≡ replay.Unseen → StationTurned s (member.Unseen ∷ []) (WritesLines outlet out member.Unseen out_then)
+  unseen : answer ≡ replay.Unseen → TurnsLeadTo s (member.Unseen ∷ []) (WritesLines outlet out member.Unseen out_then)
       (with_parts s run line disk)
   unseen is = λ settings c items stands.
       let telling = text_telling outlet in
@@ -150,13 +156,33 @@ module _ {K : Type 0} (outlet : Outlet K) (s : Station) (steps : List code_step.
         kept = ends.kept;
       }
 
+  led_by : (a : ReplayTurn) → answer ≡ a → TurnsLeadTo s (member_answer a ∷ [])
+      (WritesLines outlet out (member_answer a) out_then) (with_parts s run line disk)
+  led_by replay.More is = went_on is
+  led_by replay.Ended is = ended is
+  led_by replay.Unseen is = unseen is
+  led_by replay.WriteFault is = cut_off member.WriteFault (inl refl) (inl is)
+  led_by replay.OutOfMemory is = cut_off member.OutOfMemory (inr refl) (inr is)
+
+  one_by : (a : ReplayTurn) → answer ≡ a → TurnsOneByOne s (member_answer a ∷ []) (with_parts s run line disk)
+  one_by replay.More is = (
+    with_parts s run line disk,
+    record {
+      counted = took.turns is;
+      is_one = took.one_turn is;
+      says_or_stores = took.says_or_stores is;
+      one_call = took.one_call is;
+    },
+    refl,
+  )
+  one_by replay.Ended is = tt
+  one_by replay.Unseen is = tt
+  one_by replay.WriteFault is = tt
+  one_by replay.OutOfMemory is = tt
+
   turned_by : (a : ReplayTurn) → answer ≡ a → StationTurned s (member_answer a ∷ [])
       (WritesLines outlet out (member_answer a) out_then) (with_parts s run line disk)
-  turned_by replay.More is = went_on is
-  turned_by replay.Ended is = ended is
-  turned_by replay.Unseen is = unseen is
-  turned_by replay.WriteFault is = cut_off member.WriteFault (inl refl) (inl is)
-  turned_by replay.OutOfMemory is = cut_off member.OutOfMemory (inr refl) (inr is)
+  turned_by a is = record { one_by_one = one_by a is; leads_to = led_by a is }
 
   -- some text was written
   wrote_by : (a : ReplayTurn) → answer ≡ a → MayTurn s.schedule.steps.items s.line s.disk s.run

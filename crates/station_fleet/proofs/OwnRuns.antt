@@ -80,10 +80,10 @@ came_of : (answers : List MemberTurn) (settings : StationSettings) (c : Course) 
     → StationTurned s answers P t → StationStands settings c [] s → TurnsComeTo (end_of_turns answers) settings c [] P t
 came_of [] settings c P s t turned stands = record {
   given = [];
-  writes = turned.writes;
-  stands = subst (λ (x : Station). StationStands settings c [] x) (sym turned.same) stands;
+  writes = turned.leads_to.writes;
+  stands = subst (λ (x : Station). StationStands settings c [] x) (sym turned.leads_to.same) stands;
 }
-came_of (answer ∷ later) settings c P s t turned stands = turned settings c [] stands
+came_of (answer ∷ later) settings c P s t turned stands = turned.leads_to settings c [] stands
 
 same_some : {A : Type 0} (a b : A) → Some a ≡ Some b → a ≡ b
 same_some a b e = cc

@@ -1,5 +1,5 @@
 -- What the turns of a station come to.
-use Rattle.std.specs.Prelude.{◌≡◌, ◌⊎◌, ℕ, List, [], ◌∷◌, ◌++◌, Some, None}
+use Rattle.std.specs.Prelude.{◌≡◌, ◌⊎◌, ℕ, ◌+◌, true, List, [], ◌∷◌, ◌++◌, is_some, Some, None}
 use Rattle.std.specs.declared.option.Option.{Option}
 use Rattle.causes.specs.Lists.{IsFrontOf}
 use Rattle.settings_file.specs.StationSettings.{StationSettings}
@@ -11,6 +11,8 @@ use Rattle.station_replay.specs.Replay.{RunIsBegun, IsReplay, IsUnseen, Item, St
 use Rattle.station_replay.specs.Texts.{text}
 use Rattle.schedule_replay.specs.Replayed.{TookPart}
 use Rattle.schedule_replay.specs.Replaying.{Course, Replaying}
+use Rattle.schedule_replay.specs.Turns.{IsOneTurn}
+use Rattle.round_play.specs.Playing.{MakesOneCall, SaysOrStores}
 use Rattle.schedule_steps.specs.Steps.{steps_for}
 use Rattle.station_fleet.specs.declared.station.Station.{Station}
 
@@ -82,14 +84,36 @@ TurnsComeTo (Some Unseen) settings c items P s = Breaks settings c items P
 TurnsComeTo (Some WriteFault) settings c items P s = Cuts settings c items P
 TurnsComeTo (Some OutOfMemory) settings c items P s = Cuts settings c items P
 
+-- A turn with more to come is one of its run: the run counts it, and it is one of those that there are. It says or hears
+-- nothing, or begins no change of the disk; within a round it makes one call.
+pub record TakesOneTurn (old new : Station) : Type 0 where
+  pub counted : new.run.turns ≡ old.run.turns + 1
+  pub is_one : IsOneTurn old.run new.run
+  pub says_or_stores : SaysOrStores old.line old.disk new.line new.disk
+  pub one_call : is_some new.run.playing ≡ true → MakesOneCall old.line old.disk new.line new.disk
+
+-- the turns were taken one by one, up to the end if there is one
+abbrev pub TurnsOneByOne : Station → List MemberTurn → Station → Type 0
+TurnsOneByOne old [] new = new ≡ old
+TurnsOneByOne old (More ∷ later) new = (next : Station) × TakesOneTurn old next × TurnsOneByOne next later new
+TurnsOneByOne old (Ended ∷ later) new = Unit {0}
+TurnsOneByOne old (Unseen ∷ later) new = Unit {0}
+TurnsOneByOne old (WriteFault ∷ later) new = Unit {0}
+TurnsOneByOne old (OutOfMemory ∷ later) new = Unit {0}
+
 -- By no turns a station stays, and no text at all is of this kind.
 pub record NoTurns (old : Station) (P : List ℕ → Type 0) (new : Station) : Type 0 where
   pub same : new ≡ old
   pub writes : P []
 
--- A station became another by turns with these answers, in which it wrote a text of this kind: by none it stays. By some,
--- wherever its run stood, it comes to what they end with.
-abbrev pub StationTurned : Station → List MemberTurn → (List ℕ → Type 0) → Station → Type 0
-StationTurned old [] P new = NoTurns old P new
-StationTurned old (answer ∷ later) P new = (settings : StationSettings) (c : Course) (items : List Item)
+-- what turns with these answers lead to, in which a text of this kind was written: by none a station stays; by some,
+-- wherever its run stood, it comes to what they end with
+abbrev pub TurnsLeadTo : Station → List MemberTurn → (List ℕ → Type 0) → Station → Type 0
+TurnsLeadTo old [] P new = NoTurns old P new
+TurnsLeadTo old (answer ∷ later) P new = (settings : StationSettings) (c : Course) (items : List Item)
     → StationStands settings c items old → TurnsComeTo (end_of_turns (answer ∷ later)) settings c items P new
+
+-- A station became another by turns with these answers, in which it wrote a text of this kind.
+pub record StationTurned (old : Station) (answers : List MemberTurn) (P : List ℕ → Type 0) (new : Station) : Type 0 where
+  pub one_by_one : TurnsOneByOne old answers new
+  pub leads_to : TurnsLeadTo old answers P new

@@ -16,10 +16,10 @@ use Rattle.schedule_replay.specs.Replayed.{TookPart}
 use Rattle.schedule_replay.specs.Replaying.{Course}
 use Rattle.schedule_replay.specs.TextTelling.{text_join}
 use Rattle.station_fleet.specs.declared.station.Station.{Station}
-use Rattle.station_fleet.specs.Outcomes.{TurnsComeTo, Cuts, StationStands, StationTurned, end_of_turns, only, course_start, course_steps}
+use Rattle.station_fleet.specs.Outcomes.{TurnsComeTo, TurnsLeadTo, TurnsOneByOne, Cuts, StationStands, StationTurned, end_of_turns, only, course_start, course_steps}
 
 pub turned_none : (s : Station) → StationTurned s [] (λ bytes. bytes ≡ []) s
-turned_none s = record { same = refl; writes = refl }
+turned_none s = record { one_by_one = refl; leads_to = record { same = refl; writes = refl } }
 
 -- what is known of the text may be said less exactly
 pub comes_wider : (end : Option MemberTurn) (settings : StationSettings) (c : Course) (items : List Item)
@@ -57,11 +57,16 @@ comes_wider (Some OutOfMemory) settings c items P Q s wider came = record {
   kept = came.kept;
 }
 
+led_wider : (l m : Station) (answers : List MemberTurn) (P Q : List ℕ → Type 0)
+    → ((bytes : List ℕ) → P bytes → Q bytes) → TurnsLeadTo l answers P m → TurnsLeadTo l answers Q m
+led_wider l m [] P Q wider led = record { same = led.same; writes = wider [] led.writes }
+led_wider l m (answer ∷ later) P Q wider led = λ settings c items stands.
+    comes_wider (end_of_turns (answer ∷ later)) settings c items P Q m wider (led settings c items stands)
+
 pub turned_wider : (l m : Station) (answers : List MemberTurn) (P Q : List ℕ → Type 0)
     → ((bytes : List ℕ) → P bytes → Q bytes) → StationTurned l answers P m → StationTurned l answers Q m
-turned_wider l m [] P Q wider turned = record { same = turned.same; writes = wider [] turned.writes }
-turned_wider l m (answer ∷ later) P Q wider turned = λ settings c items stands.
-    comes_wider (end_of_turns (answer ∷ later)) settings c items P Q m wider (turned settings c items stands)
+turned_wider l m answers P Q wider turned =
+    record { one_by_one = turned.one_by_one; leads_to = led_wider l m answers P Q wider turned.leads_to }
 
 -- a text of items behind others
 both_texts : (P Q : List ℕ → Type 0) (first later : List Item) → P (text first) → Q (text later)
@@ -144,7 +149,7 @@ end_joins (OutOfMemory ∷ first) next later =
 -- what turns come to, and then others, by how the first ended
 comes_joins : (end : Option MemberTurn) (next : MemberTurn) (later : List MemberTurn) (settings : StationSettings)
     (c : Course) (items : List Item) (P Q : List ℕ → Type 0) (m n : Station) → TurnsComeTo end settings c items P m
-    → StationTurned m (next ∷ later) Q n
+    → TurnsLeadTo m (next ∷ later) Q n
     → TurnsComeTo (end_behind end (end_of_turns (next ∷ later))) settings c items (Both P Q) n
 comes_joins (Some More) next later settings c items P Q m n came turned =
     comes_behind (end_of_turns (next ∷ later)) settings c items came.given P Q n came.writes
@@ -155,22 +160,39 @@ comes_joins (Some WriteFault) next later settings c items P Q m n came turned = 
 comes_joins (Some OutOfMemory) next later settings c items P Q m n came turned = tt
 comes_joins None next later settings c items P Q m n came turned = tt
 
-pub turned_joins : (l m n : Station) (first later : List MemberTurn) (P Q : List ℕ → Type 0) → StationTurned l first P m
-    → StationTurned m later Q n → StationTurned l (first ++ later) (Both P Q) n
-turned_joins l m n [] [] P Q one two =
+led_joins : (l m n : Station) (first later : List MemberTurn) (P Q : List ℕ → Type 0) → TurnsLeadTo l first P m
+    → TurnsLeadTo m later Q n → TurnsLeadTo l (first ++ later) (Both P Q) n
+led_joins l m n [] [] P Q one two =
     record { same = two.same ∙ one.same; writes = texts_join [] [] one.writes two.writes }
-turned_joins l m n [] (next ∷ later) P Q one two =
-    let from : StationTurned l (next ∷ later) Q n =
-    subst (λ (s : Station). StationTurned s (next ∷ later) Q n) one.same two in
-    turned_wider l n (next ∷ later) Q (Both P Q) (λ bytes q. texts_join [] bytes one.writes q) from
-turned_joins l m n (answer ∷ first) [] P Q one two =
-    let to : StationTurned l (answer ∷ first) P n =
-    subst (λ (s : Station). StationTurned l (answer ∷ first) P s) (sym two.same) one in
-    let whole : StationTurned l (answer ∷ first) (Both P Q) n =
-    turned_wider l n (answer ∷ first) P (Both P Q)
+led_joins l m n [] (next ∷ later) P Q one two =
+    let from : TurnsLeadTo l (next ∷ later) Q n =
+    subst (λ (s : Station). TurnsLeadTo s (next ∷ later) Q n) one.same two in
+    led_wider l n (next ∷ later) Q (Both P Q) (λ bytes q. texts_join [] bytes one.writes q) from
+led_joins l m n (answer ∷ first) [] P Q one two =
+    let to : TurnsLeadTo l (answer ∷ first) P n =
+    subst (λ (s : Station). TurnsLeadTo l (answer ∷ first) P s) (sym two.same) one in
+    let whole : TurnsLeadTo l (answer ∷ first) (Both P Q) n =
+    led_wider l n (answer ∷ first) P (Both P Q)
     (λ bytes p. subst (Both P Q) (append-nil bytes) (texts_join bytes [] p two.writes)) to in
-    subst (λ (answers : List MemberTurn). StationTurned l answers (Both P Q) n) (sym (append-nil (answer ∷ first))) whole
-turned_joins l m n (answer ∷ first) (next ∷ later) P Q one two = λ settings c items stands.
+    subst (λ (answers : List MemberTurn). TurnsLeadTo l answers (Both P Q) n) (sym (append-nil (answer ∷ first))) whole
+led_joins l m n (answer ∷ first) (next ∷ later) P Q one two = λ settings c items stands.
     subst (λ (end : Option MemberTurn). TurnsComeTo end settings c items (Both P Q) n)
     (sym (end_joins (answer ∷ first) next later))
     (comes_joins (end_of_turns (answer ∷ first)) next later settings c items P Q m n (one settings c items stands) two)
+
+one_by_one_joins : (l m n : Station) (first later : List MemberTurn) → TurnsOneByOne l first m → TurnsOneByOne m later n
+    → TurnsOneByOne l (first ++ later) n
+one_by_one_joins l m n [] later one two = subst (λ (s : Station). TurnsOneByOne s later n) one two
+one_by_one_joins l m n (More ∷ first) later one two =
+    (one.0, one.1, one_by_one_joins one.0 m n first later one.2 two)
+one_by_one_joins l m n (Ended ∷ first) later one two = tt
+one_by_one_joins l m n (Unseen ∷ first) later one two = tt
+one_by_one_joins l m n (WriteFault ∷ first) later one two = tt
+one_by_one_joins l m n (OutOfMemory ∷ first) later one two = tt
+
+pub turned_joins : (l m n : Station) (first later : List MemberTurn) (P Q : List ℕ → Type 0) → StationTurned l first P m
+    → StationTurned m later Q n → StationTurned l (first ++ later) (Both P Q) n
+turned_joins l m n first later P Q one two = record {
+  one_by_one = one_by_one_joins l m n first later one.one_by_one two.one_by_one;
+  leads_to = led_joins l m n first later P Q one.leads_to two.leads_to;
+}

@@ -3,6 +3,7 @@ ghost use Rattle.loop_packet.specs.declared.packet.LoopPacket.{LoopPacket};
 ghost use Rattle.schedule_steps.specs.Accepted.{ScheduleIsAccepted};
 ghost use Rattle.schedule_replay.specs.Replayed.{IsNewDisk};
 ghost use Rattle.schedule_replay.specs.Standing.{LineAt};
+ghost use Rattle.schedule_replay.specs.Turns.{RunIsNew};
 ghost use Rattle.station_replay.specs.Replay.{start};
 ghost use Rattle.station_fleet.specs.Outcomes.{StationStands};
 ghost use Rattle.station_fleet.specs.StationTurns.{member_answer};
@@ -40,6 +41,7 @@ impl Station {
         requires accepted { ScheduleIsAccepted schedule }
         requires line { (eeprom : List ℕ) × (packet : LoopPacket) × LineAt (start eeprom packet) line
             × IsNewDisk schedule.records eeprom packet disk }
+        ensures is_new { RunIsNew result.run }
         ensures may_turn { station_turning.may_turn result }
         ensures left { length schedule.steps.items < 2 ^ 47 → station_turning.left result < 2 ^ 48 }
         ensures begins { (eeprom : List ℕ) (packet : LoopPacket) → LineAt (start eeprom packet) line

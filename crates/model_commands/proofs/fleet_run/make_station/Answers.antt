@@ -15,6 +15,7 @@ returns c =
     let line = rw c.period.ensures at c.in_ok-line.ensures in
     let disk = rw (c.records.ensures, sym c.args.schedule.counted) at (c.in_ok-disk.ensures (new_memory c.args.settings.now.period) c.blank.result) in
     record {
+      is_new = c.new.ensures.is_new;
       packet = c.blank.result;
       blank = c.blank.ensures;
       before = c.in_ok-line.line;
