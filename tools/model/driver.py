@@ -12,7 +12,7 @@ EXCHANGE_WAITS, SETTLING_WAITS = 3, 6
 WAKE_TRIES, ASKINGS = 3, 4
 MOST_PAGES = 513
 HEADER_BYTES = 7  # an acknowledgement, two numbers and a check
-SETTLING_ROOM = 256  # bytes that one receive takes at most where no answer is waited for
+SETTLING_ROOM = PAGE_BYTES  # bytes that one receive takes at most where no answer is waited for
 
 
 def listen(line, waits, size=inf):

@@ -6,7 +6,7 @@ use Rattle.schedule_replay.proofs.turns.ReplayRun.new.Goals as goal
 pub returns : goal.returns
 returns c = record {
   settings = refl;
-  turns = refl;
+  is_new = record { turns = refl; taken = refl; no_round = refl; closed = c.new.ensures.session };
   begins = λ steps eeprom packet line disk accepted at new. record {
     accepted = accepted;
     room = new.room;
