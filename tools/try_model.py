@@ -16,6 +16,7 @@ from pathlib import Path
 sys.dont_write_bytecode = True  # nothing is left beside the model
 
 from model.cases import model_side, program_side
+from model.fleets import by_station
 from model.random_archives import random_climate_case, random_copy_case, random_report_case
 from model.random_packets import random_soft_case
 from model.random_pages import random_pages_case
@@ -25,6 +26,9 @@ SECONDS = 20
 SEED = "1"
 KINDS = {"replay": random_replay_case, "report": random_report_case, "climate": random_climate_case,
          "copy": random_copy_case, "fleet": random_fleet_case, "pages": random_pages_case, "soft": random_soft_case}
+
+# What the model says of a kind, whatever else an outcome has.
+SAID = {"fleet": by_station}
 
 
 def keep(program, kind, case, sides):
@@ -49,6 +53,8 @@ def try_kind(program, kind, seed, seconds, folder):
     while time.monotonic() < end:
         case = KINDS[kind](random.Random(f"{kind} {seed} {cases}"))
         sides = model_side(case), program_side(program, folder, case)
+        if kind in SAID:
+            sides = tuple((SAID[kind](outcome), files) for outcome, files in sides)
         cases += 1
         if sides[0] != sides[1]:
             different += 1

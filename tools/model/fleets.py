@@ -1,7 +1,7 @@
 """Stations that take turns, as they are drawn behind a seed."""
 
 from .draws import Draws
-from .outcomes import DONE, UNSEEN_HARM, outcome
+from .outcomes import DONE, UNSEEN_HARM, Outcome, outcome
 from .run import Run
 
 MOST_STATIONS = 8
@@ -29,3 +29,11 @@ def fleet_outcome(seed, settings, schedules):
         return outcome(UNSEEN_HARM, lines)
     switches = sum(one != next_one for one, next_one in zip(order, order[1:]))
     return outcome(DONE, [*lines, f"fleet stations {len(runs)} turns {len(order)} switches {switches}"])
+
+
+def by_station(found):
+    """The outcome with the lines of each station together if a delivery was unseen: the model does not say how many turns the
+    host takes before it ends the round of such a delivery."""
+    if found.status != UNSEEN_HARM:
+        return found
+    return Outcome(found.status, b"".join(sorted(found.text.splitlines(keepends=True), key=lambda line: line[:2])))

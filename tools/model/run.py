@@ -39,7 +39,6 @@ class Run:
                 self.take_turn()
         except Unseen as unseen:
             self.lines.append(f"unseen round {self.rounds} {unseen}")
-            self.take_calls(self.line.calls)
             self.take_turn()
             return UNSEEN_HARM
         self.close()
