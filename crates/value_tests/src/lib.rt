@@ -13,6 +13,8 @@ mod loop_packet_tests;
 #[cfg(test)]
 mod numerals_tests;
 #[cfg(test)]
+mod row_text_tests;
+#[cfg(test)]
 mod soft_record_tests;
 #[cfg(test)]
 mod station_base_tests;
