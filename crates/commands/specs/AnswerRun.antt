@@ -8,7 +8,7 @@ use Rattle.gated_log.specs.declared.start.Purpose.TheVariants.{Read}
 use Rattle.query_service.specs.Lines.{lines_in}
 use Rattle.query_service.specs.AnsweredLines.{AnswersLines}
 use Rattle.query_service.specs.Service.{ReadsFor}
-use Rattle.query_service.specs.TurnByTurn.{TurnByTurn, receive_room}
+use Rattle.query_service.specs.TurnByTurn.{TurnByTurn, query_room}
 use Rattle.query_service.specs.Turns.{AnswersTurns}
 use Rattle.query_service.specs.declared.service.QueryEnd.{QueryEnd}
 use Rattle.query_service.specs.declared.service.QueryEnd.TheVariants as query_end
@@ -60,7 +60,7 @@ pub record requests_answered {L D : Type 0} (traffic : Traffic L) (medium : Medi
 -- the answers, by these rows, to the lines that were heard: to all, or up to a fault to some in front. Each turn's answers
 -- are said before the next one.
 pub record AnswersRows (rows : List Row) (told : Type 0) (end : QueryEnd) (turns lines : ℕ) (t : List TalkItem) : Type 0 where
-  pub most : count_met t ≤ receive_room * turns
+  pub most : count_met t ≤ query_room * turns
   pub least : end ≡ query_end.Done → turns ≤ count_met t
   pub answers : told → AnswersLines end rows (lines_in (heard t)) (said t) 0 lines
   pub turn_by_turn : told → (rest : List ℕ) × TurnByTurn end rows turns [] t rest

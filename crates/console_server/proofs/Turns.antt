@@ -18,7 +18,7 @@ use Rattle.wake_retry.specs.Bounds.{said}
 use Rattle.wake_retry.specs.Parts.{heard, count_met}
 use Rattle.wake_retry.proofs.Endings.{heard_both}
 use Rattle.console_server.specs.Replies.{said_items, console_after, replies}
-use Rattle.console_server.specs.ServedTurns.{IsServedTurn, ServedTurnBreaksOff, receive_room}
+use Rattle.console_server.specs.ServedTurns.{IsServedTurn, ServedTurnBreaksOff, serving_room}
 use Rattle.console_server.specs.Serving.{AnswersAll, IsAnsweredInPart, IsBrokenOff, OnlySays, SaysReply, ServesTurns}
 use Rattle.console_server.specs.declared.serving.Served.{Served}
 use Rattle.console_server.specs.declared.serving.ServeEnd.{ServeEnd}
@@ -100,7 +100,7 @@ heard_whole bytes n below =
     ∙ sym (map-append Heard (take (n + 1) bytes) (drop (n + 1) bytes)) ∙ ap (λ (l : List ℕ). map Heard l) (take-append-drop (n + 1) bytes)
 
 -- what came in one turn, of which nothing was said, and then the answers to it
-pub turn_done : (came t : List TalkItem) (a b : Console) (x y z : Served) → CameOfOneReceive receive_room came → said_items came ≡ [] → length (said came) ≡ 0 → 1 ≤ count_met came → count_met came ≤ 256
+pub turn_done : (came t : List TalkItem) (a b : Console) (x y z : Served) → CameOfOneReceive serving_room came → said_items came ≡ [] → length (said came) ≡ 0 → 1 ≤ count_met came → count_met came ≤ 256
     → z.heard ≡ x.heard + length (heard came) → y.said ≡ x.said → AnswersAll end.Done came a b y z t → ServesTurns end.Done 1 a b x z (came ++ t)
 turn_done came t a b x y z receives silent none some few counts keeps answers =
     let mute = only_said t answers.only in (
@@ -128,7 +128,7 @@ turn_done came t a b x y z receives silent none some few counts keeps answers =
     )
 
 -- the same where the answers were cut off
-pub turn_cut : (came t : List TalkItem) (a b : Console) → CameOfOneReceive receive_room came → said_items came ≡ [] → count_met came ≤ 256 → OnlySays t
+pub turn_cut : (came t : List TalkItem) (a b : Console) → CameOfOneReceive serving_room came → said_items came ≡ [] → count_met came ≤ 256 → OnlySays t
     → ((k : model.Console) → ConsoleStandsFor a k → IsAnsweredInPart k b came t) → IsBrokenOff 1 a b (came ++ t)
 turn_cut came t a b receives silent few only part =
     let mute = only_said t only in (
@@ -154,7 +154,7 @@ turn_cut came t a b receives silent few only part =
     )
 
 -- by how the answers ended
-pub turn_by : (end : ServeEnd) (came t : List TalkItem) (a b : Console) (x y z : Served) → CameOfOneReceive receive_room came → said_items came ≡ [] → length (said came) ≡ 0 → 1 ≤ count_met came
+pub turn_by : (end : ServeEnd) (came t : List TalkItem) (a b : Console) (x y z : Served) → CameOfOneReceive serving_room came → said_items came ≡ [] → length (said came) ≡ 0 → 1 ≤ count_met came
     → count_met came ≤ 256 → z.heard ≡ x.heard + length (heard came) → y.said ≡ x.said → AnswersAll end came a b y z t → ServesTurns end 1 a b x z (came ++ t)
 turn_by end.Done came t a b x y z receives silent none some few counts keeps answers = turn_done came t a b x y z receives silent none some few counts keeps answers
 turn_by end.LinkFault came t a b x y z receives silent none some few counts keeps answers = turn_cut came t a b receives silent few answers.only answers.replies

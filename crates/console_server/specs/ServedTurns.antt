@@ -7,15 +7,15 @@ use Rattle.serial_link.specs.declared.talk.TalkItem.{TalkItem}
 use Rattle.console_server.specs.Replies.{console_after, replies}
 
 -- the bytes that one receive hears at most
-abbrev pub receive_room : ℕ
-receive_room = 256
+abbrev pub serving_room : ℕ
+serving_room = 256
 
 -- A turn: one receive, and the console's replies to it before the next one. The console becomes the one after it.
 pub record IsServedTurn (k : Console) (t : List TalkItem) (next : Console) : Type 0 where
   pub received : List TalkItem
   pub answered : List TalkItem
   pub whole : t ≡ received ++ answered
-  pub receives : CameOfOneReceive receive_room received
+  pub receives : CameOfOneReceive serving_room received
   pub says : answered ≡ replies k received
   pub next_is : next ≡ console_after k received
 
@@ -24,7 +24,7 @@ pub record ServedTurnBreaksOff (k : Console) (t : List TalkItem) : Type 0 where
   pub received : List TalkItem
   pub answered : List TalkItem
   pub whole : t ≡ received ++ answered
-  pub receives : CameOfOneReceive receive_room received
+  pub receives : CameOfOneReceive serving_room received
   pub met : List TalkItem
   pub front : IsFrontOf met received
   pub says : IsFrontOf answered (replies k met)

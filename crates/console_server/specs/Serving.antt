@@ -12,7 +12,7 @@ use Rattle.serial_link.specs.declared.talk.TalkItem.TheVariants.{Said, Heard, Qu
 use Rattle.wake_retry.specs.Bounds.{said}
 use Rattle.wake_retry.specs.Parts.{heard, count_met}
 use Rattle.console_server.specs.Replies.{said_items, console_after, replies}
-use Rattle.console_server.specs.ServedTurns.{IsServedTurn, ServedTurnBreaksOff, receive_room}
+use Rattle.console_server.specs.ServedTurns.{IsServedTurn, ServedTurnBreaksOff, serving_room}
 use Rattle.console_server.specs.declared.serving.Served.{Served}
 use Rattle.console_server.specs.declared.serving.ServeEnd.{ServeEnd}
 use Rattle.console_server.specs.declared.serving.ServeEnd.TheVariants as end
@@ -22,7 +22,7 @@ pub record TalkIsCounted (turns : ℕ) (old new : Served) (t : List TalkItem) : 
   pub heard : new.heard ≡ old.heard + length (heard t)
   pub said : new.said ≡ old.said + length (said t)
   pub least : turns ≤ count_met t
-  pub most : count_met t ≤ receive_room * turns
+  pub most : count_met t ≤ serving_room * turns
 
 -- What was said is just the replies of this console to what came, turn by turn, and the console in memory is the one after that.
 pub record ConsoleIsServed (turns : ℕ) (k : model.Console) (after : Console) (t : List TalkItem) : Type 0 where
@@ -41,7 +41,7 @@ pub record ServingBreaksOff (turns : ℕ) (k : model.Console) (after : Console) 
 -- the same of whatever console the one in memory stood for, in so many turns at most
 abbrev pub IsBrokenOff : ℕ → Console → Console → List TalkItem → Type 0
 IsBrokenOff turns before after t =
-    (count_met t ≤ receive_room * turns) × ((k : model.Console) → ConsoleStandsFor before k → ServingBreaksOff turns k after t)
+    (count_met t ≤ serving_room * turns) × ((k : model.Console) → ConsoleStandsFor before k → ServingBreaksOff turns k after t)
 
 -- what serving a console for so many turns says and hears, by its end
 abbrev pub ServesTurns : ServeEnd → ℕ → Console → Console → Served → Served → List TalkItem → Type 0

@@ -12,15 +12,15 @@ use Rattle.query_service.specs.declared.service.QueryEnd.{QueryEnd}
 use Rattle.query_service.specs.declared.service.QueryEnd.TheVariants.{Done, LinkFault, DiskFault, OutOfMemory}
 
 -- the bytes that one receive hears at most
-abbrev pub receive_room : ℕ
-receive_room = 256
+abbrev pub query_room : ℕ
+query_room = 256
 
 -- One receive, and behind it what was said of it, with nothing heard meanwhile.
 pub record HearsAndSays (t : List TalkItem) : Type 0 where
   pub received : List TalkItem
   pub answered : List TalkItem
   pub whole : t ≡ received ++ answered
-  pub receives : CameOfOneReceive receive_room received
+  pub receives : CameOfOneReceive query_room received
   pub only_says : TalkOnlySays answered
 
 -- A turn: the lines that end in what one receive hears are answered before the next one. The line that has begun before it

@@ -14,7 +14,7 @@ use Rattle.query_service.specs.Answers.{answer_to}
 use Rattle.query_service.specs.Asked.{LineAsks}
 use Rattle.query_service.specs.Lines.{lines_after, lines_in, rest_after}
 use Rattle.query_service.specs.Talk.{TalkOnlySays}
-use Rattle.query_service.specs.TurnByTurn.{TurnByTurn, receive_room}
+use Rattle.query_service.specs.TurnByTurn.{TurnByTurn, query_room}
 use Rattle.query_service.specs.declared.request.Request.{Request}
 use Rattle.query_service.specs.declared.service.QueryEnd.{QueryEnd}
 use Rattle.query_service.specs.declared.service.QueryEnd.TheVariants.{Done, LinkFault, DiskFault, OutOfMemory}
@@ -28,7 +28,7 @@ WhereRead medium book disk P =
 -- turns is one receive and then the answers to the lines that end in it.
 pub record AnswersTurns {D : Type 0} (medium : Medium D) (book : Book) (disk : D) (end : QueryEnd) (turns lines : ℕ)
     (t : List TalkItem) : Type 0 where
-  pub most : count_met t ≤ receive_room * turns
+  pub most : count_met t ≤ query_room * turns
   pub least : end ≡ Done → turns ≤ count_met t
   pub answers : WhereRead medium book disk (λ rows. AnswersLines end rows (lines_in (heard t)) (said t) 0 lines)
   pub turn_by_turn : WhereRead medium book disk (λ rows. (rest : List ℕ) × TurnByTurn end rows turns [] t rest)
@@ -52,7 +52,7 @@ TurnsFrom medium book disk end turns before after t = (begun : List ℕ) → bef
 -- so many turns were taken
 pub record TakesTurns {D : Type 0} (medium : Medium D) (book : Book) (disk : D) (end : QueryEnd) (turns : ℕ)
     (before after : List ℕ) (old new : ℕ) (t : List TalkItem) : Type 0 where
-  pub most : count_met t ≤ receive_room * turns
+  pub most : count_met t ≤ query_room * turns
   pub least : end ≡ Done → turns ≤ count_met t
   pub turn_by_turn : TurnsFrom medium book disk end turns before after t
   pub answers : ServesFrom medium book disk end (heard t) (said t) before after old new
