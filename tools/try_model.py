@@ -2,10 +2,14 @@
 """Compares a built program with a plain model of it, on random runs: what they print, their status, and their files.
 
     tools/try_model.py PROGRAM [SECONDS] [SEED]
+    tools/try_model.py --cases COUNT PROGRAM [SEED]
 
-It takes so many seconds, 20 if not said, and prints a line for each kind of run. The first run of a kind that differs
-is kept in a folder. The status is 0 where nothing differs, else 1. The same cases come of the same seed.
+It takes so many seconds, 20 if not said, or tries at least so many runs, and prints a line for each kind of run. The first
+run of a kind that differs is kept in a folder. The status is 0 where nothing differs, else 1. The same cases come of the
+same seed.
 """
+import itertools
+import math
 import random
 import shlex
 import sys
@@ -47,11 +51,17 @@ def keep(program, kind, case, sides):
     print(f"{kind} differs, see {folder}: cd {folder} && {shlex.join([program, *case.words])}")
 
 
-def try_kind(program, kind, seed, seconds, folder):
-    """Compares random cases of one kind for so many seconds; gives how many differ."""
-    end, cases, different = time.monotonic() + seconds, 0, 0
-    while time.monotonic() < end:
-        case = KINDS[kind](random.Random(f"{kind} {seed} {cases}"))
+def numbers_for(seconds):
+    """Numbers from 0 on, for so many seconds."""
+    end = time.monotonic() + seconds
+    return itertools.takewhile(lambda _: time.monotonic() < end, itertools.count())
+
+
+def try_kind(program, kind, seed, numbers, folder):
+    """Compares a random case of one kind for each of the numbers; gives how many differ."""
+    cases = different = 0
+    for number in numbers:
+        case = KINDS[kind](random.Random(f"{kind} {seed} {number}"))
         sides = model_side(case), program_side(program, folder, case)
         if kind in SAID:
             sides = tuple((SAID[kind](outcome), files) for outcome, files in sides)
@@ -64,17 +74,24 @@ def try_kind(program, kind, seed, seconds, folder):
     return different
 
 
-def main(words):
-    """Tries all kinds in equal parts of the time; gives the status."""
-    program = str(Path(words[0]).resolve())
-    seconds = float(words[1]) if len(words) > 1 else SECONDS
-    seed = words[2] if len(words) > 2 else SEED
+def main(program, numbers, seed=SEED):
+    """Tries all kinds, each on the numbers that the call gives; gives the status."""
+    program = str(Path(program).resolve())
     with tempfile.TemporaryDirectory() as folder:
-        different = [try_kind(program, kind, seed, seconds / len(KINDS), Path(folder)) for kind in KINDS]
+        different = [try_kind(program, kind, seed, numbers(), Path(folder)) for kind in KINDS]
     return 1 if any(different) else 0
 
 
-if __name__ == "__main__":
-    if not 2 <= len(sys.argv) <= 4:
+def main_of(words):
+    """Tries what the words say; gives the status."""
+    if words[0] == "--cases" and len(words) in (3, 4):
+        each = math.ceil(int(words[1]) / len(KINDS))
+        return main(words[2], lambda: range(each), *words[3:])
+    if len(words) > 3:
         sys.exit(__doc__)
-    sys.exit(main(sys.argv[1:]))
+    seconds = float(words[1]) if len(words) > 1 else SECONDS
+    return main(words[0], lambda: numbers_for(seconds / len(KINDS)), *words[2:])
+
+
+if __name__ == "__main__":
+    sys.exit(main_of(sys.argv[1:]) if len(sys.argv) > 1 else __doc__)
