@@ -1,10 +1,10 @@
 #!/usr/bin/env bash
 # Makes a Debian package of what `station install` copies, in the folder where it is run, and prints its name.
 #
-#     tools/package.sh [--program FILE]
+#     tools/package.sh [--arch arm64] [--program FILE]
 #
 # Its version is the latest day of a commit and the number of commits, so that each commit's is higher than those before
-# it. The program is packed as it was proved and built.
+# it. The program is packed as it was proved and built. That for arm64 is built first if it does not stand.
 set -eu -o pipefail
 top=$(cd "$(dirname "$0")/.." && pwd)
 stage=$(mktemp -d)
@@ -55,9 +55,19 @@ compress_pages() {
     done
 }
 
-# The libraries that the program loads, as packages.
+# The libraries that the program loads, as packages. dpkg-shlibdeps knows those of this machine alone: from another one the
+# program needs the C library, in the version of its latest function.
 libraries() (
     cd "$stage"
+    if [ "$architecture" != "$(dpkg --print-architecture)" ]; then
+        if ! readelf -h debian/jofitrana/usr/bin/jofitrana | grep -q AArch64; then
+            echo "package: the program is not for $architecture" >&2
+            exit 1
+        fi
+        readelf -VW debian/jofitrana/usr/bin/jofitrana | grep -o 'GLIBC_[0-9.]*' | sort -Vu |
+            sed -n '$s/GLIBC_\(.*\)/libc6 (>= \1)/p'
+        return
+    fi
     touch debian/control
     dpkg-shlibdeps -O debian/jofitrana/usr/bin/jofitrana | sed -n 's/^shlibs:Depends=//p'
 )
@@ -68,6 +78,14 @@ if [ "$(git -C "$top" rev-parse --is-shallow-repository)" = true ]; then
 fi
 version=$(version_at HEAD)
 architecture=$(dpkg --print-architecture)
+if [ "${1-} ${2-}" = '--arch arm64' ]; then
+    architecture=arm64
+    shift 2
+    if [ $# = 0 ]; then
+        "$top/tools/build_arm64.py" /bin/true
+        set -- --program "$top/out/arm64/station_program"
+    fi
+fi
 mkdir -p "$root/usr" "$root/DEBIAN"
 "$top/tools/install.sh" install --prefix "$root/usr" "$@" >/dev/null
 rm "$root/usr/share/jofitrana/installed"
