@@ -170,6 +170,8 @@ def build_program(cross):
     first = stand_below(crate)
     build.say('proves and builds the program for arm64')
     with build.turn(), tempfile.TemporaryDirectory() as folder:
+        if stands(cross):
+            return  # another run has built it
         held = rt.rtlib.lock([*crate.below(), crate])
         made = f'{folder}/{crate_list.PROGRAM}'
         prove(rt, crate, cross, first, made)
