@@ -17,14 +17,19 @@ PAGES_OF_A_PI=16384 # bytes of memory, as the system of a Raspberry Pi 5 has the
 RECORDS=2560
 CASES=200
 
+# shellcheck source=tools/left_out.sh
+. "$tools/left_out.sh"
 emulator=$(command -v qemu-aarch64 || command -v qemu-aarch64-static) || {
-    echo 'qemu-aarch64 is missing: no program for arm64 was tried; on Debian: apt install qemu-user' >&2
+    leave_out 'qemu-aarch64 is missing: no program for arm64 was tried; on Debian: apt install qemu-user'
     exit 0
 }
 "$tools/build_arm64.py" /bin/true
 case $? in
     0) ;;
-    "$LACKING") exit 0 ;;
+    "$LACKING")
+        leave_out 'the C library for arm64 is missing: no program for arm64 was tried'
+        exit 0
+        ;;
     *) exit 1 ;;
 esac
 # shellcheck source=tools/served_console.sh
@@ -71,7 +76,7 @@ if "${naming[@]}" true 2>/dev/null; then
     echo many >>names
 else
     naming=()
-    echo 'unshare is missing or refused: no name of many addresses was looked up' >&2
+    leave_out 'unshare is missing or refused: no name of many addresses was looked up'
 fi
 
 # Runs the calls with the words and names, as the same word 0. The first word is what starts them under another name.
@@ -97,7 +102,7 @@ if command -v cc >/dev/null; then
     call "$emulator" -cpu "$PROCESSOR" -0 calls -L "$LIBRARY" ./arm64_calls >arm64.said
     expect 'the C functions of tools/arm64 on arm64, beside the kit' 0 '' first_difference kit.said arm64.said
 else
-    echo 'cc is missing: the C functions were not tried beside those of the kit' >&2
+    leave_out 'cc is missing: the C functions were not tried beside those of the kit'
 fi
 
 # What .ci/run tries of the program for x86-64. The first script has the examples and the cases of the tables.
@@ -129,7 +134,7 @@ if command -v dpkg-shlibdeps >/dev/null && git -C "$tools" rev-parse --is-shallo
     dpkg-deb --fsys-tarfile "$package" | tar -xO ./usr/bin/jofitrana >packed
     expect 'the program in it' 0 '' cmp packed "$arm64"
 else
-    echo 'dpkg-dev or the repository of git is missing: no package for arm64 was tried' >&2
+    leave_out 'dpkg-dev or the repository of git is missing: no package for arm64 was tried'
 fi
 
 wait "$line"
