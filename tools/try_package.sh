@@ -244,7 +244,8 @@ expect 'a check by its unit, of settings of another period' 2 'JOFITRANA CRITICA
     unit jofitrana-check
 if in_root /usr/bin/python3 -c 'import jinja2, matplotlib' 2>/dev/null; then
     echo 'PAGE=--metric' >>"$root/etc/jofitrana/roof.env"
-    expect 'a page by its unit' 0 '' unit jofitrana-page
+    # Matplotlib looks for fonts as a user first draws, and reports it where that takes long.
+    expect 'a page by its unit' 0 '?(Matplotlib is building the font cache; this may take a moment.)' unit jofitrana-page
     expect 'whose page it is' 0 jofitrana in_root stat -c %U /var/lib/jofitrana/roof.page/index.html
 else
     leave_out 'python3-jinja2 or python3-matplotlib is missing: no page was made by its unit'
