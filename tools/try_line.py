@@ -107,7 +107,7 @@ def listening(program, words, host=HERE, under=()):
     port = free_port()
     with program.start(words.format(f"{host}:{port}"), under=under) as run:
         while not listens(run.process.pid, port):
-            if run.began.is_over(TO_BEGIN):
+            if run.process.poll() is not None or run.began.is_over(TO_BEGIN):
                 raise Missed(f"it does not listen at {host}:{port}")  # another process may have taken the port
             time.sleep(BETWEEN_LOOKS)
         yield run, port
@@ -124,7 +124,11 @@ def serving(program, turns, host=HERE):
 
 def sockets(process, port, state):
     """The sockets in this state at a port where that process runs, as rows of words."""
-    rows = [row.split() for row in Path(f"/proc/{process}/net/tcp").read_text(encoding="ascii").splitlines()[1:]]
+    try:
+        text = Path(f"/proc/{process}/net/tcp").read_text(encoding="ascii")
+    except OSError:
+        return []  # the process has ended
+    rows = [row.split() for row in text.splitlines()[1:]]
     return [row for row in rows if row[1].endswith(f":{port:04X}") and row[3] == state]
 
 
