@@ -1,0 +1,5 @@
+pub mod Places
+pub mod Rows
+pub mod Rounds
+pub mod Printing
+pub mod Commands
