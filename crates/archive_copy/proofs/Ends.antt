@@ -5,11 +5,16 @@ use Rattle.station_base.specs.declared.row.Row.{Row}
 use Rattle.packed_rows.specs.Rows.{RowsOf, holds, rows_of}
 use Rattle.archive_copy.specs.declared.end.CopyEnd.{CopyEnd}
 use Rattle.archive_copy.specs.declared.end.CopyEnd.TheVariants.{Done, FromNotArchive, FromDamaged, Full, ToNotArchive, ToOldVersion, ToDamaged, NotPrefix, FromFault, ToFault, OutOfMemory}
-use Rattle.archive_copy.specs.Adding.{IsOfAdding, CopyMoves, batch_count, next_rows, to_add}
+use Rattle.batch_adding.specs.Adding.{batch_count}
+use Rattle.batch_adding.specs.Calls.{is_opening_fault}
+use Rattle.batch_adding.specs.Opening.{CanBeAddedTo, CannotBeAddedTo}
+use Rattle.batch_adding.specs.declared.opening.NotOpened.{NotOpened}
+use Rattle.batch_adding.specs.declared.opening.NotOpened.TheVariants as to_open
+use Rattle.archive_copy.specs.Adding.{IsOfAdding, CopyMoves, next_rows, to_add}
 use Rattle.gated_log.specs.Start.{MovedToWrite}
 use Rattle.archive_copy.specs.Calls.{is_from_fault, is_to_fault}
-use Rattle.archive_copy.specs.Opening.{IsOfFrom, IsOfTo}
-use Rattle.archive_copy.specs.Answers.{CopyAnswers, CanBeAddedTo, CanBeCopied, OnFromDamaged, RefusesFrom, RefusesTo}
+use Rattle.archive_copy.specs.Opening.{IsOfFrom, end_not_opened}
+use Rattle.archive_copy.specs.Answers.{CopyAnswers, CanBeCopied, OnFromDamaged, RefusesFrom}
 
 -- where the first file refuses
 pub from_answers : (end : CopyEnd) (from to : List ℕ) → RefusesFrom end from → CopyAnswers end from to
@@ -26,18 +31,12 @@ from_answers (NotPrefix n) from to is = absurd is
 from_answers ToFault from to is = absurd is
 
 -- where the second file refuses
-pub to_answers : (end : CopyEnd) (from to : List ℕ) (theirs : List Row) → CanBeCopied from theirs → RefusesTo end to → CopyAnswers end from to
-to_answers (ToNotArchive bytes) from to theirs can is = (theirs, can, is)
-to_answers ToOldVersion from to theirs can is = (theirs, can, is)
-to_answers (ToDamaged place) from to theirs can is = (theirs, can, is)
-to_answers ToFault from to theirs can is = tt
-to_answers OutOfMemory from to theirs can is = tt
-to_answers (FromNotArchive bytes) from to theirs can is = absurd is
-to_answers (FromDamaged place) from to theirs can is = absurd is
-to_answers (Full n) from to theirs can is = absurd is
-to_answers FromFault from to theirs can is = absurd is
-to_answers (Done n) from to theirs can is = absurd is
-to_answers (NotPrefix n) from to theirs can is = absurd is
+pub to_answers : (why : NotOpened) (from to : List ℕ) (theirs : List Row) → CanBeCopied from theirs → CannotBeAddedTo why to → CopyAnswers (end_not_opened why) from to
+to_answers (to_open.NotArchive bytes) from to theirs can is = (theirs, can, is)
+to_answers to_open.OldVersion from to theirs can is = (theirs, can, is)
+to_answers (to_open.Damaged place) from to theirs can is = (theirs, can, is)
+to_answers to_open.Fault from to theirs can is = tt
+to_answers to_open.OutOfMemory from to theirs can is = tt
 
 -- where rows were added, and none of them was out of order
 pub adding_answers : (end : CopyEnd) (from to : List ℕ) (theirs mine : List Row) (count : ℕ) → IsOfAdding end count → count ≡ length theirs → (end ≡ FromDamaged 0 → ⊥)
@@ -101,18 +100,20 @@ no_to_fault (NotPrefix n) is = absurd is
 no_to_fault ToFault is = absurd is
 
 -- and one as the second is opened is none of the first one's
-pub no_from_fault : (end : CopyEnd) → IsOfTo end → is_from_fault end ≡ false
-no_from_fault (ToNotArchive bytes) is = refl
-no_from_fault ToOldVersion is = refl
-no_from_fault (ToDamaged place) is = refl
-no_from_fault ToFault is = refl
-no_from_fault OutOfMemory is = refl
-no_from_fault (Done n) is = absurd is
-no_from_fault (FromNotArchive bytes) is = absurd is
-no_from_fault (FromDamaged place) is = absurd is
-no_from_fault (Full n) is = absurd is
-no_from_fault (NotPrefix n) is = absurd is
-no_from_fault FromFault is = absurd is
+pub no_from_fault : (why : NotOpened) → is_from_fault (end_not_opened why) ≡ false
+no_from_fault (to_open.NotArchive bytes) = refl
+no_from_fault to_open.OldVersion = refl
+no_from_fault (to_open.Damaged place) = refl
+no_from_fault to_open.Fault = refl
+no_from_fault to_open.OutOfMemory = refl
+
+-- it is one of the second's where its opening met one
+pub opening_faults : (why : NotOpened) → is_opening_fault why ≡ is_to_fault (end_not_opened why)
+opening_faults (to_open.NotArchive bytes) = refl
+opening_faults to_open.OldVersion = refl
+opening_faults (to_open.Damaged place) = refl
+opening_faults to_open.Fault = refl
+opening_faults to_open.OutOfMemory = refl
 
 -- neither says how far the moment came
 pub from_moves : (end : CopyEnd) (old new : ℕ) (to : List ℕ) → IsOfFrom end → CopyMoves end old new to
@@ -128,18 +129,12 @@ from_moves (ToDamaged place) old new to is = tt
 from_moves (NotPrefix n) old new to is = absurd is
 from_moves ToFault old new to is = tt
 
-pub to_moves : (end : CopyEnd) (old new : ℕ) (to : List ℕ) → IsOfTo end → CopyMoves end old new to
-to_moves (FromNotArchive bytes) old new to is = tt
-to_moves (FromDamaged place) old new to is = tt
-to_moves (Full n) old new to is = tt
-to_moves FromFault old new to is = tt
-to_moves OutOfMemory old new to is = tt
-to_moves (Done n) old new to is = absurd is
-to_moves (ToNotArchive bytes) old new to is = tt
-to_moves ToOldVersion old new to is = tt
-to_moves (ToDamaged place) old new to is = tt
-to_moves (NotPrefix n) old new to is = absurd is
-to_moves ToFault old new to is = tt
+pub to_moves : (why : NotOpened) (old new : ℕ) (to : List ℕ) → CopyMoves (end_not_opened why) old new to
+to_moves (to_open.NotArchive bytes) old new to = tt
+to_moves to_open.OldVersion old new to = tt
+to_moves (to_open.Damaged place) old new to = tt
+to_moves to_open.Fault old new to = tt
+to_moves to_open.OutOfMemory old new to = tt
 
 -- an adding that was done took four changes for each batch
 pub adding_moves : (end : CopyEnd) (old opened new count : ℕ) (to : List ℕ) (mine : List Row) → IsOfAdding end count → rows_of to ≡ holds mine → MovedToWrite old opened to

@@ -1,34 +1,17 @@
--- What a book, and what a crash, keeps over the batches of a copy.
-use Rattle.std.proofs.Common.{◌≡◌, ℕ, ◌+◌, ◌-◌, ◌≤◌, List, ◌++◌, length, take, drop, inl, inr, ⊎_elim, ◌∙◌, ap, subst, arith}
+-- What a crash keeps over the batches of a copy.
+use Rattle.std.proofs.Common.{◌≡◌, ℕ, ◌+◌, ◌-◌, ◌≤◌, List, ◌++◌, length, take, drop, sym, ◌∙◌, ap, arith}
+use Rattle.std.proofs.lemmas.List.{drop-drop}
 use Rattle.disk_model.specs.Medium.{Medium}
 use Rattle.disk_model.specs.Disk.{LeavesOnly}
 use Rattle.station_base.specs.declared.row.Row.{Row}
-use Rattle.weather_book.specs.Stands.{HasRows, RowsOldOrAll}
-use Rattle.archive_copy.proofs.NextRows.{more_next}
-use Rattle.archive_copy.specs.Adding.{HasOldOrAll, HasSome}
+use Rattle.batch_adding.specs.Adding.{HasOldOrAll, HasSome}
+use Rattle.batch_adding.proofs.Kept as batches
 
 module _ {D : Type 0} (medium : Medium D) where
-  -- a crash leaves the old rows or all, whether it is late or not
-  pub late_or_not : (old new : List Row) (late : Type 0) (d e : D) → LeavesOnly medium (RowsOldOrAll old new late) d e → LeavesOnly medium (HasOldOrAll old new) d e
-  late_or_not old new late d e leaves t c le now =
-      ⊎_elim (λ was. inl was) (λ some. inr (⊎_elim (λ o. inl o) (λ n. inr n.1) some)) (leaves t c le now)
-
-  -- nothing was begun
-  pub nothing_left : (P : List ℕ → Type 0) (d e : D) → e ≡ d → LeavesOnly medium P d e
-  nothing_left P d e same t c le now = inl (subst (λ (x : D). medium.left x t c) same now)
-
-  -- what one step leaves and the next one
-  pub leaves_join : (P Q : List ℕ → Type 0) (d e f : D) → medium.moment d ≤ medium.moment e → LeavesOnly medium P d e → LeavesOnly medium Q e f
-      → ((c : List ℕ) → Q c → P c) → LeavesOnly medium P d f
-  leaves_join P Q d e f later one two weaker t c le now =
-      ⊎_elim (λ was. one t c le was) (λ q. inr (weaker c q)) (two t c (omega (arith, le, later)) now)
-
   -- a batch of the next rows leaves none or more of them
   pub batch_leaves : (mine theirs new : List Row) (at k : ℕ) (d e : D) → length mine ≤ at → new ≡ take k (drop at theirs)
       → LeavesOnly medium (HasOldOrAll (mine ++ take (at - length mine) (drop (length mine) theirs)) new) d e → LeavesOnly medium (HasSome mine (drop (length mine) theirs)) d e
-  batch_leaves mine theirs new at k d e le is leaves t c late now =
-      let all : (mine ++ take (at - length mine) (drop (length mine) theirs)) ++ new ≡ mine ++ take (at + k - length mine) (drop (length mine) theirs) =
-      ap (λ (zs : List Row). (mine ++ take (at - length mine) (drop (length mine) theirs)) ++ zs) is ∙ more_next mine theirs at k le in
-      ⊎_elim (λ was. inl was)
-      (λ some. inr (⊎_elim (λ o. (at - length mine, o)) (λ n. (at + k - length mine, subst (λ (rows : List Row). HasRows rows c) all n)) some))
-      (leaves t c late now)
+  batch_leaves mine theirs new at k d e le is =
+      let place : length mine + (at - length mine) ≡ at = omega (arith, le) in
+      batches.batch_leaves medium mine (drop (length mine) theirs) new (at - length mine) k d e
+      (is ∙ ap (take k) (sym (drop-drop (at - length mine) (length mine) theirs ∙ ap (λ (n : ℕ). drop n theirs) place)))

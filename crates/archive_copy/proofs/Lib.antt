@@ -2,10 +2,7 @@ pub mod SameRows
 pub mod Fronts
 pub mod NextRows
 pub mod Kept
-pub mod BookAtRest
 pub mod Ends
 pub mod Looks
-pub mod Changes
-pub mod Batches
-pub mod Together
+pub mod FromCalls
 pub mod ReadAhead

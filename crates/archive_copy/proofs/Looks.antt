@@ -5,7 +5,7 @@ use Rattle.gated_log.specs.Calls.{Looked}
 use Rattle.station_base.specs.declared.row.Row.{Row}
 use Rattle.gated_log.specs.Layout.{slot_size}
 use Rattle.packed_rows.specs.Rows.{slot_total}
-use Rattle.archive_copy.specs.Calls.{slots_end}
+use Rattle.batch_adding.specs.Calls.{slots_end}
 
 some_slots : (n : ℕ) → 0 < n → slot_size * (n + 1) ≡ slots_end n
 some_slots zero pos = absurd (omega arith)

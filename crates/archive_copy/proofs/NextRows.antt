@@ -9,7 +9,7 @@ use Rattle.station_base.specs.CivilMinute.{CivilMinute}
 use Rattle.station_base.specs.declared.row.Row.{Row}
 use Rattle.causes.specs.Lists.{IsFrontOf}
 use Rattle.packed_rows.specs.Rising.{stamp_exceeds, rows_rise, last_stamp_after, last_row_stamp}
-use Rattle.archive_copy.specs.Adding.{batch_count}
+use Rattle.batch_adding.specs.Adding.{batch_count}
 use Rattle.packed_rows.proofs.RowLaws.{rise_front, rise_behind}
 
 -- one more of the next rows

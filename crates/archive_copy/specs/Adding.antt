@@ -1,22 +1,12 @@
--- The rows that a copy adds, and what a crash may leave of them.
-use Rattle.std.specs.Prelude.{◌≡◌, ◌⊎◌, ℕ, ◌+◌, ◌-◌, ◌*◌, ◌/◌, ◌<◌, ◌≤◌, List, [], ◌++◌, length, take, drop}
+-- The rows that a copy adds, and how far the moment comes.
+use Rattle.std.specs.Prelude.{◌≡◌, ℕ, ◌+◌, ◌-◌, ◌*◌, List, [], length, drop}
 use Rattle.station_base.specs.declared.row.Row.{Row}
 use Rattle.gated_log.specs.Start.{MovedToWrite}
 use Rattle.packed_rows.specs.Rows.{RowsOf, holds, rows_of}
-use Rattle.weather_book.specs.Stands.{HasRows}
-use Rattle.archive_copy.specs.declared.adding.BatchEnd.{BatchEnd}
-use Rattle.archive_copy.specs.declared.adding.BatchEnd.TheVariants as batch
+use Rattle.batch_adding.specs.Adding.{batch_count}
 use Rattle.archive_copy.specs.declared.end.CopyEnd.{CopyEnd}
 use Rattle.archive_copy.specs.declared.end.CopyEnd.TheVariants.{Done, FromDamaged, NotPrefix}
 use Rattle.archive_copy.specs.declared.end.CopyEnd.TheVariants.{FromFault, ToFault, OutOfMemory}
-
--- how many batches so many rows are: five each, and the last with what is left
-abbrev pub batch_count : ℕ → ℕ
-batch_count rows = (rows + 4) / 5
-
--- the image has these rows, and then none or more of the next ones, in order and none skipped
-abbrev pub HasSome : List Row → List Row → List ℕ → Type 0
-HasSome mine next image = (n : ℕ) × HasRows (mine ++ take n next) image
 
 -- the rows of an archive behind those that the other one has
 abbrev pub next_rows : RowsOf → List Row → List Row
@@ -27,16 +17,6 @@ next_rows other mine = []
 abbrev pub to_add : CopyEnd → RowsOf → List Row → List Row
 to_add (NotPrefix n) theirs mine = []
 to_add other theirs mine = next_rows theirs mine
-
--- the image has the old rows, or these and the new ones
-abbrev pub HasOldOrAll : List Row → List Row → List ℕ → Type 0
-HasOldOrAll old new image = HasRows old image ⊎ HasRows (old ++ new) image
-
--- how far the moment has come with a batch
-abbrev pub MovedBy : BatchEnd → ℕ → ℕ → Type 0
-MovedBy batch.Done old new = new ≡ old + 4
-MovedBy batch.Fault old new = (old < new) × (new ≤ old + 4)
-MovedBy batch.OutOfMemory old new = new ≡ old
 
 -- how an adding may end that has so many rows in all
 abbrev pub IsOfAdding : CopyEnd → ℕ → Type 0

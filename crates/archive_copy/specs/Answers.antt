@@ -1,12 +1,12 @@
 -- What the files of both archives hold where a copy ended so.
-use Rattle.std.specs.Prelude.{◌≡◌, ℕ, ◌<◌, ◌≤◌, false, true, List, length, take}
+use Rattle.std.specs.Prelude.{◌≡◌, ℕ, ◌<◌, ◌≤◌, List, length, take}
 use Rattle.causes.specs.Lists.{IsFrontOf}
-use Rattle.gated_log.specs.Version.{version_of, is_refused}
-use Rattle.gated_log.specs.declared.start.Purpose.TheVariants.{Write}
 use Rattle.station_base.specs.declared.row.Row.{Row}
 use Rattle.disk_model.specs.Medium.{Medium}
 use Rattle.weather_book.specs.Stands.{NowHasRows, ReadsRows}
 use Rattle.packed_rows.specs.Rows.{rows_of, holds, not_archive, damaged}
+use Rattle.batch_adding.specs.Opening.{CanBeAddedTo, CannotBeAddedTo}
+use Rattle.batch_adding.specs.declared.opening.NotOpened.TheVariants as to_open
 use Rattle.archive_copy.specs.declared.end.CopyEnd.{CopyEnd}
 use Rattle.archive_copy.specs.declared.end.CopyEnd.TheVariants.{Done, FromNotArchive, FromDamaged, Full}
 use Rattle.archive_copy.specs.declared.end.CopyEnd.TheVariants.{ToNotArchive, ToOldVersion, ToDamaged}
@@ -19,11 +19,6 @@ pub record CanBeCopied (from : List ℕ) (theirs : List Row) : Type 0 where
   pub holds_them : rows_of from ≡ holds theirs
   pub few : length theirs ≤ most_rows
 
--- the file has these rows, and more may be added to it
-pub record CanBeAddedTo (to : List ℕ) (mine : List Row) : Type 0 where
-  pub holds_them : rows_of to ≡ holds mine
-  pub current : is_refused Write (version_of to) ≡ false
-
 -- the refusals of the file to copy from
 abbrev pub RefusesFrom : CopyEnd → List ℕ → Type 0
 RefusesFrom (FromNotArchive bytes) from = (rows_of from ≡ not_archive) × (bytes ≡ take 8 from)
@@ -32,15 +27,6 @@ RefusesFrom (Full n) from = (theirs : List Row) × (rows_of from ≡ holds their
 RefusesFrom FromFault from = Unit {0}
 RefusesFrom OutOfMemory from = Unit {0}
 RefusesFrom other from = ⊥
-
--- the refusals of the file to copy to
-abbrev pub RefusesTo : CopyEnd → List ℕ → Type 0
-RefusesTo (ToNotArchive bytes) to = (rows_of to ≡ not_archive) × (bytes ≡ take 8 to)
-RefusesTo ToOldVersion to = is_refused Write (version_of to) ≡ true
-RefusesTo (ToDamaged place) to = (rows_of to ≡ damaged place) × (is_refused Write (version_of to) ≡ false)
-RefusesTo ToFault to = Unit {0}
-RefusesTo OutOfMemory to = Unit {0}
-RefusesTo other to = ⊥
 
 -- so many rows were to be had, and those of the one archive are the first of them; or row n of it is the first unlike
 abbrev pub CopyEndsWith : CopyEnd → List Row → List Row → Type 0
@@ -57,9 +43,9 @@ abbrev pub CopyAnswers : CopyEnd → List ℕ → List ℕ → Type 0
 CopyAnswers (FromNotArchive bytes) from to = RefusesFrom (FromNotArchive bytes) from
 CopyAnswers (FromDamaged place) from to = RefusesFrom (FromDamaged place) from
 CopyAnswers (Full n) from to = RefusesFrom (Full n) from
-CopyAnswers (ToNotArchive bytes) from to = (theirs : List Row) × CanBeCopied from theirs × RefusesTo (ToNotArchive bytes) to
-CopyAnswers ToOldVersion from to = (theirs : List Row) × CanBeCopied from theirs × RefusesTo ToOldVersion to
-CopyAnswers (ToDamaged place) from to = (theirs : List Row) × CanBeCopied from theirs × RefusesTo (ToDamaged place) to
+CopyAnswers (ToNotArchive bytes) from to = (theirs : List Row) × CanBeCopied from theirs × CannotBeAddedTo (to_open.NotArchive bytes) to
+CopyAnswers ToOldVersion from to = (theirs : List Row) × CanBeCopied from theirs × CannotBeAddedTo to_open.OldVersion to
+CopyAnswers (ToDamaged place) from to = (theirs : List Row) × CanBeCopied from theirs × CannotBeAddedTo (to_open.Damaged place) to
 CopyAnswers (NotPrefix n) from to =
     (theirs mine : List Row) × CanBeCopied from theirs × CanBeAddedTo to mine × CopyEndsWith (NotPrefix n) mine theirs
 CopyAnswers (Done n) from to =

@@ -7,9 +7,11 @@ use Rattle.disk_model.specs.Medium.{Medium}
 use Rattle.station_base.specs.declared.row.Row.{Row}
 use Rattle.packed_rows.specs.Rows.{holds, rows_of}
 use Rattle.weather_book.specs.Stands.{NowHasRows}
-use Rattle.archive_copy.specs.Adding.{HasSome, CopyMoves, next_rows, to_add}
+use Rattle.batch_adding.specs.Adding.{HasSome}
+use Rattle.batch_adding.specs.Calls.{ToCalls}
+use Rattle.archive_copy.specs.Adding.{CopyMoves, next_rows, to_add}
 use Rattle.archive_copy.specs.Answers.{CopyAnswers, IsCopied, OnFromDamaged, OnFromRefused}
-use Rattle.archive_copy.specs.Calls.{OnlyReads, ToCalls, is_from_fault, is_to_fault}
+use Rattle.archive_copy.specs.Calls.{OnlyReads, is_from_fault, is_to_fault}
 use Rattle.archive_copy.specs.declared.end.CopyEnd.{CopyEnd}
 use Rattle.archive_copy.specs.declared.end.CopyEnd.TheVariants.{Done, FromFault, ToFault}
 

@@ -1,72 +1,25 @@
-ghost use Rattle.std.specs.Prelude.{ℕ, ◌≡◌, ◌≢◌, ◌≤◌, ◌+◌, ◌-◌, ◌*◌, ◌++◌, false, List, drop, length, take};
+ghost use Rattle.std.specs.Prelude.{ℕ, ◌≡◌, ◌≤◌, ◌+◌, ◌-◌, ◌*◌, ◌++◌, false, List, drop, length};
 ghost use Rattle.causes.specs.Lists.{IsFrontOf};
 ghost use Rattle.causes.specs.Told.{WhereTold};
 ghost use Rattle.disk_model.specs.Disk.{BeginsChanges, Faults, LeavesOnly, MayBegin, Stays};
-ghost use Rattle.gated_log.specs.Calls.{Looked, up_to};
+ghost use Rattle.gated_log.specs.Calls.{Looked};
 ghost use Rattle.station_base.specs.declared.row.Row.{Row};
-ghost use Rattle.packed_rows.specs.Adding.{AreLimited, ArePrintable};
-ghost use Rattle.weather_book.specs.Book.{BookStandsFor, book_is_stale, last_stamp_of, len_of, most_rows_of};
+ghost use Rattle.weather_book.specs.Book.{BookStandsFor, book_is_stale, len_of, most_rows_of};
 ghost use Rattle.packed_rows.specs.Rows.{slot_total};
-ghost use Rattle.packed_rows.specs.Rising.{RowsRiseAfter};
 ghost use Rattle.weather_book.specs.Stands.{StandsOn, StandsToReadOn};
-ghost use Rattle.archive_copy.specs.Adding.{HasOldOrAll, HasSome, IsOfAdding, MovedBy, batch_count};
-ghost use Rattle.archive_copy.specs.Calls.{AddsBatches, add_failed, copy_batch_changes, is_from_fault, is_to_fault, failed_answer, slots_end};
+ghost use Rattle.archive_copy.specs.Adding.{IsOfAdding};
+ghost use Rattle.batch_adding.specs.Adding.{HasSome, batch_count};
+ghost use Rattle.batch_adding.specs.Calls.{AddsBatches, slots_end};
+ghost use Rattle.archive_copy.specs.Calls.{is_from_fault, is_to_fault};
 ghost use Rattle.station_base.specs.Limits.{most_rows};
 
 use crate::CopyEnd;
 use crate::batch::{BatchRead, next_batch};
 use crate::reader::RowReader;
 use arrayvec::ArrayVec;
+use batch_adding::{BatchEnd, add_batch};
 use disk_model::Disk;
-use station_base::Row;
-use weather_book::{Added, Book, Room};
-
-// How the add of a batch ended.
-#[derive(Clone, Copy)]
-pub enum BatchEnd {
-    // Its rows are added.
-    Done,
-    // A call of the disk failed.
-    Fault,
-    // There was no memory for their days.
-    OutOfMemory,
-}
-
-// Adds a batch to a book that may have it.
-pub fn add_batch<E: Disk>(mine: &mut Book, to: &mut E, rows: &[Row]) -> BatchEnd
-    requires room { MayBegin E.medium 4 to.old }
-    requires some { 1 ≤ length rows.now }
-    requires few { length rows.now ≤ 5 }
-    requires rising { RowsRiseAfter (last_stamp_of mine.old) rows.now }
-    requires printable { ArePrintable rows.now }
-    requires limited { AreLimited rows.now }
-    requires fresh { book_is_stale mine.old ≡ false }
-    requires fits { len_of mine.old + length rows.now ≤ most_rows_of mine.old }
-    ensures cause { Faults E.medium to.old to.new (result ≡ BatchEnd.Fault) }
-    ensures moved { MovedBy result (E.medium.moment to.old) (E.medium.moment to.new) }
-    ensures went { (old : List Row) → BookStandsFor mine.old old
-        → E.medium.went to.old
-        (up_to (take (E.medium.moment to.new - E.medium.moment to.old) (copy_batch_changes old rows.now))
-        (failed_answer (add_failed result))) to.new }
-    ensures rows { result ≡ BatchEnd.Done → (old : List Row) → BookStandsFor mine.old old
-        → BookStandsFor mine.new (old ++ rows.now) }
-    ensures fresh { result ≡ BatchEnd.Done → book_is_stale mine.new ≡ false }
-    ensures most { result ≡ BatchEnd.Done → most_rows_of mine.new ≡ most_rows_of mine.old }
-    ensures len { result ≡ BatchEnd.Done → len_of mine.new ≡ len_of mine.old + length rows.now }
-    ensures images { (old : List Row) → StandsOn E.medium mine.old to.old old
-        → LeavesOnly E.medium (HasOldOrAll old rows.now) to.old to.new }
-    ensures stands { result ≡ BatchEnd.Done → (old : List Row) → StandsOn E.medium mine.old to.old old
-        → StandsOn E.medium mine.new to.new (old ++ rows.now) }
-{
-    if let Room::OutOfMemory = mine.room(rows.len()) {
-        return BatchEnd::OutOfMemory;
-    }
-    match mine.add(to, rows) {
-        Added::Done => BatchEnd::Done,
-        Added::DiskFault => BatchEnd::Fault,
-        Added::Full | Added::Stale => unreachable!(),
-    }
-}
+use weather_book::Book;
 
 // Adds the rows that a book lacks, five a batch and the last batch with what is left.
 pub fn add_missing<D: Disk, E: Disk>(

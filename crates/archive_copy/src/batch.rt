@@ -6,14 +6,15 @@ ghost use Rattle.station_base.specs.declared.row.Row.{Row};
 ghost use Rattle.packed_rows.specs.Adding.{AreLimited, ArePrintable};
 ghost use Rattle.weather_book.specs.Book.{BookStandsFor, len_of};
 ghost use Rattle.packed_rows.specs.Rows.{slot_total};
-ghost use Rattle.packed_rows.specs.Rising.{stamp_exceeds, rows_rise, RowsRiseAfter};
+ghost use Rattle.packed_rows.specs.Rising.{rows_rise, RowsRiseAfter};
 ghost use Rattle.weather_book.specs.Stands.{StandsToReadOn};
-ghost use Rattle.archive_copy.specs.Calls.{batch_read_failed, slots_end};
+ghost use Rattle.archive_copy.specs.Calls.{batch_read_failed};
+ghost use Rattle.batch_adding.specs.Calls.{slots_end};
 ghost use Rattle.archive_copy.specs.Reading.{IsAhead};
 
-use crate::limits::BATCH;
 use crate::reader::RowReader;
 use arrayvec::ArrayVec;
+use batch_adding::{BATCH, exceeds};
 use disk_model::Disk;
 use station_base::{Row, Stamp};
 use weather_book::{Book, RowAnswer};
@@ -27,13 +28,6 @@ pub enum BatchRead {
     OutOfOrder,
     // A call of the disk failed.
     Fault,
-}
-
-// Whether the stamp exceeds the one before, if there is one.
-pub fn exceeds(last: Option<Stamp>, stamp: Stamp) -> bool
-    ensures { result ≡ stamp_exceeds last stamp }
-{
-    last.is_none_or(|last| last < stamp)
 }
 
 // Reads the next rows for a batch, behind a row of this stamp.

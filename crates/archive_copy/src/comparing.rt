@@ -7,7 +7,8 @@ ghost use Rattle.station_base.specs.declared.row.Row.{Row};
 ghost use Rattle.weather_book.specs.Book.{BookStandsFor, len_of};
 ghost use Rattle.packed_rows.specs.Rows.{slot_total};
 ghost use Rattle.weather_book.specs.Stands.{StandsToReadOn};
-ghost use Rattle.archive_copy.specs.Calls.{from_failed, slots_end, to_failed};
+ghost use Rattle.archive_copy.specs.Calls.{from_failed, to_failed};
+ghost use Rattle.batch_adding.specs.Calls.{slots_end};
 ghost use Rattle.archive_copy.specs.Comparing.{Compares};
 
 use arrayvec::ArrayVec;

@@ -9,7 +9,8 @@ ghost use Rattle.archive_copy.specs.Copies.{AddsNext, LeavesNext};
 use crate::CopyEnd;
 use crate::adding::add_missing;
 use crate::comparing::{Compared, compare};
-use crate::opening::{open_from, open_to};
+use crate::opening::open_from;
+use batch_adding::open_to;
 use disk_model::Disk;
 use std::alloc::Global;
 
@@ -49,7 +50,7 @@ pub fn copy<D: Disk, E: Disk>(alloc: Global, from: &mut D, to: &mut E) -> CopyEn
     };
     let mut mine = match open_to(alloc, to) {
         Ok(book) => book,
-        Err(end) => return end,
+        Err(why) => return CopyEnd::not_opened(why),
     };
     match compare(&theirs, from, &mine, to) {
         Compared::Front => add_missing(&theirs, from, &mut mine, to),

@@ -1,3 +1,8 @@
+ghost use Rattle.std.specs.Prelude.{◌≡◌};
+ghost use Rattle.archive_copy.specs.Opening.{end_not_opened};
+
+use batch_adding::NotOpened;
+
 /// How a copy ended.
 #[derive(Clone, Copy, Debug, PartialEq, Eq)]
 pub enum CopyEnd {
@@ -26,4 +31,19 @@ pub enum CopyEnd {
     ToFault,
     /// There was no memory for the days of the rows.
     OutOfMemory,
+}
+
+impl CopyEnd {
+    // How a copy ends if the archive to copy to was not opened.
+    pub fn not_opened(why: NotOpened) -> CopyEnd
+        ensures { result ≡ end_not_opened why }
+    {
+        match why {
+            NotOpened::NotArchive(bytes) => CopyEnd::ToNotArchive(bytes),
+            NotOpened::OldVersion => CopyEnd::ToOldVersion,
+            NotOpened::Damaged(place) => CopyEnd::ToDamaged(place),
+            NotOpened::Fault => CopyEnd::ToFault,
+            NotOpened::OutOfMemory => CopyEnd::OutOfMemory,
+        }
+    }
 }

@@ -5,7 +5,7 @@ use Rattle.std.proofs.lemmas.Option.{same_Some}
 use Rattle.std.specs.Prelude.{MatchResult}
 use Rattle.std.specs.Option.{IsSomeAnd}
 use Rattle.std.specs.declared.result.Result.{Result}
-use Rattle.archive_copy.specs.Answers.{CanBeAddedTo}
+use Rattle.batch_adding.specs.Opening.{CanBeAddedTo}
 use Rattle.disk_model.specs.Medium.{Medium}
 use Rattle.gated_log.specs.declared.start.Purpose.TheVariants.{Write}
 use Rattle.serial_link.specs.Talk.{Adds}

@@ -1,7 +1,8 @@
 -- What a run does that copies an archive: its two attaches, the copy, and the line that is given of it.
 use Rattle.std.specs.Prelude.{ℕ, ◌≡◌, false, true, List, ◌++◌, codes, decimal, IsSomeAnd}
 use Rattle.std.specs.declared.result.Result.{Result}
-use Rattle.archive_copy.specs.Answers.{CanBeAddedTo, CanBeCopied}
+use Rattle.batch_adding.specs.Opening.{CanBeAddedTo}
+use Rattle.archive_copy.specs.Answers.{CanBeCopied}
 use Rattle.archive_copy.specs.Copies.{Copies}
 use Rattle.archive_copy.specs.declared.end.CopyEnd.{CopyEnd}
 use Rattle.archive_copy.specs.declared.end.CopyEnd.TheVariants as copied

@@ -3,7 +3,7 @@
 use Rattle.std.specs.Prelude.{ℕ, ◌≡◌, ◌+◌, true, List, [], ◌∷◌, ◌++◌, Option, Some, codes, decimal}
 use Rattle.std.specs.Prelude.{length, IfErr, IfOk, IsSomeAnd}
 use Rattle.std.specs.declared.result.Result.{Result}
-use Rattle.archive_copy.specs.Answers.{CanBeAddedTo}
+use Rattle.batch_adding.specs.Opening.{CanBeAddedTo}
 use Rattle.disk_model.specs.Medium.{Medium}
 use Rattle.dmpaft_pump.specs.TroubleText.{trouble_text}
 use Rattle.dmpaft_pump.specs.declared.outcome.Trouble.{Trouble}

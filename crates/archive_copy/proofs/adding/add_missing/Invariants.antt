@@ -6,9 +6,9 @@ use Rattle.weather_book.specs.Book.{BookStandsFor, book_is_stale, len_of, most_r
 use Rattle.weather_book.specs.Stands.{StandsOn, StandsToReadOn}
 use Rattle.gated_log.specs.Calls.{Looked}
 use Rattle.packed_rows.specs.Rows.{slot_total}
-use Rattle.archive_copy.specs.Calls.{slots_end}
-use Rattle.archive_copy.proofs.Batches.{AddedSo}
-use Rattle.archive_copy.specs.Adding.{HasSome, batch_count}
+use Rattle.batch_adding.specs.Calls.{slots_end}
+use Rattle.batch_adding.proofs.Batches.{AddedSo}
+use Rattle.batch_adding.specs.Adding.{HasSome, batch_count}
 use Rattle.archive_copy.specs.Reading.{IsAhead}
 use Rattle.archive_copy.proofs.adding.add_missing.Given as goal
 use Rattle.station_base.specs.Limits.{most_rows}

@@ -9,7 +9,7 @@ use Rattle.station_base.specs.declared.row.Row.{Row}
 use Rattle.packed_rows.specs.Rows.{slot_total}
 use Rattle.weather_book.proofs.Looks.{no_look}
 use Rattle.weather_book.proofs.Pieces.{more_reads}
-use Rattle.archive_copy.specs.Calls.{slots_end}
+use Rattle.batch_adding.specs.Calls.{slots_end}
 use Rattle.archive_copy.proofs.Looks.{some_look}
 use Rattle.packed_rows.specs.Rising.{stamp_exceeds, last_stamp_after}
 use Rattle.packed_rows.proofs.RowLaws.{last_join, rise_join, rise_tells}

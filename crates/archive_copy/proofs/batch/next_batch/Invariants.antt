@@ -5,7 +5,7 @@ use Rattle.station_base.specs.declared.row.Row.{Row}
 use Rattle.gated_log.specs.Calls.{Looked}
 use Rattle.weather_book.specs.Book.{BookStandsFor}
 use Rattle.packed_rows.specs.Rows.{slot_total}
-use Rattle.archive_copy.specs.Calls.{slots_end}
+use Rattle.batch_adding.specs.Calls.{slots_end}
 use Rattle.archive_copy.specs.Reading.{IsAhead}
 use Rattle.packed_rows.specs.Adding.{AreLimited, ArePrintable}
 use Rattle.packed_rows.specs.Rising.{last_stamp_after, rows_rise}

@@ -4,7 +4,7 @@ use Rattle.disk_model.specs.Disk.{stays_none, stays_joins}
 use Rattle.packed_rows.specs.Rows.{slot_total}
 use Rattle.weather_book.proofs.Looks.{no_look}
 use Rattle.weather_book.proofs.Pieces.{more_reads}
-use Rattle.archive_copy.specs.Calls.{slots_end}
+use Rattle.batch_adding.specs.Calls.{slots_end}
 use Rattle.archive_copy.proofs.Looks.{some_look}
 use Rattle.packed_rows.specs.Days.{day_rest}
 use Rattle.weather_book.proofs.BookOnDisk.{to_read_stays}

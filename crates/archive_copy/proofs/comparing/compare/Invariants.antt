@@ -5,7 +5,7 @@ use Rattle.station_base.specs.declared.row.Row.{Row}
 use Rattle.gated_log.specs.Calls.{Looked}
 use Rattle.weather_book.specs.Book.{BookStandsFor}
 use Rattle.packed_rows.specs.Rows.{slot_total}
-use Rattle.archive_copy.specs.Calls.{slots_end}
+use Rattle.batch_adding.specs.Calls.{slots_end}
 use Rattle.weather_book.specs.Stands.{StandsToReadOn}
 use Rattle.archive_copy.proofs.comparing.compare.Given as goal
 

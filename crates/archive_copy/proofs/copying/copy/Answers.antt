@@ -8,15 +8,18 @@ use Rattle.weather_book.proofs.Pieces.{more_reads}
 use Rattle.weather_book.specs.Stands.{HasRows, StandsOn}
 use Rattle.weather_book.proofs.BookOnDisk.{can_be_read, crash_rows, read_has, stands_stays, to_read_stays}
 use Rattle.archive_copy.specs.declared.end.CopyEnd.TheVariants.{FromDamaged, FromFault, NotPrefix, ToFault}
-use Rattle.archive_copy.specs.Adding.{HasSome, batch_count, next_rows, to_add}
-use Rattle.archive_copy.specs.Answers.{CanBeAddedTo, CanBeCopied}
-use Rattle.archive_copy.proofs.Ends.{adding_adds, adding_answers, adding_undamaged, adding_moves, done_count, from_answers, from_moves, no_from_fault, no_to_fault, to_answers, to_moves}
+use Rattle.batch_adding.specs.Adding.{HasSome, batch_count}
+use Rattle.batch_adding.specs.Opening.{CanBeAddedTo}
+use Rattle.archive_copy.specs.Adding.{next_rows, to_add}
+use Rattle.archive_copy.specs.Answers.{CanBeCopied}
+use Rattle.archive_copy.proofs.Ends.{adding_adds, adding_answers, adding_undamaged, adding_moves, done_count, from_answers, from_moves, no_from_fault, no_to_fault, opening_faults, to_answers, to_moves}
 use Rattle.archive_copy.specs.Calls.{is_from_fault, is_to_fault}
-use Rattle.archive_copy.proofs.Together.{calls_added, calls_looked, calls_none, calls_opening, reads_more, reads_recovery}
+use Rattle.batch_adding.proofs.CallsTogether.{calls_added, calls_looked, calls_none, calls_opening}
+use Rattle.archive_copy.proofs.FromCalls.{reads_more, reads_recovery}
 use Rattle.weather_book.proofs.RowsOfBook.{slots_same}
-use Rattle.archive_copy.proofs.Kept.{leaves_join}
+use Rattle.batch_adding.proofs.Kept.{leaves_join}
 use Rattle.archive_copy.proofs.NextRows.{front_rest}
-use Rattle.archive_copy.proofs.BookAtRest.{adds_none, leaves_stays, same_rows, same_some}
+use Rattle.batch_adding.proofs.BookAtRest.{adds_none, leaves_stays, same_rows, same_some}
 use Rattle.archive_copy.proofs.copying.copy.Goals as goal
 
 pub returns-in-Err-clause-answers : goal.returns-in-Err-clause-answers
@@ -24,11 +27,11 @@ returns-in-Err-clause-answers g c x told y told2 = from_answers c.in-Err.end x y
 
 pub returns-in-Err-open_to-clause-answers : goal.returns-in-Err-open_to-clause-answers
 returns-in-Err-open_to-clause-answers g c x told y told2 =
-    let found = c.in-Ok.ensures.finds x told in to_answers c.in-Err-open_to.end x y found.0 found.1 (c.in-Err-open_to.ensures.finds y told2)
+    let found = c.in-Ok.ensures.finds x told in rw c.not_opened.ensures (to_answers c.in-Err-open_to.why x y found.0 found.1 (c.in-Err-open_to.ensures.finds y told2))
 
 pub returns-in-Err-open_to-clause-images : goal.returns-in-Err-open_to-clause-images
 returns-in-Err-open_to-clause-images g c x told y told2 mine crash =
-    adds_none g.E.Disk.medium mine (to_add c.in-Err-open_to.end (rows_of x) mine) c.args.to.now c.open_to.new.to (c.open_to.ensures.images mine crash)
+    adds_none g.E.Disk.medium mine (to_add c.not_opened.result (rows_of x) mine) c.args.to.now c.open_to.new.to (c.open_to.ensures.images mine crash)
 
 pub returns-in-Front-clause-answers : goal.returns-in-Front-clause-answers
 returns-in-Front-clause-answers g c x told y told2 =
@@ -132,7 +135,7 @@ returns-in-Err-clause-from_went g c = reads_recovery g.D.Disk.medium c.args.from
 
 pub returns-in-Err-open_to-clause-from_went : goal.returns-in-Err-open_to-clause-from_went
 returns-in-Err-open_to-clause-from_went g c =
-    rw (no_from_fault c.in-Err-open_to.end c.in-Err-open_to.ensures.kind) (reads_recovery g.D.Disk.medium c.args.from.now c.open_from.new.from _ false c.in-Ok.ensures.went)
+    rw (ap is_from_fault c.not_opened.ensures ∙ no_from_fault c.in-Err-open_to.why) (reads_recovery g.D.Disk.medium c.args.from.now c.open_from.new.from _ false c.in-Ok.ensures.went)
 
 pub returns-in-Front-clause-from_went : goal.returns-in-Front-clause-from_went
 returns-in-Front-clause-from_went g c =
@@ -172,7 +175,8 @@ returns-in-Err-clause-to_went g c = rw (no_to_fault c.in-Err.end c.in-Err.ensure
 
 pub returns-in-Err-open_to-clause-to_went : goal.returns-in-Err-open_to-clause-to_went
 returns-in-Err-open_to-clause-to_went g c =
-    calls_opening g.E.Disk.medium c.args.to.now _ c.open_to.new.to 0 (is_to_fault c.in-Err-open_to.end) c.open_to.ensures.begun.0 c.in-Err-open_to.ensures.went
+    calls_opening g.E.Disk.medium c.args.to.now _ c.open_to.new.to 0 (is_to_fault c.not_opened.result) c.open_to.ensures.begun.0
+    (rw (opening_faults c.in-Err-open_to.why ∙ sym (ap is_to_fault c.not_opened.ensures)) at c.in-Err-open_to.ensures.went)
 
 pub returns-in-UnlikeAt-clause-to_went : goal.returns-in-UnlikeAt-clause-to_went
 returns-in-UnlikeAt-clause-to_went g c =
@@ -216,7 +220,7 @@ pub returns-in-Err-clause-moved : goal.returns-in-Err-clause-moved
 returns-in-Err-clause-moved g c x told y told2 = from_moves c.in-Err.end _ _ y c.in-Err.ensures.kind
 
 pub returns-in-Err-open_to-clause-moved : goal.returns-in-Err-open_to-clause-moved
-returns-in-Err-open_to-clause-moved g c x told y told2 = to_moves c.in-Err-open_to.end _ _ y c.in-Err-open_to.ensures.kind
+returns-in-Err-open_to-clause-moved g c x told y told2 = rw c.not_opened.ensures (to_moves c.in-Err-open_to.why _ _ y)
 
 pub returns-in-UnlikeAt-clause-moved : goal.returns-in-UnlikeAt-clause-moved
 returns-in-UnlikeAt-clause-moved g c x told y told2 = rw c.compare.ensures.to_stays.at (c.in-Ok-open_to.ensures.moved y told2)

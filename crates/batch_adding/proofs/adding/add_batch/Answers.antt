@@ -1,7 +1,7 @@
 use Rattle.std.proofs.Common.{◌≤◌, ◌+◌}
 use Rattle.weather_book.proofs.BookOnDisk.{same_stands}
-use Rattle.archive_copy.proofs.Kept.{late_or_not}
-use Rattle.archive_copy.proofs.adding.add_batch.Goals as goal
+use Rattle.batch_adding.proofs.Kept.{late_or_not}
+use Rattle.batch_adding.proofs.adding.add_batch.Goals as goal
 
 pub returns-in-Done-clause-stands : goal.returns-in-Done-clause-stands
 returns-in-Done-clause-stands g c e old stands =

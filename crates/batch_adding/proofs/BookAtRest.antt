@@ -5,7 +5,7 @@ use Rattle.disk_model.specs.Disk.{LeavesOnly, Stays}
 use Rattle.station_base.specs.declared.row.Row.{Row}
 use Rattle.packed_rows.specs.Rows.{holds}
 use Rattle.weather_book.specs.Stands.{HasRows, NowHasRows, ReadsRows}
-use Rattle.archive_copy.specs.Adding.{HasSome}
+use Rattle.batch_adding.specs.Adding.{HasSome}
 
 -- the same rows, and the same next ones
 pub same_some : (mine rows next others : List Row) (image : List ℕ) → mine ≡ rows → next ≡ others → HasSome mine next image → HasSome rows others image

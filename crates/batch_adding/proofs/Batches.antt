@@ -9,8 +9,8 @@ use Rattle.disk_model.specs.declared.disk.Disked.{Disked}
 use Rattle.disk_model.specs.declared.disk.Disked.TheVariants.{Done}
 use Rattle.gated_log.specs.Calls.{up_to}
 use Rattle.station_base.specs.declared.row.Row.{Row}
-use Rattle.archive_copy.proofs.Changes.{are_for, are_take, up_done, up_failed}
-use Rattle.archive_copy.specs.Calls.{AddsBatches, AreBatches, copy_batch_changes, copy_changes, failed_answer, rows_of_batches}
+use Rattle.batch_adding.proofs.Changes.{are_for, are_take, up_done, up_failed}
+use Rattle.batch_adding.specs.Calls.{AddsBatches, AreBatches, changes_of_batch, changes_of_batches, failed_answer, rows_of_batches}
 
 -- each of them has five rows
 abbrev pub AreFull : List (List Row) → Type 0
@@ -32,12 +32,12 @@ rows_join [] b = append-nil b
 rows_join (x ∷ bs) b = ap (λ (rows : List Row). x ++ rows) (rows_join bs b) ∙ sym (append_assoc x (rows_of_batches bs) b)
 
 -- the changes for one batch more
-pub changes_join : (mine : List Row) (bs : List (List Row)) (b : List Row) → copy_changes mine (bs ++ b ∷ []) ≡ copy_changes mine bs ++ copy_batch_changes (mine ++ rows_of_batches bs) b
-changes_join mine [] b = append-nil (copy_batch_changes mine b) ∙ ap (λ (rows : List Row). copy_batch_changes rows b) (sym (append-nil mine))
+pub changes_join : (mine : List Row) (bs : List (List Row)) (b : List Row) → changes_of_batches mine (bs ++ b ∷ []) ≡ changes_of_batches mine bs ++ changes_of_batch (mine ++ rows_of_batches bs) b
+changes_join mine [] b = append-nil (changes_of_batch mine b) ∙ ap (λ (rows : List Row). changes_of_batch rows b) (sym (append-nil mine))
 changes_join mine (x ∷ bs) b =
-    ap (λ (cs : List (Disked → DiskCall)). copy_batch_changes mine x ++ cs) (changes_join (mine ++ x) bs b)
-    ∙ sym (append_assoc (copy_batch_changes mine x) (copy_changes (mine ++ x) bs) (copy_batch_changes ((mine ++ x) ++ rows_of_batches bs) b))
-    ∙ ap (λ (rows : List Row). copy_changes mine (x ∷ bs) ++ copy_batch_changes rows b) (append_assoc mine x (rows_of_batches bs))
+    ap (λ (cs : List (Disked → DiskCall)). changes_of_batch mine x ++ cs) (changes_join (mine ++ x) bs b)
+    ∙ sym (append_assoc (changes_of_batch mine x) (changes_of_batches (mine ++ x) bs) (changes_of_batch ((mine ++ x) ++ rows_of_batches bs) b))
+    ∙ ap (λ (rows : List Row). changes_of_batches mine (x ∷ bs) ++ changes_of_batch rows b) (append_assoc mine x (rows_of_batches bs))
 
 -- changes that were done, and then some more
 pub up_to_join : (xs ys : List (Disked → DiskCall)) (a : Disked) → 0 < length ys → up_to (xs ++ ys) a ≡ up_to xs Done ++ up_to ys a
@@ -52,30 +52,30 @@ module _ {D : Type 0} (medium : Medium D) (mine : List Row) (d : D) where
     pub so_far : List (List Row)
     pub sizes : AreBatches so_far
     pub full : going → AreFull so_far
-    pub moved : medium.moment e ≡ medium.moment d + length (copy_changes mine so_far)
-    pub by : medium.went d (up_to (copy_changes mine so_far) Done) e
+    pub moved : medium.moment e ≡ medium.moment d + length (changes_of_batches mine so_far)
+    pub by : medium.went d (up_to (changes_of_batches mine so_far) Done) e
     pub rows_are : are (rows_of_batches so_far)
 
   pub adds_none : (are : List Row → Type 0) (going : Type 0) → are [] → AddedSo are going d
   adds_none are going is = record { so_far = []; sizes = tt; full = λ _. tt; moved = omega arith; by = medium.went_none d; rows_are = is }
 
   pub adds_one : (are more : List Row → Type 0) (going later : Type 0) (e f : D) (b : List Row) (so : AddedSo are going e) → going → 1 ≤ length b → length b ≤ 5 → (later → length b ≡ 5)
-      → medium.moment f ≡ medium.moment e + 4 → medium.went e (up_to (take (medium.moment f - medium.moment e) (copy_batch_changes (mine ++ rows_of_batches so.so_far) b)) Done) f
+      → medium.moment f ≡ medium.moment e + 4 → medium.went e (up_to (take (medium.moment f - medium.moment e) (changes_of_batch (mine ++ rows_of_batches so.so_far) b)) Done) f
       → (are (rows_of_batches so.so_far) → more (rows_of_batches so.so_far ++ b)) → AddedSo more later f
   adds_one are more going later e f b so is_open some few five moved went on =
-      let bs = so.so_far in let four = copy_batch_changes (mine ++ rows_of_batches so.so_far) b in
+      let bs = so.so_far in let four = changes_of_batch (mine ++ rows_of_batches so.so_far) b in
       let n : medium.moment f - medium.moment e ≡ 4 = omega (arith, moved) in
-      let same : up_to (copy_changes mine so.so_far) Done ++ up_to (take (medium.moment f - medium.moment e) (copy_batch_changes (mine ++ rows_of_batches so.so_far) b)) Done
-      ≡ up_to (copy_changes mine (so.so_far ++ b ∷ [])) Done =
-      ap (λ (k : ℕ). up_to (copy_changes mine so.so_far) Done ++ up_to (take k (copy_batch_changes (mine ++ rows_of_batches so.so_far) b)) Done) n
-      ∙ sym (up_to_join (copy_changes mine bs) four Done (omega arith)) ∙ ap (λ (cs : List (Disked → DiskCall)). up_to cs Done) (sym (changes_join mine bs b)) in
+      let same : up_to (changes_of_batches mine so.so_far) Done ++ up_to (take (medium.moment f - medium.moment e) (changes_of_batch (mine ++ rows_of_batches so.so_far) b)) Done
+      ≡ up_to (changes_of_batches mine (so.so_far ++ b ∷ [])) Done =
+      ap (λ (k : ℕ). up_to (changes_of_batches mine so.so_far) Done ++ up_to (take k (changes_of_batch (mine ++ rows_of_batches so.so_far) b)) Done) n
+      ∙ sym (up_to_join (changes_of_batches mine bs) four Done (omega arith)) ∙ ap (λ (cs : List (Disked → DiskCall)). up_to cs Done) (sym (changes_join mine bs b)) in
       record {
         so_far = bs ++ b ∷ [];
         sizes = full_then bs b (so.full is_open) some few;
         full = λ is. full_more bs b (so.full is_open) (five is);
-        moved = omega (arith, so.moved, moved, ap length (changes_join mine bs b), length-append (copy_changes mine bs) four);
+        moved = omega (arith, so.moved, moved, ap length (changes_join mine bs b), length-append (changes_of_batches mine bs) four);
         by = subst (λ (cs : List DiskCall). medium.went d cs f) same
-            (medium.went_joins d e f (up_to (copy_changes mine bs) Done) (up_to (take (medium.moment f - medium.moment e) four) Done) so.by went);
+            (medium.went_joins d e f (up_to (changes_of_batches mine bs) Done) (up_to (take (medium.moment f - medium.moment e) four) Done) so.by went);
         rows_are = subst more (sym (rows_join bs b)) (on so.rows_are);
       }
 
@@ -83,42 +83,42 @@ module _ {D : Type 0} (medium : Medium D) (mine : List Row) (d : D) where
   pub ends_so : (are more : List Row → Type 0) (going : Type 0) (e f : D) (so : AddedSo are going e) → medium.moment f ≡ medium.moment e → medium.went e [] f → (are (rows_of_batches so.so_far) → more (rows_of_batches so.so_far))
       → AddsBatches medium mine false more d f
   ends_so are more going e f so at went on =
-      let whole : take (medium.moment f - medium.moment d) (copy_changes mine so.so_far) ≡ copy_changes mine so.so_far =
-      take_all (medium.moment f - medium.moment d) (copy_changes mine so.so_far) (omega (arith, so.moved, at)) in
-      let same : up_to (copy_changes mine so.so_far) Done ++ [] ≡ up_to (take (medium.moment f - medium.moment d) (copy_changes mine so.so_far)) Done =
-      append-nil (up_to (copy_changes mine so.so_far) Done) ∙ ap (λ (cs : List (Disked → DiskCall)). up_to cs Done) (sym whole) in
+      let whole : take (medium.moment f - medium.moment d) (changes_of_batches mine so.so_far) ≡ changes_of_batches mine so.so_far =
+      take_all (medium.moment f - medium.moment d) (changes_of_batches mine so.so_far) (omega (arith, so.moved, at)) in
+      let same : up_to (changes_of_batches mine so.so_far) Done ++ [] ≡ up_to (take (medium.moment f - medium.moment d) (changes_of_batches mine so.so_far)) Done =
+      append-nil (up_to (changes_of_batches mine so.so_far) Done) ∙ ap (λ (cs : List (Disked → DiskCall)). up_to cs Done) (sym whole) in
       record {
         batches = so.so_far;
         sizes = so.sizes;
         begun = omega (arith, so.moved, at);
-        by = subst (λ (cs : List DiskCall). medium.went d cs f) same (medium.went_joins d e f (up_to (copy_changes mine so.so_far) Done) [] so.by went);
-        fails = up_done (take (medium.moment f - medium.moment d) (copy_changes mine so.so_far)) (are_take (medium.moment f - medium.moment d) (copy_changes mine so.so_far) (are_for mine so.so_far));
+        by = subst (λ (cs : List DiskCall). medium.went d cs f) same (medium.went_joins d e f (up_to (changes_of_batches mine so.so_far) Done) [] so.by went);
+        fails = up_done (take (medium.moment f - medium.moment d) (changes_of_batches mine so.so_far)) (are_take (medium.moment f - medium.moment d) (changes_of_batches mine so.so_far) (are_for mine so.so_far));
         rows_are = on so.rows_are;
       }
 
   -- where one batch more failed
   pub fails_one : (are more : List Row → Type 0) (going : Type 0) (e f : D) (b : List Row) (so : AddedSo are going e) → going → 1 ≤ length b → length b ≤ 5
-      → medium.moment e < medium.moment f → medium.went e (up_to (take (medium.moment f - medium.moment e) (copy_batch_changes (mine ++ rows_of_batches so.so_far) b)) (failed_answer true)) f
+      → medium.moment e < medium.moment f → medium.went e (up_to (take (medium.moment f - medium.moment e) (changes_of_batch (mine ++ rows_of_batches so.so_far) b)) (failed_answer true)) f
       → (are (rows_of_batches so.so_far) → more (rows_of_batches so.so_far ++ b)) → AddsBatches medium mine true more d f
   fails_one are more going e f b so is_open some few later went on =
-      let bs = so.so_far in let four = copy_batch_changes (mine ++ rows_of_batches so.so_far) b in let n = medium.moment f - medium.moment e in
-      let place : medium.moment f - medium.moment d ≡ length (copy_changes mine so.so_far) + (medium.moment f - medium.moment e) = omega (arith, so.moved, later) in
-      let parts : take (medium.moment f - medium.moment d) (copy_changes mine (so.so_far ++ b ∷ [])) ≡
-      copy_changes mine so.so_far ++ take (medium.moment f - medium.moment e) (copy_batch_changes (mine ++ rows_of_batches so.so_far) b) =
+      let bs = so.so_far in let four = changes_of_batch (mine ++ rows_of_batches so.so_far) b in let n = medium.moment f - medium.moment e in
+      let place : medium.moment f - medium.moment d ≡ length (changes_of_batches mine so.so_far) + (medium.moment f - medium.moment e) = omega (arith, so.moved, later) in
+      let parts : take (medium.moment f - medium.moment d) (changes_of_batches mine (so.so_far ++ b ∷ [])) ≡
+      changes_of_batches mine so.so_far ++ take (medium.moment f - medium.moment e) (changes_of_batch (mine ++ rows_of_batches so.so_far) b) =
       ap (λ (cs : List (Disked → DiskCall)). take (medium.moment f - medium.moment d) cs) (changes_join mine bs b)
-      ∙ ap (λ (k : ℕ). take k (copy_changes mine so.so_far ++ copy_batch_changes (mine ++ rows_of_batches so.so_far) b)) place
-      ∙ take-append-add (copy_changes mine bs) four n in
-      let same = up_to_join (copy_changes mine bs) (take n four) (failed_answer true) (omega (arith, length-take n four, later))
+      ∙ ap (λ (k : ℕ). take k (changes_of_batches mine so.so_far ++ changes_of_batch (mine ++ rows_of_batches so.so_far) b)) place
+      ∙ take-append-add (changes_of_batches mine bs) four n in
+      let same = up_to_join (changes_of_batches mine bs) (take n four) (failed_answer true) (omega (arith, length-take n four, later))
       in
       record {
         batches = bs ++ b ∷ [];
         sizes = full_then bs b (so.full is_open) some few;
         begun = omega (arith, so.moved, later);
         by = subst (λ (cs : List DiskCall). medium.went d cs f) (sym same ∙ ap (λ (cs : List (Disked → DiskCall)). up_to cs (failed_answer true)) (sym parts))
-            (medium.went_joins d e f (up_to (copy_changes mine bs) Done) (up_to (take n four) (failed_answer true)) so.by went);
-        fails = up_failed (take (medium.moment f - medium.moment d) (copy_changes mine (bs ++ b ∷ [])))
-            (omega (arith, ap length parts, length-append (copy_changes mine bs) (take n four), length-take n four, later))
-            (are_take (medium.moment f - medium.moment d) (copy_changes mine (bs ++ b ∷ [])) (are_for mine (bs ++ b ∷ [])));
+            (medium.went_joins d e f (up_to (changes_of_batches mine bs) Done) (up_to (take n four) (failed_answer true)) so.by went);
+        fails = up_failed (take (medium.moment f - medium.moment d) (changes_of_batches mine (bs ++ b ∷ [])))
+            (omega (arith, ap length parts, length-append (changes_of_batches mine bs) (take n four), length-take n four, later))
+            (are_take (medium.moment f - medium.moment d) (changes_of_batches mine (bs ++ b ∷ [])) (are_for mine (bs ++ b ∷ [])));
         rows_are = subst more (sym (rows_join bs b)) (on so.rows_are);
       }
 

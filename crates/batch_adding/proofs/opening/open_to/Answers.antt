@@ -1,4 +1,4 @@
-use Rattle.archive_copy.proofs.opening.open_to.Goals as goal
+use Rattle.batch_adding.proofs.opening.open_to.Goals as goal
 
 pub returns-in-Book-clause-finds : goal.returns-in-Book-clause-finds
 returns-in-Book-clause-finds g c x told =

@@ -1,4 +1,4 @@
--- The calls of the parts of a copy, together.
+-- The calls of an opening, of reads and of batches, together.
 use Rattle.std.proofs.Common.{◌≡◌, ℕ, zero, suc, ◌+◌, ◌-◌, ◌*◌, ◌<◌, ◌≤◌, Bool, false, List, [], ◌++◌, take, refl, sym, ◌∙◌, ap, arith, append-nil}
 use Rattle.std.specs.Prelude.{◌||◌}
 use Rattle.disk_model.specs.Medium.{Medium}
@@ -9,29 +9,16 @@ use Rattle.gated_log.specs.Calls.{any_failed, changes, last_length, Looked, Reco
 use Rattle.gated_log.proofs.CallsMade.{any_join, no_changes}
 use Rattle.station_base.specs.declared.row.Row.{Row}
 use Rattle.gated_log.specs.Layout.{slot_size}
-use Rattle.archive_copy.specs.Calls.{AddsBatches, copy_changes, failed_answer, OnlyReads, rows_of_batches, slots_end, ToCalls}
-use Rattle.archive_copy.proofs.Changes.{are_for, are_take, changes_join, fit_more, fits_join, up_fits, up_kept}
+use Rattle.batch_adding.specs.Calls.{AddsBatches, changes_of_batches, failed_answer, rows_of_batches, slots_end, ToCalls}
+use Rattle.batch_adding.proofs.Changes.{are_for, are_take, changes_join, fit_more, fits_join, up_fits, up_kept}
 
-reach : (slots len : ℕ) → (0 < slots → slot_size * (slots + 1) ≤ len) → slots_end slots ≤ len
+-- the slots end within a length that those of an archive with some reach
+pub reach : (slots len : ℕ) → (0 < slots → slot_size * (slots + 1) ≤ len) → slots_end slots ≤ len
 reach zero len is = omega arith
 reach (suc n) len is = is (omega arith)
 
 module _ {D : Type 0} (medium : Medium D) (d : D) where
-  -- a recovery that changes nothing
-  pub reads_recovery : (e : D) (slots : ℕ) (failed : Bool) → RecoveryCalls medium d e 0 slots failed → OnlyReads medium failed d e
-  reads_recovery e slots failed calls = record { calls = calls.calls; by = calls.by; no_change = calls.changes_are; fits = calls.fits; fails = calls.fails }
-
-  -- and then reads of its slots
-  pub reads_more : (e f : D) (slots : ℕ) (failed : Bool) → RecoveryCalls medium d e 0 slots false → Looked medium (slots_end slots) failed e f → OnlyReads medium failed d f
-  reads_more e f slots failed calls looked = record {
-    calls = calls.calls ++ looked.calls;
-    by = medium.went_joins d e f calls.calls looked.calls calls.by looked.by;
-    no_change = changes_join calls.calls looked.calls ∙ ap (λ (xs : List DiskCall). xs ++ changes looked.calls) calls.changes_are ∙ no_changes (slots_end slots) looked.calls looked.within;
-    fits = fits_join 0 calls.calls looked.calls calls.fits (fit_more (slots_end slots) (last_length 0 calls.calls) looked.calls (reach slots (last_length 0 calls.calls) calls.reach) looked.within);
-    fails = any_join calls.calls looked.calls ∙ ap (λ (t : Bool). t || any_failed looked.calls) calls.fails ∙ looked.fails;
-  }
-
-  none_added : (n : ℕ) (mine : List Row) (a : Disked) → up_to (take n (copy_changes mine [])) a ≡ []
+  none_added : (n : ℕ) (mine : List Row) (a : Disked) → up_to (take n (changes_of_batches mine [])) a ≡ []
   none_added zero mine a = refl
   none_added (suc n) mine a = refl
 
@@ -97,9 +84,9 @@ module _ {D : Type 0} (medium : Medium D) (d : D) where
       → medium.moment f ≡ medium.moment e → RecoveryCalls medium d e (medium.moment e - medium.moment d) slots false → Looked medium (slots_end slots) false e f
       → AddsBatches medium mine failed next f g → ((rows : List Row) → next rows → are mine rows) → ToCalls medium failed are d g
   calls_added mine are next e f g slots failed le same calls looked adds on =
-      let n = medium.moment g - medium.moment f in let cs = take (medium.moment g - medium.moment f) (copy_changes mine adds.batches) in
-      let ups = up_to (take (medium.moment g - medium.moment f) (copy_changes mine adds.batches)) (failed_answer failed) in
-      let ok = are_take n (copy_changes mine adds.batches) (are_for mine adds.batches) in
+      let n = medium.moment g - medium.moment f in let cs = take (medium.moment g - medium.moment f) (changes_of_batches mine adds.batches) in
+      let ups = up_to (take (medium.moment g - medium.moment f) (changes_of_batches mine adds.batches)) (failed_answer failed) in
+      let ok = are_take n (changes_of_batches mine adds.batches) (are_for mine adds.batches) in
       let place : medium.moment g - medium.moment f ≡ medium.moment g - (medium.moment d + (medium.moment e - medium.moment d)) = omega (arith, le, same, adds.begun) in
       record {
         calls = calls.calls ++ (looked.calls ++ ups);
@@ -114,7 +101,7 @@ module _ {D : Type 0} (medium : Medium D) (d : D) where
             ∙ ap (λ (xs : List DiskCall). xs ++ changes (looked.calls ++ ups)) calls.changes_are
             ∙ ap (λ (xs : List DiskCall). up_to (take (medium.moment e - medium.moment d) recovery_changes) calls.answer ++ xs)
             (changes_join looked.calls ups ∙ ap (λ (xs : List DiskCall). xs ++ changes ups) (no_changes (slots_end slots) looked.calls looked.within)
-            ∙ up_kept cs (failed_answer failed) ok ∙ ap (λ (k : ℕ). up_to (take k (copy_changes mine adds.batches)) (failed_answer failed)) place);
+            ∙ up_kept cs (failed_answer failed) ok ∙ ap (λ (k : ℕ). up_to (take k (changes_of_batches mine adds.batches)) (failed_answer failed)) place);
         rows_are = λ some. on (rows_of_batches adds.batches) adds.rows_are;
         fits = fits_join 0 calls.calls (looked.calls ++ ups) calls.fits
             (fits_join (last_length 0 calls.calls) looked.calls ups

@@ -7,7 +7,7 @@ use Rattle.disk_model.specs.declared.disk.Disked.TheVariants.{Done, Failed}
 use Rattle.disk_model.specs.declared.disk.Length.TheVariants as told
 use Rattle.gated_log.specs.Calls.{any_failed, changes, last_length, reads_fit, reads_within, up_to}
 use Rattle.station_base.specs.declared.row.Row.{Row}
-use Rattle.archive_copy.specs.Calls.{copy_batch_changes, copy_changes}
+use Rattle.batch_adding.specs.Calls.{changes_of_batch, changes_of_batches}
 
 -- it is a change, whatever it is answered
 pub record IsChange (c : Disked → DiskCall) : Type 0 where
@@ -36,12 +36,12 @@ a_write at n byte = record { kept = λ a more. refl; fits = λ a n more fits. fi
 a_sync : IsChange (λ a. synced a)
 a_sync = record { kept = λ a more. refl; fits = λ a n more fits. fits; done = refl; fails = refl }
 
-pub are_batch : (old new : List Row) → AreChanges (copy_batch_changes old new)
+pub are_batch : (old new : List Row) → AreChanges (changes_of_batch old new)
 are_batch old new = (a_write _ _ None, (a_sync, (a_write _ 1 (Some 1), (a_sync, tt))))
 
-pub are_for : (mine : List Row) (bs : List (List Row)) → AreChanges (copy_changes mine bs)
+pub are_for : (mine : List Row) (bs : List (List Row)) → AreChanges (changes_of_batches mine bs)
 are_for mine [] = tt
-are_for mine (b ∷ bs) = are_join (copy_batch_changes mine b) (copy_changes (mine ++ b) bs) (are_batch mine b) (are_for (mine ++ b) bs)
+are_for mine (b ∷ bs) = are_join (changes_of_batch mine b) (changes_of_batches (mine ++ b) bs) (are_batch mine b) (are_for (mine ++ b) bs)
 
 pub up_kept : (cs : List (Disked → DiskCall)) (a : Disked) → AreChanges cs → changes (up_to cs a) ≡ up_to cs a
 up_kept [] a are = refl

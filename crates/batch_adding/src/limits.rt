@@ -1,0 +1,2 @@
+/// The most rows of a batch.
+pub const BATCH: usize = 5;
