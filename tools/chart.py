@@ -9,10 +9,12 @@ Statuses: 0, 1 where the input has no rows or is cut or the picture cannot be wr
 """
 import argparse
 import math
+import os
 import sys
 from datetime import timedelta
 from io import StringIO
 from itertools import groupby
+from tempfile import TemporaryDirectory
 
 sys.dont_write_bytecode = True  # nothing is left beside an installed script
 import rows as row_lines
@@ -196,6 +198,14 @@ class Picture:
         else:
             self.figure().savefig(name, dpi=DOTS_AN_INCH)
 
+    def replace(self, name):
+        """Writes the picture, and gives it this name once it is whole. Until then a file of that name stays as it is."""
+        picture = os.path.realpath(name)
+        with TemporaryDirectory(prefix='.new-', dir=os.path.dirname(picture)) as folder:
+            draft = os.path.join(folder, os.path.basename(name))
+            self.write(draft)
+            os.replace(draft, picture)
+
 
 def picture_name(name):
     """A name that ends as a picture's does."""
@@ -223,7 +233,7 @@ def main():
     chosen = words.parse_args()
     try:
         rows = row_lines.read_rows(sys.stdin, chosen.bucket)
-        Picture(rows, METRIC if chosen.metric else AS_IT_IS, chosen.title, chosen.panels).write(chosen.picture)
+        Picture(rows, METRIC if chosen.metric else AS_IT_IS, chosen.title, chosen.panels).replace(chosen.picture)
     except (row_lines.NotRows, OSError) as trouble:
         sys.exit(f'chart: {trouble}')
 

@@ -157,17 +157,19 @@ def reports_that_are_cut(program):
             raise Differs(f'rows of {cut!r}')
 
 
+def fill_disk():
+    """Lets no file of a process that begins grow beyond some bytes, as a disk that is full."""
+    resource.setrlimit(resource.RLIMIT_FSIZE, (FULL_BYTES, FULL_BYTES))
+
+
 def disks_that_are_full(program):
     """If the table or the configuration cannot be written whole, nothing of either is left."""
-    def limit():
-        resource.setrlimit(resource.RLIMIT_FSIZE, (FULL_BYTES, FULL_BYTES))
-
     for what, lines in (('table', [LINES[0].replace('04:05', f'04:{minute}') for minute in range(10, 40)]),
                         ('configuration', LINES[:1])):
-        hold(f'a {what} that has no room', run(program.folder, 'export.py', ''.join(lines), TABLE, preexec_fn=limit),
+        hold(f'a {what} that has no room', run(program.folder, 'export.py', ''.join(lines), TABLE, preexec_fn=fill_disk),
              (1, 'export: [Errno 27] File too large\n'))
         hold(f'what is left of a {what}', os.listdir(program.folder), [])
-    hold('one that has room', run(program.folder, 'export.py', 'row 2024-07-01 00:05 5 rain=1\n', TABLE, preexec_fn=limit),
+    hold('one that has room', run(program.folder, 'export.py', 'row 2024-07-01 00:05 5 rain=1\n', TABLE, preexec_fn=fill_disk),
          (0, ''))
     hold('what is there', sorted(os.listdir(program.folder)), [CONFIGURATION, TABLE])
     hold('the mode of a table', oct((program.folder / TABLE).stat().st_mode & 0o777), oct(0o666 & ~umask()))
@@ -261,6 +263,21 @@ def chart_that_is_cut(program):
     hold('what is there', os.listdir(program.folder), [])
 
 
+def charts_on_a_full_disk(program):
+    """If a picture cannot be written whole, the one before stays as it is, and nothing else is left."""
+    chart_module()
+    for name in ('chart.svg', 'chart.png'):
+        program.write(name, 'the one before')
+        ended = run(program.folder, 'chart.py', LINES[0], name, preexec_fn=fill_disk)
+        hold(f'a {name} that has no room', ended, (1, 'chart: [Errno 27] File too large\n'))
+        hold(f'the {name} before', program.read(name), b'the one before')
+    hold('what is there', sorted(os.listdir(program.folder)), ['chart.png', 'chart.svg'])
+    os.symlink('chart.svg', program.folder / 'link.svg')
+    hold('a chart by a link', run(program.folder, 'chart.py', LINES[0], 'link.svg'), (0, ''))
+    hold('what the link names', program.read('chart.svg')[:5], b'<svg ')
+    hold('the mode of a chart', oct((program.folder / 'chart.svg').stat().st_mode & 0o777), oct(0o666 & ~umask()))
+
+
 def paths_of_pictures(_):
     """A path keeps its places, to a tenth of a point."""
     hold('a path', svg_text.PATH.sub(svg_text.short_path, ' d="M 10.04 20.06 \nL 11.16 20.06 \nL 9.96 18.96 \nz\n"'),
@@ -269,7 +286,7 @@ def paths_of_pictures(_):
 
 CASES = (rows_of_all_fields, table_of_all_fields, configuration_of_all_fields, directions, reports_that_are_cut,
          disks_that_are_full, rows_of_two_archives, charts_of_all_fields, bars_of_rain, chart_that_is_cut,
-         paths_of_pictures)
+         charts_on_a_full_disk, paths_of_pictures)
 AT_ONCE = 2
 
 if __name__ == '__main__':
