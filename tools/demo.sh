@@ -57,7 +57,8 @@ done
 folder=$(mktemp -d -t jofitrana-demo.XXXXXX)
 cp "$examples/week.toml" "$examples/week.schedule" "$folder"
 cd "$folder" || exit
-port=$(python3 -I -c 'import socket; s = socket.socket(); s.bind(("127.0.0.1", 0)); print(s.getsockname()[1])')
+exec {holder}< <(python3 -I "$here/held_port.py") # it holds the port until this script has ended
+read -r port <&"$holder"
 address=127.0.0.1:$port
 
 echo "All files are made in $folder"

@@ -26,7 +26,7 @@ serve_console "$RECORDS"
 start line socat "PTY,link=$folder/line,rawer" "TCP:127.0.0.1:$console_port,nodelay"
 await line [ -e line ]
 
-port=$(free_port)
+hold_port
 cat >ser2net.yaml <<YAML
 connection: &davis
   accepter: tcp,127.0.0.1,$port
@@ -38,7 +38,7 @@ try_round ser2net "$port"
 kill "${started[-1]}"
 wait "${started[-1]}"
 
-port=$(free_port)
+hold_port
 start socat socat "TCP-LISTEN:$port,bind=127.0.0.1,reuseaddr,fork,max-children=1" \
     "FILE:$folder/line,b19200,rawer,cs8,parenb=0,cstopb=0,clocal=1"
 await socat listens "$port"

@@ -2,10 +2,10 @@
 # Sourced by tools/loopback.sh, tools/serial_try.sh and tools/try_tools.sh, for a modelled console that serves a schedule of
 # one line at a port of its own. What they start ends with them, each process by its number.
 
+scripts=$(cd "$(dirname "${BASH_SOURCE[0]}")" && pwd)
 FIRST_DAY=2024-07-01
 TURNS=1000000
 LONGEST_SECONDS=300
-TENTHS_TO_BEGIN=50
 started=()
 failed=0
 
@@ -19,7 +19,7 @@ lack() {
 # words behind that are commands, each with its Debian package, as `socat/socat`.
 prepare() {
     local top wanted
-    top=$(cd "$(dirname "${BASH_SOURCE[0]}")/.." && pwd)
+    top=$(dirname "$scripts")
     for wanted in python3/python3 timeout/coreutils "${@:2}"; do
         command -v "${wanted%/*}" >/dev/null ||
             lack "the command ${wanted%/*} is missing; on Debian: apt install ${wanted#*/}"
@@ -52,10 +52,9 @@ said() {
     tr '\n' ' ' <"$1.txt" | sed 's/ $//'
 }
 
-# Waits for some seconds until the one of this name serves, which a command shows by its status.
+# Waits until the one that was started last, of this name, serves, which a command shows by its status.
 await() {
-    local tenth
-    for ((tenth = 0; tenth < TENTHS_TO_BEGIN; tenth++)); do
+    while kill -0 "${started[-1]}" 2>/dev/null; do
         "${@:2}" && return
         sleep 0.1
     done
@@ -67,15 +66,18 @@ listens() {
     grep -q ": 0100007F:$(printf '%04X' "$1") 00000000:0000 0A" /proc/net/tcp
 }
 
-# Prints a port that nobody has.
-free_port() {
-    python3 -c 'import socket; s = socket.socket(); s.bind(("127.0.0.1", 0)); print(s.getsockname()[1])'
+# Sets `port` to one that the system gives to nobody else until this script ends, and at which its programs may listen.
+hold_port() {
+    local holder
+    exec {holder}< <(python3 -I "$scripts/held_port.py")
+    read -r port <&"$holder"
 }
 
 # Starts a console of so many records, and sets `console` to its number and `console_port` to its port.
 serve_console() {
     echo "run $FIRST_DAY 00:05 $1 outTemp=650" >records.schedule
-    console_port=$(free_port)
+    hold_port
+    console_port=$port
     start console "$program" console settings.toml records.schedule "127.0.0.1:$console_port" "$TURNS"
     # shellcheck disable=SC2034  # it is for who sources this
     console=${started[-1]}

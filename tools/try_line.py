@@ -20,12 +20,14 @@ from threading import Thread
 
 sys.dont_write_bytecode = True  # nothing is left beside the scripts
 
+from held_port import held_port
 from model.archive import CLOSED_GATE, THIS_VERSION, head_slot, sealed_batch, slots_to_add
 from model.records import FIELDS
 from model.rows import Row
 from trying import LONGEST, SLEEPER, Differs, Ended, Missed, hold, hold_seconds, need, try_all
 
 HERE, ALSO_HERE, HERE_TOO = "127.0.0.1", "127.0.0.2", "127.0.0.3"
+ONLY_PORT = 40_000  # of a network that has no other
 QUIET_WAIT = 0.4  # seconds
 SOONER = 0.1  # the part of many waits by which they may be shorter, since the check may see the first byte late
 TO_CALL = 10  # seconds for all addresses of a name: each has half of what is left
@@ -73,9 +75,9 @@ SHAPED_LINE = "tbf rate 400kbit burst 3000 latency 200ms"
 LEAST_OVER_IT = 300_000  # bytes that come over that line within a case, in which it carries some 1,250,000
 
 
-def listener(host=HERE, **options):
-    """A socket that waits for the program's call, at a port of its own."""
-    waiting = socket.create_server((host, 0), **options)
+def listener(host=HERE, port=0, **options):
+    """A socket that waits for the program's call, at a port of its own or at one that is held."""
+    waiting = socket.create_server((host, port), **options)
     waiting.settimeout(LONGEST)
     return waiting
 
@@ -83,12 +85,6 @@ def listener(host=HERE, **options):
 def word_for(waiting):
     """The word by which the program calls there."""
     return f"{HERE}:{waiting.getsockname()[1]}"
-
-
-def free_port():
-    """A port where nobody listens."""
-    with listener() as taken:
-        return taken.getsockname()[1]
 
 
 @contextmanager
@@ -104,11 +100,10 @@ def calling(program, words):
 @contextmanager
 def listening(program, words, host=HERE, under=()):
     """A run that waits for a caller, and its port."""
-    port = free_port()
-    with program.start(words.format(f"{host}:{port}"), under=under) as run:
+    with held_port() as port, program.start(words.format(f"{host}:{port}"), under=under) as run:
         while not listens(run.process.pid, port):
             if run.process.poll() is not None or run.began.is_over(TO_BEGIN):
-                raise Missed(f"it does not listen at {host}:{port}")  # another process may have taken the port
+                raise Missed(f"it does not listen at {host}:{port}")
             time.sleep(BETWEEN_LOOKS)
         yield run, port
 
@@ -230,9 +225,9 @@ def call_that_is_not_answered(program):
 def call_where_nobody_listens(program):
     """No other address is called in its place."""
     need("strace", "-o", "/dev/null", "true")
-    port = free_port()
     under = ["strace", "-f", "-o", "trace", "-e", "trace=connect"]
-    hold("the task", program.run(TASK.format(f"{HERE}:{port}"), under=under), LINK_FAULT)
+    with held_port() as port:
+        hold("the task", program.run(TASK.format(f"{HERE}:{port}"), under=under), LINK_FAULT)
     called = re.findall(rb'sin6?_port=htons\((\d+)\).*?"([^"]*)"', program.read("trace"))
     hold("it called", called, [(str(port).encode(), HERE.encode())])
 
@@ -250,7 +245,7 @@ def call_by_a_name(program):
     """Each address of a name is called until one answers, be it the first or the last."""
     under = with_a_name(program, HERE, ALSO_HERE)
     for host in (HERE, ALSO_HERE):
-        with listener(host) as peer, program.start(TASK.format(f"console:{peer.getsockname()[1]}"), under=under) as run:
+        with held_port() as port, listener(host, port) as peer, program.start(TASK.format(f"console:{port}"), under=under) as run:
             peer.accept()[0].close()
             hold("the task", run.end(), LINK_FAULT)
 
@@ -259,20 +254,19 @@ def call_by_a_name_that_is_not_answered(program):
     """Each address of a name has half of the time that is left."""
     hosts = HERE, ALSO_HERE, HERE_TOO
     under = with_a_name(program, *hosts)
-    port = free_port()
-    with ExitStack() as queues:
+    with held_port() as port, ExitStack() as queues:
         for host in hosts:
-            queues.enter_context(socket.create_server((host, port), backlog=0))
+            queues.enter_context(listener(host, port, backlog=0))
             queues.enter_context(socket.create_connection((host, port)))
         with program.start(TASK.format(f"console:{port}"), under=under) as run:
             hold("the task", run.end(), LINK_FAULT)
             hold_seconds("the calls", run.began, TO_CALL * (1 - 0.5 ** len(hosts)))
 
 
-def with_one_port(port):
-    """The command under which a process finds no other port free for a call."""
+def with_one_port():
+    """The command under which a process finds just this port free for a call, on a network of its own."""
     alone = 'ip link set lo up && echo "$0 $0" >/proc/sys/net/ipv4/ip_local_port_range && exec "$@"'
-    under = ["unshare", "-rn", "sh", "-c", alone, str(port)]
+    under = ["unshare", "-rn", "sh", "-c", alone, str(ONLY_PORT)]
     need("ip", "-V")
     need(*under, "true")
     return under
@@ -280,8 +274,7 @@ def with_one_port(port):
 
 def call_to_itself(program):
     """A call that the system connects to itself, since it leaves the caller no other port, is no line."""
-    port = free_port()
-    hold("the task", program.run(TASK.format(f"{HERE}:{port}"), under=with_one_port(port)), LINK_FAULT)
+    hold("the task", program.run(TASK.format(f"{HERE}:{ONLY_PORT}"), under=with_one_port()), LINK_FAULT)
 
 
 def turns_of_a_console(program):

@@ -223,7 +223,7 @@ expect 'a first installation starts nothing' 1 '' grep start "$root/noted"
 command -v systemd-sysusers >/dev/null || in_root useradd --system --no-create-home jofitrana  # as systemd does where it is
 
 # A station whose console keeps a record every half an hour, and has those of the last day.
-port=$(free_port)
+hold_port
 half_hours=$((($(date +%s) / 1800 - 47) * 1800))
 start half "$tools/fake_console.py" --byte 2D=1e --run "$(date -d "@$half_hours" '+%F %H:%M')" 48 "$port"
 await half listens "$port"

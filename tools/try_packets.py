@@ -25,8 +25,8 @@ from typing import NamedTuple
 sys.dont_write_bytecode = True  # nothing is left beside the scripts
 
 from model.pages import sealed
-from try_line import ACK, AWAKE, END, HERE, LF, MANY_TURNS
-from try_line import free_port, hear, hold_talk, listener, serving, with_one_port, word_for
+from try_line import ACK, AWAKE, END, HERE, LF, MANY_TURNS, ONLY_PORT
+from try_line import hear, hold_talk, listener, serving, with_one_port, word_for
 from trying import LONGEST, SLEEPER, Differs, Ended, Missed, Run, hold, hold_seconds, need, try_all
 
 TOOL = Path(__file__).resolve().parent / "packets.py"
@@ -431,8 +431,7 @@ def call_where_nobody_listens(program):
 
 def call_to_itself(program):
     """A call that the system connects to itself is a link fault too."""
-    port = free_port()
-    hold_refused(program, [f"{HERE}:{port}", "5", FILE], LINK_FAULT, "link fault\n", under=with_one_port(port))
+    hold_refused(program, [f"{HERE}:{ONLY_PORT}", "5", FILE], LINK_FAULT, "link fault\n", under=with_one_port())
 
 
 def seconds_that_pass(program):

@@ -18,6 +18,7 @@ from pathlib import Path
 
 sys.dont_write_bytecode = True  # nothing is left beside the scripts
 
+from held_port import held_port
 from model.archive import CLOSED_GATE, THIS_VERSION, head_slot, sealed_batch, slots_to_add
 from model.random_archives import random_rows
 from model.serve import LONGEST_REQUEST, answers
@@ -87,12 +88,6 @@ def call(port):
             time.sleep(0.01)
 
 
-def free_port():
-    """A port of this machine that nobody has."""
-    with socket.create_server(("127.0.0.1", 0)) as server:
-        return server.getsockname()[1]
-
-
 def received(line, size):
     """So many bytes, and what comes right behind them."""
     data = b""
@@ -114,8 +109,7 @@ def received(line, size):
 def ask(program, rows, talk):
     """Serves an archive of these rows to a caller, who leaves at the end."""
     program.write("a", archive_of(rows))
-    port = free_port()
-    with program.start(f"serve a 127.0.0.1:{port} {TURNS}") as run:
+    with held_port() as port, program.start(f"serve a 127.0.0.1:{port} {TURNS}") as run:
         with call(port) as line:
             talk(line, run)
         hold("the end", run.end(), LEFT)

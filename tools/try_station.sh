@@ -34,7 +34,7 @@ for line in {1..30}; do echo "line $line of $name"; done
 grep -qx "$name" "$work/slow" && sleep 2
 sleep 0.1
 all=$(wc -l <"$work/together")
-for _ in {1..50}; do
+for _ in {1..300}; do
     grep -qx "$name" "$work/together" && [ "$(grep -cxf "$work/together" "$work/begun")" -lt "$all" ] || break
     sleep 0.1
 done

@@ -35,7 +35,7 @@ on() {
 
 # Starts a console of an odd kind under a name, and sets `port` to its port.
 odd_console() {
-    port=$(free_port)
+    hold_port
     start "$1" "$tools/fake_console.py" "${@:2}" "$port"
     await "$1" listens "$port"
 }
