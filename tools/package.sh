@@ -8,7 +8,8 @@
 set -eu -o pipefail
 top=$(cd "$(dirname "$0")/.." && pwd)
 stage=$(mktemp -d)
-trap 'rm -rf "$stage"' EXIT
+draft=
+trap 'rm -rf "$stage" ${draft:+"$draft"}' EXIT
 umask 022
 SOURCE_DATE_EPOCH=$(git -C "$top" log -1 --format=%ct)
 export SOURCE_DATE_EPOCH
@@ -99,5 +100,7 @@ size=$(du -sk --apparent-size "$root" | cut -f 1)
 sed -e "s/@VERSION@/$version/" -e "s/@ARCHITECTURE@/$architecture/" -e "s/@MAINTAINER@/$(commit '%an <%ae>')/" \
     -e "s/@SIZE@/$size/" -e "s/@LIBRARIES@/$needed/" "$top/tools/debian/control" >"$root/DEBIAN/control"
 package=jofitrana_${version}_$architecture.deb
-dpkg-deb --root-owner-group --build "$root" "$package" >/dev/null
+draft=$(mktemp -d "$PWD/.new-XXXXXX")
+dpkg-deb --root-owner-group --build "$root" "$draft/$package" >/dev/null
+mv "$draft/$package" .
 echo "$package"

@@ -160,12 +160,28 @@ if ! command -v dpkg-shlibdeps >/dev/null || ! git -C "$tools" rev-parse 2>/dev/
     exit
 fi
 package=$("$tools/package.sh" --program "$program")
+# Makes it again on a disk that takes no longer file than 64 KiB.
+mkdir -p full/bin
+cat >full/bin/dpkg-deb <<FULL
+#!/bin/sh
+ulimit -f 64
+exec $(command -v dpkg-deb) "\$@"
+FULL
+chmod +x full/bin/dpkg-deb
+packed_on_a_full_disk() (
+    export PATH=$folder/full/bin:$PATH
+    "$tools/package.sh" --program "$program" >full/said 2>&1
+)
+sum=$(sha256sum "$package")
+expect 'a package on a full disk' 2 '' packed_on_a_full_disk
+expect 'the one before' 0 "$sum" sha256sum "$package"
+expect 'nothing else is left of it' 0 '' find . -name '.new-*'
 expect 'who owns the files of the package, and their modes' 0 \
     '-rw-r--r-- root/root,-rwxr-xr-x root/root,drwxr-xr-x root/root,lrwxrwxrwx root/root' \
     eval "dpkg-deb -c '$package' | awk '{ print \$1, \$2 }' | sort -u | paste -sd,"
 expect 'its program' 0 '-rwxr-xr-x*' eval "dpkg-deb -c '$package' | grep ' ./usr/bin/jofitrana\$'"
 if [ "$OWN_ROOT" = no ]; then
-    leave_out 'an overlay in mounts of its own is refused: no package was installed and no unit was run, which takes root'
+    leave_out 'an overlay in mounts of its own is refused: no unit of the package was run, which takes root'
     conclude
     exit
 fi

@@ -54,6 +54,7 @@ begin check round_and_check "127.0.0.1:$port"
 begin salvage "$tools/try_salvage.py" "$program"
 begin written "$tools/try_setup.sh"
 begin package "$tools/try_package.sh" "$program"
+begin purge "$tools/try_purge.sh"
 begin fields "$tools/try_fields.py"
 begin page "$tools/try_page.py" "$program"
 begin values "$tools/try_page_values.py" "$program"
@@ -518,7 +519,8 @@ expect_end check 2 $'round ok attempts 1 pages 10 skipped 0 acked 36 rows 36\nJO
 expect_end salvage 0 '* passed, 0 failed'
 expect_end written 0 '*[1-9]* passed, 0 failed'
 expect_end package 0 '*[1-9]* passed, 0 failed'
-grep -E ' (is missing|is refused): ' package.output >&2
+expect_end purge 0 '* passed, 0 failed'
+grep -hE ' (is missing|is refused|or refused): ' package.output purge.output >&2
 expect_end fields 0 '*[1-9]* passed, 0 failed'
 if /usr/bin/python3 -c 'import jinja2, matplotlib' 2>/dev/null; then
     expect_end page 0 '*[1-9]* passed, 0 failed'
