@@ -1,9 +1,10 @@
 #!/usr/bin/python3
 """Draws the rows of an archive as one picture: temperature, humidity, pressure, wind and rain.
 
+    jofitrana-chart --station roof --days 2024-10-14 2024-10-20 week.png
     jofitrana report weather.archive rows 2024-10-14 2024-10-20 | jofitrana-chart week.png
 
-The name says the kind of the picture, by its end .png or .svg. Values that are missing, and rows that are, leave gaps. Of
+With `--station` the units, the title and the rain bucket are the station's. The name says the kind of the picture, by its end .png or .svg. Values that are missing, and rows that are, leave gaps. Of
 many rows just the values that can be seen are drawn.
 Statuses: 0, 1 where the input has no rows or is cut or the picture cannot be written, 2 where the words are out of form.
 """
@@ -17,7 +18,9 @@ from itertools import groupby
 from tempfile import TemporaryDirectory
 
 sys.dont_write_bytecode = True  # nothing is left beside an installed script
+import chosen_rows
 import rows as row_lines
+import stations
 from svg_text import shortened
 from units import AS_IT_IS, METRIC
 
@@ -226,15 +229,18 @@ def panels_named(text):
 def main():
     words = argparse.ArgumentParser(prog='chart', description='Draws the rows of the input.')
     words.add_argument('picture', type=picture_name, help='the file to write, NAME.png or NAME.svg')
-    words.add_argument('--title', default='', help='a line above the picture')
+    words.add_argument('--title', help='a line above the picture')
     words.add_argument('--panels', type=panels_named, default=PANELS, help='the panels to draw, as temperature,rain')
     words.add_argument('--metric', action='store_true', help='degrees Celsius, hPa, m/s and mm')
-    words.add_argument('--bucket', choices=row_lines.BUCKETS, default='0.01in', help='a click of the rain bucket')
+    chosen_rows.add_options(words)
     chosen = words.parse_args()
+    chosen_rows.hold_days(words, chosen)
     try:
-        rows = row_lines.read_rows(sys.stdin, chosen.bucket)
-        Picture(rows, METRIC if chosen.metric else AS_IT_IS, chosen.title, chosen.panels).replace(chosen.picture)
-    except (row_lines.NotRows, OSError) as trouble:
+        station = stations.station_of(chosen)
+        title = chosen.title if chosen.title is not None else station.title if station else ''
+        units = METRIC if stations.is_metric(station, chosen.metric) else AS_IT_IS
+        Picture(chosen_rows.rows_of(chosen, station), units, title, chosen.panels).replace(chosen.picture)
+    except chosen_rows.TROUBLES as trouble:
         sys.exit(f'chart: {trouble}')
 
 

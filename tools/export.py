@@ -1,9 +1,10 @@
 #!/usr/bin/python3
 """Writes the rows of an archive as CSV, and beside it the configuration with which WeeWX imports it.
 
-    jofitrana report weather.archive rows 2024-01-01 2024-12-31 | jofitrana-export --zone Europe/Berlin weather.csv
+    jofitrana-export --station roof --days 2024-01-01 2024-12-31 weather.csv
+    jofitrana report weather.archive rows 2024-01-01 2024-12-31 | jofitrana-export --zone Etc/GMT-1 weather.csv
 
-The configuration is weather.conf then. Neither file may be there already. Both are written under other names first, and are
+With `--station` the rain bucket and the zone of the console's clock are the station's. The configuration is weather.conf then. Neither file may be there already. Both are written under other names first, and are
 there once they are whole. Stamps are the console's own civil time. With `--zone` each row has its time in UTC besides. A row in
 the hour that the end of summer time doubles could be of either time, and one in the hour that its beginning leaves out of none:
 each such row is named on standard error and left out.
@@ -17,10 +18,12 @@ import sys
 from contextlib import contextmanager
 from datetime import timezone
 from tempfile import TemporaryDirectory
-from zoneinfo import ZoneInfo
 
 sys.dont_write_bytecode = True  # nothing is left beside an installed script
+import chosen_rows
 import rows as row_lines
+import stations
+from zones import NoZone, zone_named
 
 LEFT_OUT = 3
 STAMP = 'stamp'
@@ -153,27 +156,30 @@ def table_name(name):
     return name
 
 
-def zone_named(name):
-    """The time zone of a name."""
+def zone_word(name):
+    """The time zone of a word."""
     try:
-        return ZoneInfo(name)
-    except (ValueError, OSError, LookupError):
-        raise argparse.ArgumentTypeError(f'{name} is no time zone of this system (package tzdata)') from None
+        return zone_named(name)
+    except NoZone as reason:
+        raise argparse.ArgumentTypeError(str(reason)) from None
 
 
 def main():
     words = argparse.ArgumentParser(prog='export', description='Writes the rows of the input as CSV.')
     words.add_argument('table', type=table_name, help='the file to write, NAME.csv; NAME.conf is written beside it')
-    words.add_argument('--zone', type=zone_named, help="the console's time zone, as Europe/Berlin")
-    words.add_argument('--bucket', choices=row_lines.BUCKETS, default='0.01in', help='a click of the rain bucket')
+    words.add_argument('--zone', type=zone_word, help="the zone of the console's clock, as Etc/GMT-1")
+    chosen_rows.add_options(words)
     chosen = words.parse_args()
+    chosen_rows.hold_days(words, chosen)
     configuration = chosen.table.removesuffix('.csv') + '.conf'
     refuse_taken([chosen.table, configuration])
     try:
-        rows = row_lines.read_rows(sys.stdin, chosen.bucket)
-        kept = told(rows, chosen.zone)
-        write_both(chosen.table, configuration, kept, chosen.zone)
-    except (row_lines.NotRows, OSError) as trouble:
+        station = stations.station_of(chosen)
+        zone = chosen.zone or station and station.zone
+        rows = chosen_rows.rows_of(chosen, station)
+        kept = told(rows, zone)
+        write_both(chosen.table, configuration, kept, zone)
+    except chosen_rows.TROUBLES as trouble:
         sys.exit(f'export: {trouble}')
     sys.exit(0 if len(kept) == len(rows) else LEFT_OUT)
 

@@ -1,16 +1,18 @@
 #!/usr/bin/python3
 """Takes the live packets of a console for some time, and adds each to a file with the moment at which it was heard.
 
+    jofitrana-packets --station NAME SECONDS FILE
     jofitrana-packets ADDRESS SECONDS FILE
 
-ADDRESS is a name or a number, a colon and a port, for example 192.168.1.20:22222. SECONDS is a whole number of 1 to 10
+With `--station` the address and the zone of the console's clock are the station's. ADDRESS is a name or a number, a colon and a port, for example 192.168.1.20:22222. SECONDS is a whole number of 1 to 10
 digits, at least 1. FILE is made if it is not there. Each entry of it has 104 bytes: a moment and a packet (docs/FORMATS.md).
-Moments are this machine's time without summer time, and rise from entry to entry.
+Moments are the zone's time without summer time, that of this machine if no other one is given, and rise from entry to entry.
 A damaged packet is passed over. So is one within the second of the last entry, or by a clock that went back: standard error
 names each of these. If FILE ends with a part of an entry, that part is cut off first.
 Control-C ends the run as the end of the seconds does. The last line says how many packets were taken and passed over.
 Statuses: 0 done, 1 words out of form, 4 no answer of the console, 6 link fault, 9 FILE cannot be written.
 """
+import argparse
 import binascii
 import errno
 import fcntl
@@ -25,6 +27,9 @@ import time
 from collections import Counter
 from contextlib import contextmanager, suppress
 from typing import NamedTuple
+
+sys.dont_write_bytecode = True  # nothing is left beside an installed script
+import stations
 
 # What is said and heard, by the Davis serial manual.
 LF, ACK, AWAKE = b'\n', b'\x06', b'\n\r'
@@ -52,7 +57,7 @@ SYNC_SECONDS = 60
 UNSYNCED_BYTES = (SYNC_SECONDS + 2) * ENTRY.size  # that a loss of power may harm: an entry each second, and a part
 
 DAMAGED, SAME_SECOND, WENT_BACK, WRONG_YEAR = 'damaged', 'same second', 'clock went back', 'clock out of range'
-DONE, SILENT, LINK_FAULT, FILE_FAULT = 0, 4, 6, 9
+DONE, USAGE, SILENT, LINK_FAULT, FILE_FAULT = 0, 1, 4, 6, 9
 
 ADDRESS = re.compile('(.+):([0-9]{1,5})')
 MOST_PORT = 65_535
@@ -356,13 +361,50 @@ def run(place, seconds, name):
             print(taking.summary(), flush=True)
 
 
-def main(words):
-    """Runs the words of the command line; gives the status."""
-    address = ADDRESS.fullmatch(words[1]) if len(words) == 4 else None
-    if not address or int(address[2]) > MOST_PORT or not SECONDS.fullmatch(words[2]) or int(words[2]) == 0:
-        sys.exit(__doc__)
+class Words(argparse.ArgumentParser):
+    """The words of the command line, which end with the usage if they are out of form."""
+
+    def error(self, message):
+        self.exit(USAGE, f'{__doc__}\npackets: {message}\n')
+
+
+def place_of(address):
+    """The host and the port of an address, if it is one."""
+    match = ADDRESS.fullmatch(address or '')
+    return (match[1].strip('[]'), int(match[2])) if match and int(match[2]) <= MOST_PORT else None
+
+
+def take_zone(station):
+    """Has this process live by the zone of a station's console."""
+    if station.zone:
+        os.environ['TZ'] = station.keys['TZ']
+        time.tzset()
+
+
+def chosen_words():
+    """The place of the console, the seconds and the name of the file, by the command line."""
+    words = Words(prog='packets', usage=argparse.SUPPRESS)
+    words.add_argument('names', nargs='*')
+    stations.add_station_option(words)
+    chosen = words.parse_intermixed_args()
     try:
-        run((address[1].strip('[]'), int(address[2])), int(words[2]), words[3])
+        station = stations.station_of(chosen)
+    except stations.StationFault as fault:
+        words.error(fault)
+    if station:
+        take_zone(station)
+        chosen.names.insert(0, station.address)
+    place = place_of(chosen.names[0]) if len(chosen.names) == 3 else None
+    if not place or not SECONDS.fullmatch(chosen.names[1]) or int(chosen.names[1]) == 0:
+        words.error('an address, some seconds and a file are wanted')
+    return place, int(chosen.names[1]), chosen.names[2]
+
+
+def main():
+    """Runs the words of the command line; gives the status."""
+    place, seconds, name = chosen_words()
+    try:
+        run(place, seconds, name)
     except Trouble as trouble:
         say(trouble)
         return trouble.status
@@ -372,4 +414,4 @@ def main(words):
 
 
 if __name__ == '__main__':
-    sys.exit(main(sys.argv))
+    sys.exit(main())

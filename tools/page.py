@@ -1,12 +1,14 @@
 #!/usr/bin/python3
 """Makes a web page of an archive: the last row and its day, charts, and climate tables.
 
+    jofitrana-page --station roof
     jofitrana-page --metric --name 'Roof, Bern' roof.archive /var/www/html/roof
 
-FOLDER gets index.html, its charts, and a page of climate tables for each year with each table as CSV beside it. A page asks
+With `--station` the archive, the units, the name, the rain bucket and the zone of the console's clock are the station's, and
+FOLDER is NAME.page beside its archive if no other one is named. FOLDER gets index.html, its charts, and a page of climate tables for each year with each table as CSV beside it. A page asks
 no other host and has no script. Each file is replaced as a whole, and a new chart has a new name, so a reader of the folder
 never sees half a page. With `--also OLD`, once or more, it has the rows of archives that were put aside too. Times are the
-console's: this machine's clock has to show them, so set TZ if it does not.
+console's. Without `--station` this machine's clock has to show them, so set TZ if it does not.
 Statuses: 0, 1 if a report is refused or cut or the folder cannot be written, 2 if the words are out of form.
 """
 import argparse
@@ -28,12 +30,15 @@ except ImportError:
 
 import page_now
 import rows as row_lines
+import stations
 from climate_tables import YearOfRows, tables_of
+from even_rain import even_rain
 from joined import joined
 from reports import Archive, Refused
 from units import Units
 
 TEMPLATES = Path(os.path.realpath(__file__)).parent / 'page'
+UNNAMED = 'Weather station'
 NOTE = '.made.json'  # what each year's tables were made of
 MODE = 0o644
 OLD_SECONDS = 3600  # as long a chart of an earlier page is kept, for who has that page open
@@ -98,7 +103,7 @@ class Page:
     def digest(self, days, months):
         """What the tables of a year are made of, in few digits: of these days and the summaries of its months."""
         source = ''.join(file.read_text(encoding='utf-8') for file in sorted(TEMPLATES.glob('*.html')))
-        made_of = self.name, self.units.sign('outTemp'), self.units.bucket, days, months, source
+        made_of = self.name, self.units.sign('outTemp'), self.units.counted_in, days, months, source
         return hashlib.sha256(repr(made_of).encode()).hexdigest()
 
     def write_year(self, year, days_of_archive, months):
@@ -152,28 +157,51 @@ class Page:
             return
         last = self.last_day(months)
         lines = self.archive.lines_of_rows(last - page_now.MOST_DAYS_OF_ROWS * DAY, last)
-        rows = row_lines.rows_of_lines(lines, self.units.bucket)
+        rows = row_lines.rows_of_lines(lines, self.units.buckets)
         days = self.archive.days(last - (YEAR_DAYS - 1) * DAY, last)
         now = page_now.now_of(rows, days, months, self.units, made)
         years = self.write_years((self.first_day(months), last), months)
         self.write_index(made, now, page_now.charts_of(rows, days, self.units), years)
 
 
-def main():
+def chosen_words():
+    """The words of the command line."""
     words = argparse.ArgumentParser(prog='page', description='Makes a web page of an archive.')
-    words.add_argument('archive', help='the archive')
-    words.add_argument('folder', help='the folder of the page, which is made if it is not there')
+    words.add_argument('names', nargs='*', metavar='ARCHIVE FOLDER',
+                       help='the archive, and the folder of the page, which is made if it is not there')
     words.add_argument('--metric', action='store_true', help='degrees Celsius, hPa, m/s and mm')
-    words.add_argument('--bucket', choices=row_lines.BUCKETS, default='0.01in', help='a click of the rain bucket')
-    words.add_argument('--name', default='Weather station', help='the name of the station')
+    words.add_argument('--bucket', choices=row_lines.BUCKETS, help='a click of the rain bucket')
+    words.add_argument('--name', help='the name of the station')
     words.add_argument('--also', action='append', default=[], metavar='OLD', help='an older archive of the station, put aside')
     words.add_argument('--program', default='jofitrana', help='the program, if it is another one')
-    chosen = words.parse_args()
+    stations.add_station_option(words)
+    chosen = words.parse_intermixed_args()
+    if chosen.station is None and len(chosen.names) != 2:
+        words.error('an archive and a folder are wanted, or --station')
+    if len(chosen.names) > 2:
+        words.error('more than an archive and a folder are named')
+    return chosen
+
+
+def files_of(names, station):
+    """The archive and the folder of the page, by the names of the command line and by the station."""
+    if len(names) == 2:
+        return names
+    folder = names or [station.archive.removesuffix('.archive') + '.page']
+    return [station.archive, *folder]
+
+
+def main():
+    chosen = chosen_words()
     try:
-        units = Units(chosen.metric, chosen.bucket)
-        archive = joined([Archive(chosen.program, name) for name in (chosen.archive, *chosen.also)])
-        Page(archive, Folder(chosen.folder), units, chosen.name).write(datetime.now())
-    except (Refused, row_lines.NotRows, OSError) as trouble:
+        station = stations.station_of(chosen)
+        buckets = stations.buckets_of(station, chosen.bucket)
+        archive, folder = files_of(chosen.names, station)
+        archives = joined([Archive(chosen.program, name) for name in (archive, *chosen.also)])
+        name = chosen.name or (station.title if station else UNNAMED)
+        page = Page(even_rain(archives, buckets), Folder(folder), Units(stations.is_metric(station, chosen.metric), buckets), name)
+        page.write(station.now() if station else datetime.now())
+    except (Refused, stations.StationFault, row_lines.NotRows, OSError) as trouble:
         sys.exit(f'page: {trouble}')
 
 

@@ -71,11 +71,6 @@ class Chart(NamedTuple):
     words: str
 
 
-def archive_day(stamp):
-    """The day of a row: that of midnight is of the day before."""
-    return (stamp - MINUTE).date()
-
-
 def age_text(stamp, made):
     """How old a row is, in words."""
     minutes = (made - stamp) // MINUTE
@@ -120,7 +115,7 @@ def rain_of(fields):
 
 def now_of(rows, days, months, units, made):
     """What is shown of the last row, by the summaries of its day and of the months."""
-    day = archive_day(rows[-1].stamp)
+    day = row_lines.day_of(rows[-1].stamp)
     fields = days.get(day.isoformat(), {})
     lines = [now_line(rows, fields, units, words) for place, words in enumerate(LINES) if place < ALWAYS or words[1] in fields]
     of_year = [rain_of(fields) for title, fields in months.items() if title.startswith(f'{day.year}-')]

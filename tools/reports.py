@@ -35,6 +35,11 @@ class Summary(NamedTuple):
         """The mean value over the time."""
         return self.weighted / self.seconds
 
+    def times(self, count):
+        """The summary of as many times of each value."""
+        return self._replace(least=count * self.least, greatest=count * self.greatest, sum=count * self.sum,
+                             weighted=count * self.weighted)
+
 
 class DegreeDays(NamedTuple):
     """How far a time was below and above the base, in degrees Fahrenheit times days."""

@@ -27,8 +27,12 @@ FIELDS = {
     'soilMoist3': CENTIBARS, 'soilMoist4': CENTIBARS,
 }
 
-# How many clicks of the rain bucket an inch is, by the size of the bucket.
+# How many clicks of the rain bucket an inch is, by the size of the bucket. The clicks of each go into EVEN parts of an inch.
 BUCKETS = {'0.01in': 100, '0.2mm': 127, '0.1mm': 254}
+DEFAULT_BUCKET = '0.01in'
+EVEN = 'even'
+PARTS_OF_INCH = BUCKETS | {EVEN: 12_700}
+MINUTE = timedelta(minutes=1)
 
 # Lines of a replay or a report that are no rows.
 OTHER_WORDS = {'open', 'round', 'unseen', 'day', 'month', 'end'}
@@ -42,6 +46,16 @@ class Row(NamedTuple):
     values: dict
 
 
+class Buckets(NamedTuple):
+    """What a click of the rain bucket is, day by day."""
+    first: str = DEFAULT_BUCKET
+    changes: tuple = ()  # pairs of a day and the bucket from its beginning on, in order
+
+    def on(self, day):
+        """The bucket of a day."""
+        return next((bucket for begin, bucket in reversed(self.changes) if begin <= day), self.first)
+
+
 class NotRows(Exception):
     """What was read are no rows; says what is there in their place."""
 
@@ -51,10 +65,19 @@ def unit_of(name):
     return {'click': 'inch', 'click_per_hour': 'inch_per_hour'}.get(FIELDS[name][1], FIELDS[name][1])
 
 
+def is_rain(name):
+    """Whether a field is counted in clicks of the rain bucket."""
+    return FIELDS[name][1].startswith('click')
+
+
 def value_of(name, number, bucket):
     """The value of a field that a row line counts so, in the field's unit."""
-    divisor, unit = FIELDS[name]
-    return number / (BUCKETS[bucket] if unit.startswith('click') else divisor)
+    return number / (PARTS_OF_INCH[bucket] if is_rain(name) else FIELDS[name][0])
+
+
+def day_of(stamp):
+    """The day of a row: that of midnight is of the day before."""
+    return (stamp - MINUTE).date()
 
 
 def counted_row(line):
@@ -73,9 +96,10 @@ def counted_row(line):
         raise NotRows(f'{fault}: {line[:80]}') from None
 
 
-def row_of(line, bucket):
+def row_of(line, buckets):
     """The row of a row line, its values in the units of their fields."""
     row = counted_row(line)
+    bucket = buckets.on(day_of(row.stamp))
     return row._replace(values={name: value_of(name, number, bucket) for name, number in row.values.items()})
 
 
@@ -86,18 +110,18 @@ def whole(line):
     return line.removesuffix('\n')
 
 
-def read_rows(lines, bucket):
+def read_rows(lines, buckets):
     """The rows of what `report .. rows` or `replay` printed, each line with its line feed."""
-    return rows_of_lines(map(whole, lines), bucket)
+    return rows_of_lines(map(whole, lines), buckets)
 
 
-def rows_of_lines(lines, bucket):
+def rows_of_lines(lines, buckets):
     """The rows of whole lines, in order. Any other line is what the program ended with. Of two rows of one stamp, as two
     archives of a station have them, the later line is taken."""
     rows = {}
     for line in lines:
         if line.startswith('row '):
-            row = row_of(line, bucket)
+            row = row_of(line, buckets)
             rows[row.stamp] = row
         elif line.split(' ')[0] not in OTHER_WORDS:
             raise NotRows(f'the program said: {line[:80]}')

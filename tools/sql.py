@@ -1,11 +1,13 @@
 #!/usr/bin/python3
 """Brings the tables of a database of PostgreSQL up to date from row lines. Run again, it changes nothing.
 
-    jofitrana report roof.archive rows 2024-07-01 2024-07-31 | jofitrana-sql --station roof --zone Europe/Zurich dbname=weather
-    jofitrana-sql --since --station roof --zone Europe/Zurich dbname=weather    # the days to report from, as two words
+    jofitrana-sql --station roof --days 2024-07-01 2024-07-31 dbname=weather
+    jofitrana-sql --since --station roof dbname=weather    # the days to report from, as two words
+    jofitrana report roof.archive rows 2024-07-01 2024-07-31 | jofitrana-sql --station roof --zone Etc/GMT-1 dbname=weather
 
 Tables that are not there are made. Just the rows that differ are written, those of a station in one transaction. Without
-`--station` the input has rows of many stations, those of each behind a line `station NAME`. With `--since` a row that is ahead
+`--station` the input has rows of many stations, those of each behind a line `station NAME`. The zone of a console's clock and the
+rain bucket are those of its station's settings, unless the words name others. With `--since` a row that is ahead
 of this machine's clock is named on standard error, and does not count. A row in the hour that the end of summer time doubles
 could be of either time, and one in the hour that its beginning leaves out of none: such rows are named on standard error and
 left out.
@@ -14,6 +16,7 @@ Statuses: 0, 1 if a station has no rows or no name, if the input is cut or the d
 """
 import argparse
 import io
+import os
 import sys
 from datetime import datetime, timedelta, timezone
 from itertools import groupby
@@ -25,9 +28,11 @@ try:
 except ImportError:
     sys.exit('sql: psycopg2 is missing; on Debian: apt install python3-psycopg2')
 
+import chosen_rows
 import export
 import rows as row_lines
-from reports import FIRST_DAY, LAST_DAY
+import stations
+from reports import FIRST_DAY, LAST_DAY, Archive, Refused
 from sql_tables import INCOMING, NAMES, has_table, make_tables
 
 MINUTE = timedelta(minutes=1)
@@ -119,12 +124,38 @@ def stations_of(lines, name):
         yield name, ()
 
 
+def settings_of(name, chosen):
+    """The settings of the station of a name. If the words name the zone, there may be none."""
+    is_there = stations.trouble_of_name(name) is None and os.path.lexists(os.path.join(chosen.settings_folder, f'{name}.env'))
+    if chosen.zone and not is_there:
+        return None
+    return stations.read_station(name, chosen.settings_folder, chosen.archive_folder)
+
+
+def zone_of(chosen, station):
+    """The zone of the console's clock: what the words say, or else the station's settings."""
+    zone = chosen.zone or station.zone
+    if zone is None:
+        raise Trouble(f'{station.environment} has no TZ=, the zone of the console\'s clock: write it there, or give --zone')
+    return zone
+
+
 def write_rows(link, name, lines, chosen):
     """Brings a station up to date from row lines; gives whether all rows name one time."""
     trouble = trouble_of_name(name)
     if trouble:
         raise Trouble(trouble)
-    return write_station(link, name, chosen.zone, row_lines.read_rows(lines, chosen.bucket))
+    station = settings_of(name, chosen)
+    rows = row_lines.read_rows(lines, stations.buckets_of(station, chosen.bucket))
+    return write_station(link, name, zone_of(chosen, station), rows)
+
+
+def lines_of(chosen):
+    """The row lines that the words choose: the input, or days of the station's archive."""
+    if not chosen.days:
+        return sys.stdin
+    archive = stations.station_of(chosen).archive
+    return [line + '\n' for line in Archive(chosen.program, archive).lines_of_rows(*chosen.days)]
 
 
 def write_all(link, lines, chosen):
@@ -134,7 +165,7 @@ def write_all(link, lines, chosen):
         try:
             if not write_rows(link, name, group, chosen):
                 status = status or export.LEFT_OUT
-        except (row_lines.NotRows, Trouble) as trouble:
+        except (row_lines.NotRows, stations.StationFault, Trouble) as trouble:
             print(f'sql: station {name.replace(NUL, SHOWN_NUL)}: {trouble}', file=sys.stderr)
             status = 1
     if name is None:
@@ -163,31 +194,27 @@ def days_to_report(link, name, zone):
     return (known.astimezone(zone) - MINUTE).date() if known else FIRST_DAY, LAST_DAY
 
 
-def station_named(name):
-    """The name of a station, which is a word of the command line."""
-    trouble = trouble_of_name(name)
-    if trouble:
-        raise argparse.ArgumentTypeError(trouble)
-    return name
-
-
 def main():
     words = argparse.ArgumentParser(prog='sql', description='Brings tables of PostgreSQL up to date from row lines.')
     words.add_argument('database', help="the database as libpq takes it, for example 'dbname=weather'")
-    words.add_argument('--station', type=station_named, help='the name of the station; without it lines of the input name stations')
-    words.add_argument('--zone', type=export.zone_named, required=True, help="the console's time zone, as Europe/Berlin")
-    words.add_argument('--bucket', choices=row_lines.BUCKETS, default='0.01in', help='a click of the rain bucket')
+    words.add_argument('--zone', type=export.zone_word, help="the zone of the console's clock, as Etc/GMT-1")
     words.add_argument('--since', action='store_true', help='print the days to report from, and write nothing')
+    chosen_rows.add_options(words)
     chosen = words.parse_args()
+    if chosen.station is not None and trouble_of_name(chosen.station):
+        words.error(trouble_of_name(chosen.station))
     if chosen.since and chosen.station is None:
         words.error('--since takes --station')
+    if not chosen.since:
+        chosen_rows.hold_days(words, chosen)
     try:
         link = psycopg2.connect(chosen.database)
         if chosen.since:
-            print(*days_to_report(link, chosen.station, chosen.zone))
+            station = settings_of(chosen.station, chosen)
+            print(*days_to_report(link, chosen.station, zone_of(chosen, station)))
             return
-        sys.exit(write_all(link, sys.stdin, chosen))
-    except (row_lines.NotRows, Trouble, psycopg2.Error) as trouble:
+        sys.exit(write_all(link, lines_of(chosen), chosen))
+    except (row_lines.NotRows, stations.StationFault, Refused, Trouble, OSError, psycopg2.Error) as trouble:
         sys.exit('sql: ' + ' '.join(str(trouble).split()))
 
 

@@ -14,16 +14,17 @@ are quoted as systemd's EnvironmentFile has it. A key that stands twice is refus
 """
 import os
 import re
+import sys
 from datetime import date, datetime
 from typing import NamedTuple
 from zoneinfo import ZoneInfo
 
 import archives
-from rows import BUCKETS
+from rows import BUCKETS, DEFAULT_BUCKET, Buckets
 from zones import NoZone, zone_named
 
 SETTINGS, ARCHIVES = '/etc/jofitrana', '/var/lib/jofitrana'
-UNITS = ('us', 'metric')
+US, METRIC = UNITS = ('us', 'metric')
 
 # A name is one word of the units, and no name of another file.
 NAME = re.compile(r'[A-Za-z0-9][A-Za-z0-9_.-]*')
@@ -160,7 +161,7 @@ def station_with(name, keys, folder, archive_folder):
         name=name, settings=os.path.join(folder, f'{name}.toml'), environment=os.path.join(folder, f'{name}.env'),
         archive=os.path.join(archive_folder, f'{name}.archive'), address=keys.get('ADDRESS') or None,
         device=keys.get('DEVICE') or None, zone=zone_named(keys['TZ']) if keys.get('TZ') else None,
-        title=keys.get('TITLE') or name, units=one_of(keys, 'UNITS', UNITS) or UNITS[0], bucket=bucket,
+        title=keys.get('TITLE') or name, units=one_of(keys, 'UNITS', UNITS) or US, bucket=bucket,
         bucket_changes=changes, alert=keys.get('ALERT') or None, keys=keys)
 
 
@@ -184,6 +185,20 @@ def add_station_option(parser, settings_option='--settings'):
                         help=f'where NAME.env and NAME.toml stand, if not in {SETTINGS}')
     parser.add_argument('--archives', dest='archive_folder', default=ARCHIVES, metavar='FOLDER',
                         help=f'where NAME.archive stands, if not in {ARCHIVES}')
+
+
+def buckets_of(station, bucket=None):
+    """What a click of the rain bucket is: what a tool's words say, or else the station's settings."""
+    if bucket or station is None:
+        return Buckets(bucket or DEFAULT_BUCKET)
+    if station.bucket is None:
+        print(f'{station.environment} has no BUCKET=: a click of the rain bucket is taken as {DEFAULT_BUCKET}', file=sys.stderr)
+    return Buckets(station.bucket or DEFAULT_BUCKET, station.bucket_changes)
+
+
+def is_metric(station, metric):
+    """Whether values are shown in metric units: by a tool's words, or by the station's settings."""
+    return metric or station is not None and station.units == METRIC
 
 
 def station_of(chosen):

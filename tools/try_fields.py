@@ -74,7 +74,7 @@ def sections(text):
 def rows_of_all_fields(_):
     """Row lines become values in the units of the fields, by each bucket."""
     for bucket in field_values.FIELDS:
-        rows = row_lines.read_rows(LINES, bucket)
+        rows = row_lines.read_rows(LINES, row_lines.Buckets(bucket))
         hold('the stamps', [f'{row.stamp:%Y-%m-%d %H:%M}' for row in rows], [*STAMPS])
         hold('the minutes', [row.interval.total_seconds() / 60 for row in rows], [*MINUTES])
         seen = {name: tuple(row.values.get(name) for row in rows) for name in NAMES}
@@ -150,7 +150,7 @@ def reports_that_are_cut(program):
     hold('what is there', os.listdir(program.folder), [])
     for cut in (line, 'row 2024-07-01 00:05 5 outTemp=651\n' + line):
         try:
-            row_lines.read_rows(cut.splitlines(keepends=True), '0.01in')
+            row_lines.read_rows(cut.splitlines(keepends=True), row_lines.Buckets())
         except row_lines.NotRows as reason:
             hold('the reason', str(reason), CUT)
         else:
@@ -231,7 +231,7 @@ def charts_of_all_fields(_):
     for system, worked in (('AS_IT_IS', field_values.values), ('METRIC', field_values.metric_values)):
         for bucket in field_values.FIELDS:
             wanted = worked(bucket)
-            axes = chart.Picture(row_lines.read_rows(LINES, bucket), getattr(units, system)).figure().axes
+            axes = chart.Picture(row_lines.read_rows(LINES, row_lines.Buckets(bucket)), getattr(units, system)).figure().axes
             hold('the panels', [one.get_ylabel() for one in axes],
                  [f'{title}\n{sign}' for title, sign in zip(TITLES, SIGNS[system])])
             for title, sign, one, fields in zip(TITLES, SIGNS[system], axes, DRAWN):
@@ -249,7 +249,7 @@ def bars_of_rain(_):
     for last, title, wanted in (('2024-07-01 11:15', 'Rain', {begin: '0.010', '2024-07-01 11:05': '0.010'}),
                                 ('2024-07-04 11:15', 'Rain an hour', {begin: '0.120', '2024-07-01 11:00': '0.020'}),
                                 ('2024-09-04 11:15', 'Rain a day', {'2024-07-01 00:00': '0.140'})):
-        rows = row_lines.read_rows([*lines, f'row {last} 5 rain=0\n'], '0.01in')
+        rows = row_lines.read_rows([*lines, f'row {last} 5 rain=0\n'], row_lines.Buckets())
         bars, text = chart.Picture(rows, units.AS_IT_IS).rain_bars()
         heights = {f'{stamp:%Y-%m-%d %H:%M}': f'{height:.3f}' for stamp, (height, _) in bars.items()}
         hold(f'the title up to {last}', text, title)

@@ -61,6 +61,7 @@ ZONES = {"AAA5BBB,M3.2.0,M11.1.0": -5, "AAA-10BBB,M10.1.0,M4.1.0/3": 10}  # in o
 IN_1970 = """import runpy, sys, time
 time.time = lambda: 0
 del sys.argv[0]
+sys.path[0] = sys.argv[0].rpartition('/')[0]
 runpy.run_path(sys.argv[0], run_name='__main__')"""
 # A clock that is so many seconds ahead for each entry that was written, so that a minute passes sooner.
 SECONDS_OF_AN_ENTRY, ENTRIES_OF_A_MINUTE = 21, 3
@@ -72,6 +73,7 @@ def write_and_wait(*words):
     return write(*words)
 os.write, time.monotonic = write_and_wait, lambda: clock() + ahead
 del sys.argv[0]
+sys.path[0] = sys.argv[0].rpartition('/')[0]
 runpy.run_path(sys.argv[0], run_name='__main__')"""
 SYNCS = "fsync,fdatasync"
 ROOM = 1024  # bytes of a file that may not grow further, which are no whole entries

@@ -152,7 +152,7 @@ def page_of(program, rows, *words, name='Roof', has_climate=True):
     """The page of some rows, which is not made yet, for parts that are made alone since they take less time."""
     write_archive(program.folder / ARCHIVE, rows, has_climate)
     archive = page.Archive(TOOLS / 'stand_in.py', program.folder / ARCHIVE)
-    return page.Page(archive, page.Folder(program.folder / FOLDER), Units('--metric' in words, '0.01in'), name)
+    return page.Page(archive, page.Folder(program.folder / FOLDER), Units('--metric' in words, row_lines.Buckets()), name)
 
 
 def make_tables(program, rows, *words, **options):
@@ -164,13 +164,13 @@ def make_tables(program, rows, *words, **options):
 
 def values_read(rows):
     """Rows as they are read from their lines."""
-    return [row_lines.row_of(row_line(row), '0.01in') for row in rows]
+    return [row_lines.row_of(row_line(row), row_lines.Buckets()) for row in rows]
 
 
 def now_of(rows):
     """What is shown of the last of some rows, as it fell due."""
     days = summaries(report_lines(rows, 'days', FIRST_DAY, LAST_DAY))
-    return page_now.now_of(values_read(rows), days, {}, Units(False, '0.01in'), values_read(rows)[-1].stamp)
+    return page_now.now_of(values_read(rows), days, {}, Units(False, row_lines.Buckets()), values_read(rows)[-1].stamp)
 
 
 def make_small(program, rows, **options):
@@ -272,7 +272,7 @@ def trend_of_three_hours(_):
     """The trend is of the row three hours before, and of none if that one is missing."""
     rows = [row_at('2024-07-01 09:05', outTemp=600), row_at('2024-07-01 12:00', outTemp=650)]
     hold('no trend', now_of(rows).lines[0].change, '–')
-    hold('a zero', Units(True, '0.01in').text('outTemp', 31.95), '0.0')
+    hold('a zero', Units(True, row_lines.Buckets()).text('outTemp', 31.95), '0.0')
     hold('a trend', now_of([row_at('2024-07-01 09:00', outTemp=690), *rows]).lines[0].change, '−4.0')
 
 
@@ -296,7 +296,7 @@ def gaps_of_charts(_):
 
     made_rows = rows_from('2024-07-01 00:05', 2016, values_of)
     kept = [row for number, row in enumerate(made_rows) if not 900 < number < 1000]
-    week = page_now.chart_of('Week', values_read(kept), Units(False, '0.01in'))
+    week = page_now.chart_of('Week', values_read(kept), Units(False, row_lines.Buckets()))
     hold('stretches', max(path.count('M') for path in re.findall(r' d="([^"]*)"', week.svg)), 8)
 
 

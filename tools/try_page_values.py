@@ -59,7 +59,7 @@ def days_of(rows):
 
 def now_of(rows, units):
     """What is shown of the last of some rows."""
-    read = [row_lines.row_of(row_line(row), units.bucket) for row in rows]
+    read = [row_lines.row_of(row_line(row), units.buckets) for row in rows]
     return page_now.now_of(read, days_of(rows), {}, units, read[-1].stamp)
 
 
@@ -67,7 +67,7 @@ def last_row_of_all_fields(_):
     """The last row is shown in either system of units: a value above zero, a zero, and one below, with the day's extremes."""
     rows = rows_of_all_fields()
     for (bucket, is_metric), rain in RAIN.items():
-        units = Units(is_metric, bucket)
+        units = Units(is_metric, row_lines.Buckets(bucket))
         for number, values in enumerate(VALUES[is_metric]):
             now = now_of(rows[:number + 1], units)
             hold('the titles', [line.title for line in now.lines], [line[0] for line in page_now.LINES])
@@ -81,7 +81,7 @@ def last_row_of_all_fields(_):
 def winds(_):
     """A wind is shown with where it comes from."""
     for code, name in ((0, 'from N'), (4, 'from E'), (8, 'from S'), (12, 'from W'), (15, 'from NNW')):
-        now = now_of([row_at('2024-07-01 00:05', windSpeed=10, windDir=code)], Units(False, '0.01in'))
+        now = now_of([row_at('2024-07-01 00:05', windSpeed=10, windDir=code)], Units(False, row_lines.Buckets()))
         hold(f'the wind of code {code}', now.lines[3].beside, name)
 
 
@@ -96,7 +96,7 @@ def two_days():
 def chart_of_a_year(_):
     """The chart of a year has of each day the extremes of temperature, the mean of it and of the wind, the greatest gust, and
     the sum of the rain."""
-    rows, units = two_days(), Units(False, '0.01in')
+    rows, units = two_days(), Units(False, row_lines.Buckets())
     days = page_now.rows_of_span('Year', [], days_of(rows), units)
     hold('the days', [(f'{day.stamp:%Y-%m-%d %H:%M}', day.interval) for day in days],
          [('2024-07-02 00:00', timedelta(days=1)), ('2024-07-03 00:00', timedelta(days=1))])
@@ -116,7 +116,7 @@ def tables_that_are_made_anew(program):
     def total(bucket, name):
         write_archive(program.folder / ARCHIVE, two_days())
         archive = Archive(TOOLS / 'stand_in.py', program.folder / ARCHIVE)
-        one = page.Page(archive, page.Folder(program.folder / FOLDER), Units(True, bucket), name)
+        one = page.Page(archive, page.Folder(program.folder / FOLDER), Units(True, row_lines.Buckets(bucket)), name)
         one.write_years((date(2024, 7, 1), date(2024, 7, 2)), archive.months())
         return table(program, 'climate-2024')[-1].split(',')[10]
 

@@ -83,7 +83,7 @@ cat >series.py <<'PYTHON'
 import sys
 import chart
 import rows
-picture = chart.Picture(rows.read_rows(sys.stdin, '0.01in'), chart.AS_IT_IS)
+picture = chart.Picture(rows.read_rows(sys.stdin, rows.Buckets()), chart.AS_IT_IS)
 print(*picture.series('outTemp'), *(height for height, _ in picture.rain_bars()[0].values()))
 PYTHON
 

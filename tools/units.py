@@ -33,17 +33,18 @@ def direction(degrees):
 class Units:
     """The units of an observer's choice, and what a click of the rain bucket is."""
 
-    def __init__(self, metric, bucket):
+    def __init__(self, metric, buckets):
         self.shown = METRIC if metric else AS_IT_IS
-        self.bucket = bucket
+        self.buckets = buckets
+        self.counted_in = row_lines.EVEN if buckets.changes else buckets.first  # the rain of summaries, as even_rain has it
 
     def sign(self, name):
         """The sign of the unit of a field."""
         return self.shown[row_lines.unit_of(name)][0]
 
     def value(self, name, number):
-        """A field's value, counted as in lines of the program, in the field's unit."""
-        return row_lines.value_of(name, number, self.bucket)
+        """A field's value, counted as in summaries, in the field's unit."""
+        return row_lines.value_of(name, number, self.counted_in)
 
     def text(self, name, value):
         """The digits of a value that is in the field's unit, or a dash if there is none."""
@@ -53,7 +54,7 @@ class Units:
         return f'{convert(value):z.{DIGITS[sign]}f}'.replace('-', MINUS)
 
     def counted(self, name, number):
-        """The digits of a value that is counted as in lines of the program."""
+        """The digits of a value that is counted as in summaries."""
         return self.text(name, None if number is None else self.value(name, number))
 
     def change(self, name, value, before):
