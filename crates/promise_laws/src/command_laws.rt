@@ -1,6 +1,3 @@
-use disk_model::Disk;
-use serial_link::Link;
-
 ghost use Rattle.std.specs.Prelude.{ℕ, ◌≡◌, ◌≢◌, List, Some};
 ghost use Rattle.packed_rows.specs.Rising.{last_row_stamp};
 ghost use Rattle.station_base.specs.declared.row.Row.{Row};
@@ -10,6 +7,9 @@ ghost use Rattle.station_session.specs.declared.round_end.RoundEnd.{RoundEnd};
 ghost use Rattle.weather_reports.specs.Reported.{IsReport, text_of_lines};
 ghost use Rattle.weather_reports.specs.declared.end.ReportEnd.TheVariants as report_end;
 ghost use Rattle.promise_laws.specs.Commands.{AcknowledgesUnstored};
+
+use disk_model::Disk;
+use serial_link::Link;
 
 /// Stored, then acknowledged: a round in which 0x06 was said for pages before a mark had their rows is no round of a session.
 pub fn no_page_is_acknowledged_unstored<L: Link, D: Disk>()

@@ -2,11 +2,13 @@
 #![tactic(auto)]
 
 mod command_laws;
+mod kept_laws;
 mod printing_laws;
 mod round_laws;
 mod row_laws;
 
 pub use command_laws::{no_other_line_is_reported, no_page_is_acknowledged_unstored};
+pub use kept_laws::each_schedule_has_a_kept_run;
 pub use printing_laws::{
     each_number_of_a_day_is_right, no_row_is_left_out, no_row_is_printed_twice,
 };

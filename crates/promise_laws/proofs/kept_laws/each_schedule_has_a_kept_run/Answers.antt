@@ -1,0 +1,8 @@
+use Rattle.schedule_runs.proofs.SomeRun.{run_law}
+use Rattle.station_replay.proofs.WholeRun.{schedules_law}
+use Rattle.promise_laws.proofs.kept_laws.each_schedule_has_a_kept_run.Goals as goal
+
+pub returns : goal.returns
+returns c = λ settings eeprom packet steps are.
+    let (items, run) = run_law settings eeprom packet steps are in
+    (items, run, schedules_law settings eeprom packet steps are items run)
