@@ -127,7 +127,7 @@ def hold_verdict(said, first):
 def processes():
     """By how many processes the program is proved."""
     crates, count = crate_list.needed(build.TOP), len(os.sched_getaffinity(0))
-    plan = build_plan.Plan(crates, build_plan.tasks_of(crates, CRATES), count, build.free_memory())
+    plan = build_plan.Plan(crates, build_plan.tasks_of(crates, CRATES), count, build_plan.free_memory())
     return plan.processes_for(crate_list.PROGRAM, count)
 
 
