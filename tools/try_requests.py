@@ -5,14 +5,13 @@
 
 Each of so many cases, 60 if no number is given, has a random archive, and random requests that are sent in random pieces.
 Other cases try a caller who reads byte by byte, a line that does not end, and an archive to which rows are added meanwhile.
-Each case that differs is named. The last line is 'N passed, M failed', and the status is 1 if any failed. The same cases come
-of the same seed.
+A case that fails while the machine runs others is tried again. Each case that differs is named. The last line is 'N passed,
+M failed', and the status is 1 if any failed. The same cases come of the same seed.
 """
 import os
 import random
 import socket
 import sys
-import tempfile
 import time
 from pathlib import Path
 
@@ -23,7 +22,7 @@ from model.archive import CLOSED_GATE, THIS_VERSION, head_slot, sealed_batch, sl
 from model.random_archives import random_rows
 from model.serve import LONGEST_REQUEST, answers
 from model.stamps import archive_day, date_of
-from trying import LONGEST, MOST_TEXT, Differs, Ended, Program, hold
+from trying import MOST_TEXT, SLEEPER, Differs, Ended, hold, try_case
 
 CASES = 60
 SEED = "1"
@@ -31,6 +30,7 @@ TURNS = 1_000_000  # so the caller leaves first
 MOST_ROWS = 40
 MOST_REQUESTS = 12
 MOST_PIECE = 300  # bytes
+TO_BEGIN = 10  # seconds within which the program listens
 TO_ANSWER = 5  # seconds
 ROOM = 65_536  # bytes that are received at once
 LONG_LINE = 10_000_000  # bytes
@@ -78,12 +78,12 @@ def random_pieces(chance, data):
 
 def call(port):
     """A line to the program, once it waits for a call."""
-    end = time.monotonic() + LONGEST
+    began = SLEEPER.now()
     while True:
         try:
             return socket.create_connection(("127.0.0.1", port), timeout=TO_ANSWER)
         except ConnectionRefusedError:
-            if time.monotonic() > end:
+            if began.is_over(TO_BEGIN):
                 raise Differs("nobody waits for a call") from None
             time.sleep(0.01)
 
@@ -182,6 +182,11 @@ def rows_added_meanwhile(chance, program):
     ask(program, rows[:most], talk)
 
 
+def numbered(case, seed, number):
+    """A case with what is random in the one of this number."""
+    return lambda program: case(random.Random(f"{seed} {number}"), program)
+
+
 def main(words):
     """Tries all cases; gives the status."""
     path = str(Path(words[0]).resolve())
@@ -190,12 +195,10 @@ def main(words):
     failed = 0
     tried = [request_byte_by_byte, line_without_end, rows_added_meanwhile, *[random_requests] * cases]
     for number, case in enumerate(tried):
-        with tempfile.TemporaryDirectory() as folder:
-            try:
-                case(random.Random(f"{seed} {number}"), Program(path, Path(folder)))
-            except (Differs, OSError) as reason:
-                failed += 1
-                print(f"{case.__name__} {number} failed: {reason!r:.{MOST_TEXT}}", file=sys.stderr)
+        reason = try_case(path, numbered(case, seed, number))
+        if reason is not None:
+            failed += 1
+            print(f"{case.__name__} {number} failed: {reason!r:.{MOST_TEXT}}", file=sys.stderr)
     print(f"{len(tried) - failed} passed, {failed} failed")
     return 1 if failed else 0
 
