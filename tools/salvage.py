@@ -2,8 +2,11 @@
 """Makes a new archive of the whole batches before the damage of an archive (docs/FORMATS.md).
 
     jofitrana-salvage [--program PROGRAM] OLD NEW >behind.rows
+    jofitrana-salvage --until '2024-07-01 12:00' OLD NEW >behind.rows
+    jofitrana-salvage --station NAME NEW >behind.rows
 
-OLD is only read. NEW must not be there. It is judged by the program at once, and taken away again if that refuses it.
+With `--until` just the batches are taken whose rows are not later than that stamp, also of an archive that is not damaged.
+With `--station` OLD is the archive of that station. OLD is only read. NEW must not be there. It is judged by the program at once, and taken away again if that refuses it.
 The rows behind the damage that can be read are printed as row lines; if they cannot be printed, NEW is taken away again too.
 What was found goes to standard error, also if the last row is later than this machine's clock.
 Statuses: 0 if NEW was made, 1 if not, 2 if the words are out of form.
@@ -22,6 +25,7 @@ from datetime import date, datetime, timedelta
 sys.dont_write_bytecode = True  # nothing is left beside an installed script
 import archives
 import rows as row_lines
+import stations
 
 NAMES = list(row_lines.FIELDS)
 SLOT_BYTES = 176
@@ -225,6 +229,11 @@ class Whole(Reading):
         while self.ends[-1][0] > place:
             self.ends.pop()
 
+    def drop_after(self, stamp):
+        """Drops each batch that has a row later than a stamp."""
+        while self.ends[-1][1] and self.ends[-1][2].stamp > stamp:
+            self.ends.pop()
+
     def rows_behind(self):
         """The rows behind the whole batches that can be read, whatever gates and numbers of slots say."""
         for place in range(self.ends[-1][0], self.size - SLOT_BYTES + 1, SLOT_BYTES):
@@ -329,33 +338,72 @@ def archive_word(name):
     return name
 
 
+def stamp_word(text):
+    """The stamp of a word."""
+    try:
+        return datetime.strptime(text, '%Y-%m-%d %H:%M')
+    except ValueError:
+        raise argparse.ArgumentTypeError(f"{text} is no stamp, as '2024-07-01 12:00'") from None
+
+
+def chosen_words():
+    """The words of the command line, with the names of OLD and NEW."""
+    words = argparse.ArgumentParser(prog='jofitrana-salvage', description='Makes an archive of what is whole of a damaged one.')
+    words.add_argument('names', type=archive_word, nargs='+', metavar='OLD NEW',
+                       help='the damaged archive, which is only read, and the archive to make, which must not be there')
+    words.add_argument('--until', type=stamp_word, metavar='STAMP', help='take no batch with a row later than that')
+    words.add_argument('--program', default='jofitrana', help='the program that judges NEW')
+    stations.add_station_option(words)
+    chosen = words.parse_intermixed_args()
+    try:
+        station = stations.station_of(chosen)
+    except stations.StationFault as fault:
+        give_up(fault)
+    names = [station.archive, *chosen.names] if station else chosen.names
+    if len(names) != 2:
+        words.error('two archives are wanted, or --station and one')
+    chosen.old, chosen.new = names
+    return chosen
+
+
+def has_rows(whole):
+    """Whether there is a row, even one that is not kept."""
+    return whole.size > EMPTY_BYTES and (whole.ends[-1][1] or any(whole.rows_behind()))
+
+
+def salvage(chosen):
+    """Makes NEW of what is whole of OLD, as far as the words say."""
+    file, size = opened(chosen.old)
+    with file:
+        whole = Whole(file, size)
+        whole.read()
+        if not has_rows(whole):
+            give_up(f'{chosen.old} has no row that can be read')
+        if chosen.until:
+            whole.drop_after(chosen.until)
+            if not whole.ends[-1][1]:
+                give_up(f'{chosen.old} has no batch of rows up to {chosen.until:%Y-%m-%d %H:%M}')
+        with new_file(chosen.new) as new:
+            write(new, whole)
+            judge(chosen.new, whole, chosen.program)
+            behind = print_rows(whole)
+        report(whole, chosen.old, chosen.new, behind)
+
+
 def stop(*_):
     """Ends the run, which takes NEW away again."""
     give_up('it was stopped')
 
 
 def main():
-    words = argparse.ArgumentParser(prog='jofitrana-salvage', description='Makes an archive of what is whole of a damaged one.')
-    words.add_argument('old', type=archive_word, metavar='OLD', help='the damaged archive, which is only read')
-    words.add_argument('new', type=archive_word, metavar='NEW', help='the archive to make, which must not be there')
-    words.add_argument('--program', default='jofitrana', help='the program that judges NEW')
     for number in (signal.SIGINT, signal.SIGTERM):
         signal.signal(number, stop)
+    chosen = None
     try:
-        chosen = words.parse_args()
+        chosen = chosen_words()
         if os.path.lexists(chosen.new):
             give_up(f'{chosen.new} is there already')
-        file, size = opened(chosen.old)
-        with file:
-            whole = Whole(file, size)
-            whole.read()
-            if size <= EMPTY_BYTES or not whole.ends[-1][1] and not any(whole.rows_behind()):
-                give_up(f'{chosen.old} has no row that can be read')
-            with new_file(chosen.new) as new:
-                write(new, whole)
-                judge(chosen.new, whole, chosen.program)
-                behind = print_rows(whole)
-            report(whole, chosen.old, chosen.new, behind)
+        salvage(chosen)
     except OSError as fault:
         give_up(f'{fault.filename or chosen.old}: {fault.strerror}')
 

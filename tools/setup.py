@@ -1,25 +1,30 @@
 #!/usr/bin/python3
 """Asks a console what a station's settings have to hold, reports what it found, and writes the settings.
 
-    jofitrana-setup [--set-clock] [--settings FOLDER] [--archives FOLDER] [--program PROGRAM] NAME ADDRESS
+    jofitrana-setup [--set-clock] [--no-limits] [--title TEXT] [--units us|metric] [--bucket SIZE] NAME ADDRESS
+    jofitrana-setup NAME DEVICE
+    jofitrana-setup --check FILE
 
 It writes NAME.toml and NAME.env below /etc/jofitrana if they are not there, and else reports how they differ from the
-console. Nothing in the console is changed but its clock, with `--set-clock`, and only before the first round. Lines that
+console. DEVICE is a serial adapter of this machine, which it has served by a unit. With `--check` it just looks through a
+file of settings, and names the first fault with its line. What no option names is asked at a terminal. Nothing in the console is changed but its clock, with `--set-clock`, and only before the first round. Lines that
 begin with `!` are troubles, each with what to do.
 Statuses: 0, 1 if there is a trouble, 2 if the words are out of form.
 """
 import argparse
-import errno
 import os
 import re
 import sys
 import time
-import tomllib
+from contextlib import nullcontext
 from datetime import datetime, timedelta, timezone
 
 sys.dont_write_bytecode = True  # nothing is left beside an installed script
 import archives
-import rows as row_lines
+import serial_line
+import station_files
+import stations
+from rows import BUCKETS as BUCKET_SIZES
 
 FIRST_OF_ALL = """\
 First of all: switch the console's summer time off, and set its clock, before the first round. Never set it back later:
@@ -30,7 +35,7 @@ FIRST_PLACE = 0x11
 ZONE, SUMMER_BY_HAND, SUMMER_ON, OFFSET, HAS_OFFSET, SETUP_BITS, PERIOD = 0x11, 0x12, 0x13, 0x14, 0x16, 0x2B, 0x2D
 PLACES = PERIOD + 1 - FIRST_PLACE
 BUCKET_SHIFT, BUCKET_MASK = 4, 3
-BUCKETS = ('0.01in', '0.2mm', '0.1mm')
+BUCKETS = ('0.01in', '0.2mm', '0.1mm')  # by the number that the console has for them
 HUNDREDTHS_OF_HOUR = 100
 VANTAGE_PRO = 16
 PERIODS = (1, 5, 10, 15, 30, 60, 120)
@@ -42,17 +47,8 @@ SHORT_FILE = 177  # bytes; a longer file is an archive, or is refused
 STAMP = '%Y-%m-%d %H:%M:%S'
 MASK = 0o022  # the user of the rounds reads what is written here, whatever root keeps from others elsewhere
 
-# A name is one word of the units, and no name of another file.
-NAME = re.compile(r'[A-Za-z0-9][A-Za-z0-9_.-]*')
-TAKEN_ENDS = (*archives.SETTINGS_ENDS, '.archive', '.timer', '.service')
 ADDRESS = re.compile(r'''[^\s"'\\$%=]+:[0-9]{1,5}''')
 ZONE_RULE = re.compile(r'(<[-+0-9A-Za-z]{3,}>|[A-Za-z]{3,})[-+]?[0-9]{1,2}(:[0-9]{2}){0,2}')
-
-# Fields of which a unit or a few matter.
-SMALL_UNITS = {'click', 'click_per_hour', 'mile_per_hour', 'uv_index', 'inch'}
-SMALL_FIELDS = [name for name, (_, unit) in row_lines.FIELDS.items() if unit in SMALL_UNITS]
-SMALL_VALUES = range(1, 4)
-LATE_CHANGE = 5  # a ratio that changes no value below this is reported
 
 ANSWERS = {
     'link fault': """nobody answers at {address}. Is ser2net, socat or the adapter running? Is the port the right one?
@@ -123,6 +119,7 @@ class Station:
 
     def __init__(self, chosen, report):
         self.name, self.address, self.program = chosen.name, chosen.address, chosen.program
+        self.device = None
         self.settings = os.path.join(chosen.settings, f'{chosen.name}.toml')
         self.environment = os.path.join(chosen.settings, f'{chosen.name}.env')
         self.archive = os.path.join(chosen.archives, f'{chosen.name}.archive')
@@ -187,13 +184,13 @@ def look_at_zone(memory, report):
 
 
 def look_at_bucket(memory, report):
-    """Reports what a click of the rain bucket is."""
+    """Reports what a click of the rain bucket is, and gives it if it is known."""
     bucket = memory[SETUP_BITS] >> BUCKET_SHIFT & BUCKET_MASK
     if bucket < len(BUCKETS):
-        report.found(f'A click of its rain bucket is {BUCKETS[bucket]}: give jofitrana-chart and jofitrana-export '
-                     f'--bucket {BUCKETS[bucket]}.')
-    else:
-        report.trouble("Its rain bucket is of a size that the manual does not name. Look in the console's Setup Mode.")
+        report.found(f'A click of its rain bucket is {BUCKETS[bucket]}.')
+        return BUCKETS[bucket]
+    report.trouble("Its rain bucket is of a size that the manual does not name. Look in the console's Setup Mode, and give --bucket.")
+    return None
 
 
 def look_at_period(memory, report):
@@ -253,108 +250,30 @@ def look_at_clock(station, chosen, memory, report):
         report.trouble(f'{text}\n  To set it forward loses nothing: jofitrana task {station.address} time set DATE TIME')
 
 
-def write(name, text):
-    """Makes a file of a text, and none if it cannot be written whole."""
-    data = text.encode()
-    with open(name, 'xb', buffering=0) as file:
-        try:
-            if file.write(data) < len(data):
-                raise OSError(errno.ENOSPC, os.strerror(errno.ENOSPC))
-            os.fsync(file.fileno())
-        except OSError as fault:
-            os.remove(name)
-            raise OSError(fault.errno, fault.strerror, name) from fault
-
-
-def write_or_compare(name, pairs, found, report):
-    """Writes a file of these keys and values if it is not there, and else reports which of them differ."""
-    if found is None:
-        os.makedirs(os.path.dirname(name), exist_ok=True)
-        write(name, ''.join(f'{key}{value}\n' for key, value in pairs))
-        report.found(f'Written: {name}')
-        return
-    report.found(f'Kept as it is: {name}')
-    for key, value in pairs:
-        if found.get(key) != value:
-            report.trouble(f'{name} has {key}{found.get(key, "(nothing)")} in place of {key}{value}: change that line.')
-
-
-def keys_of_environment(name):
-    """The keys of a file of the units, with their values; none if it is not there."""
-    try:
-        with open(name, encoding='utf-8', errors='replace') as file:
-            lines = [line.strip() for line in file if '=' in line and not line.startswith('#')]
-    except FileNotFoundError:
-        return None
-    return {key + '=': value for key, value in (line.split('=', 1) for line in lines)}
-
-
-def tables_of(settings):
-    """Each table of a calibrated field in settings: how it is written, the field, and the table."""
-    sections = [('calibration', settings.get('calibration', {}))]
-    sections += [('change.calibration', change.get('calibration', {})) for change in settings.get('change', [])]
-    return [(f'[{section}.{field}]', field, table) for section, fields in sections for field, table in fields.items()]
-
-
-def look_at_roundings(name, settings, report):
-    """Reports calibrations that round most of a field's small values away, or leave them as they are."""
-    for head, field, table in tables_of(settings):
-        num, den = table.get('num', 1), table.get('den', 1)
-        if field not in SMALL_FIELDS or num == den:
-            continue
-        calibrated = [value * num // den for value in SMALL_VALUES]
-        if calibrated[0] == 0:
-            pairs = ', '.join(f'{value} becomes {other}' for value, other in zip(SMALL_VALUES, calibrated))
-            report.trouble(f'{name}: {head} loses small values for good, since values are rounded down:\n'
-                           f'  {pairs}. Take that table out. What a click of rain is belongs to chart and export: --bucket.')
-        elif num > den and den // (num - den) >= LATE_CHANGE:
-            report.trouble(f'{name}: {head} changes no value below {-(-den // (num - den))}, since values are rounded down.')
-
-
-def look_at_settings(station, period, report):
-    """Writes the settings, or compares those that are there with the console and looks through them."""
-    settings = None
-    if os.path.exists(station.settings):
-        line, status = archives.run(station.program, 'pages', station.settings, os.devnull)
-        if status:
-            report.trouble(f'The program refuses {station.settings}: {line}')
-            return
-        try:
-            with open(station.settings, 'rb') as file:
-                settings = tomllib.load(file)
-        except tomllib.TOMLDecodeError as fault:
-            report.trouble(f'{station.settings} is taken by the program, and cannot be looked through here: {fault}')
-            return
-        look_at_roundings(station.settings, settings, report)
-        settings = {'period = ': settings.get('period', 5)}
-    write_or_compare(station.settings, [('period = ', period)] if period else [], settings, report)
-
-
 def look_at_all(station, chosen, report):
     """Asks the console, reports what it found, and writes the station's files."""
     look_at_kind(station, report)
     memory = bytes(FIRST_PLACE) + bytes.fromhex(station.ask('eeprom', 'read', f'{FIRST_PLACE:X}', str(PLACES)))
     period = look_at_period(memory, report)
-    look_at_bucket(memory, report)
+    bucket = look_at_bucket(memory, report)
     look_at_summer_time(station, memory, report)
     look_at_zone(memory, report)
     look_at_clock(station, chosen, memory, report)
-    look_at_settings(station, period, report)
-    pairs = [('ADDRESS=', station.address), ('TZ=', zone_rule(standard_offset()))]
-    write_or_compare(station.environment, pairs, keys_of_environment(station.environment), report)
+    station_files.look_at_settings(station, chosen, period, report)
+    station_files.look_at_environment(station, chosen, zone_rule(standard_offset()), bucket, report)
 
 
 def station_name(name):
     """A name of a station, which can meet no other file."""
-    if not NAME.fullmatch(name) or name.endswith(TAKEN_ENDS):
-        raise argparse.ArgumentTypeError(
-            f'{name} is no name of a station: take letters, digits and _ . - alone, and none of the ends {" ".join(TAKEN_ENDS)}')
+    trouble = stations.trouble_of_name(name)
+    if trouble:
+        raise argparse.ArgumentTypeError(trouble)
     return name
 
 
 def console_address(address):
-    """An address with its port."""
-    if not ADDRESS.fullmatch(address):
+    """An address with its port, or a serial adapter."""
+    if not ADDRESS.fullmatch(address) and not serial_line.is_device(address):
         raise argparse.ArgumentTypeError(f'{address} is no address: write a name or a number, and a port, as 192.168.1.20:22222')
     return address
 
@@ -362,36 +281,67 @@ def console_address(address):
 def chosen_words():
     """The words of the command line."""
     words = argparse.ArgumentParser(prog='jofitrana-setup', description='Sets a station up from what its console holds.')
-    words.add_argument('name', type=station_name, metavar='NAME', help='the name of the station, for example roof')
-    words.add_argument('address', type=console_address, metavar='ADDRESS', help='where the console is, as 192.168.1.20:22222')
+    words.add_argument('name', type=station_name, nargs='?', metavar='NAME', help='the name of the station, for example roof')
+    words.add_argument('address', type=console_address, nargs='?', metavar='ADDRESS',
+                       help='where the console is, as 192.168.1.20:22222, or its serial adapter, as /dev/serial/by-id/NAME')
+    words.add_argument('--check', metavar='FILE', help='look through a file of settings, and ask no console')
     words.add_argument('--set-clock', action='store_true', help="set the console's clock, if no round was made yet")
-    words.add_argument('--settings', default='/etc/jofitrana', metavar='FOLDER', help='where NAME.toml and NAME.env stand')
-    words.add_argument('--archives', default='/var/lib/jofitrana', metavar='FOLDER', help='where NAME.archive stands')
+    words.add_argument('--title', help='what pages and charts are headed')
+    words.add_argument('--units', choices=stations.UNITS, help='the units of pages and charts')
+    words.add_argument('--bucket', choices=BUCKET_SIZES, help='a click of the rain bucket')
+    words.add_argument('--no-limits', dest='limits', action='store_false', help='write no limits into new settings')
+    words.add_argument('--settings', default=stations.SETTINGS, metavar='FOLDER', help='where NAME.toml and NAME.env stand')
+    words.add_argument('--archives', default=stations.ARCHIVES, metavar='FOLDER', help='where NAME.archive stands')
     words.add_argument('--program', default='jofitrana')
-    return words.parse_args()
+    chosen = words.parse_args()
+    if (chosen.check is None) == (chosen.address is None):
+        words.error('the following arguments are required: NAME, ADDRESS; or --check FILE')
+    return chosen
+
+
+def set_up(chosen, report):
+    """Sets a station up. Its serial adapter is served meanwhile, and from then on if the console answered."""
+    station = Station(chosen, report)
+    refusal = archives.refusal_of(station.archive)
+    zone = os.environ.get('TZ', '')
+    if not is_zone_known(zone):
+        refusal = f'TZ={zone} is no time zone of this system (package tzdata)'
+    if refusal:
+        report.trouble(refusal)
+        return
+    line = nullcontext()
+    if serial_line.is_device(chosen.address):
+        station.device = serial_line.checked(chosen.address)
+        station.address = serial_line.address_of(station.name, station.device, chosen.settings)
+        line = serial_line.served(station.device, station.address)
+    with line:
+        look_at_all(station, chosen, report)
+    if station.device:
+        serial_line.start_unit(station.name, report)
+
+
+def last_words(chosen, report):
+    """What is to be done next."""
+    if report.has_trouble:
+        return 'See to each line with ! above, and run this again.'
+    return f'Now make the first round, by: sudo systemctl enable --now jofitrana@{chosen.name}.timer'
 
 
 def main():
     chosen = chosen_words()
     report = Report()
-    station = Station(chosen, report)
-    print(FIRST_OF_ALL)
-    zone = os.environ.get('TZ', '')
     os.umask(MASK)
     try:
-        refusal = archives.refusal_of(station.archive)
-        if not is_zone_known(zone):
-            refusal = f'TZ={zone} is no time zone of this system (package tzdata)'
-        if refusal:
-            report.trouble(refusal)
-            sys.exit(1)
-        look_at_all(station, chosen, report)
+        if chosen.check is not None:
+            station_files.check_settings(chosen.check, chosen.program, report)
+            sys.exit(report.has_trouble)
+        print(FIRST_OF_ALL)
+        set_up(chosen, report)
+    except serial_line.NoLine as reason:
+        report.trouble(str(reason))
     except OSError as fault:
         report.trouble(f'{fault.filename}: {fault.strerror}. Below /etc it takes sudo.')
-    if report.has_trouble:
-        print('See to each line with ! above, and run this again.')
-    else:
-        print(f'Now make the first round, by: sudo systemctl enable --now jofitrana@{station.name}.timer')
+    print(last_words(chosen, report))
     sys.exit(report.has_trouble)
 
 

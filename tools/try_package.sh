@@ -244,18 +244,18 @@ half_hours=$((($(date +%s) / 1800 - 47) * 1800))
 start half "$tools/fake_console.py" --byte 2D=1e --run "$(date -d "@$half_hours" '+%F %H:%M')" 48 "$port"
 await half listens "$port"
 expect 'a setup of it' 0 '*every 30 minutes.*Written: /etc/jofitrana/roof.toml*' in_root jofitrana-setup roof "127.0.0.1:$port"
-expect 'settings that others can read' 0 $'period = 30\n644 /etc/jofitrana/roof.toml' \
+expect 'settings that others can read' 0 $'period = 30\n*\n644 /etc/jofitrana/roof.toml' \
     in_root sh -c 'cat /etc/jofitrana/roof.toml && stat -c "%a %n" /etc/jofitrana/roof.toml'
 expect 'a round by its unit' 0 'round ok attempts 1 pages * acked 48 rows 48' unit jofitrana
 expect 'a next round by its unit' 0 'round ok attempts 1 pages 0 * rows 48' unit jofitrana
-expect 'the settings behind its rounds' 0 'period = 30' cat "$root/etc/jofitrana/roof.toml"
+expect 'the settings behind its rounds' 0 $'period = 30\n*' cat "$root/etc/jofitrana/roof.toml"
 expect 'whose archive it is' 0 $'755 jofitrana /var/lib/jofitrana
 644 jofitrana /var/lib/jofitrana/roof.archive' in_root stat -c '%a %U %n' /var/lib/jofitrana /var/lib/jofitrana/roof.archive
 expect 'the rows of the archive' 0 48 eval "in_root jofitrana report /var/lib/jofitrana/roof.archive rows 1999-12-31 2127-12-31 | wc -l"
 expect 'a round beside one that holds the archive' 0 'left out by its condition' \
     flock "$root/var/lib/jofitrana/roof.archive" chroot "$root" "$tools/run_unit.py" /usr/lib/systemd/system/jofitrana@.service roof
 expect 'a check by its unit' 0 'JOFITRANA OK *' unit jofitrana-check
-sed -i 's/30/15/' "$root/etc/jofitrana/roof.toml"
+sed -i 's/^period = 30/period = 15/' "$root/etc/jofitrana/roof.toml"
 expect 'a check by its unit, of settings of another period' 2 'JOFITRANA CRITICAL *, and /etc/jofitrana/roof.toml has 15: *' \
     unit jofitrana-check
 if in_root /usr/bin/python3 -c 'import jinja2, matplotlib' 2>/dev/null; then

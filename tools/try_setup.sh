@@ -74,9 +74,9 @@ printf '[calibration.inTemp]\noffset = 1\n' >etc/stations/roof.toml
 expect 'settings without a period beside a console of 30 minutes' 1 \
     '*! etc/stations/roof.toml has period = 5 in place of period = 30: *' set_up
 printf 'ADDRESS=there:1\n\377=\n' >etc/stations/roof.env
-expect 'an environment of other bytes' 1 '*! etc/stations/roof.env has TZ=(nothing) in place of TZ=<+00>-00: *' set_up
+expect 'an environment of other bytes' 1 '*! etc/stations/roof.env is no text in UTF-8*' set_up
 console 05
-printf 'ADDRESS=there:1\nTZ=<+00>-00\n' >etc/stations/roof.env
+printf 'ADDRESS=there:1\nTZ=<+00>-00\nBUCKET=0.01in\n' >etc/stations/roof.env
 expect 'settings without a period beside a console of 5 minutes' 0 '*Kept as it is: etc/stations/roof.toml*' set_up
 rm -r etc
 

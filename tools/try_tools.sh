@@ -286,24 +286,24 @@ memory
 expect 'a first setup' 0 "First of all: switch the console's summer time off, and set its clock, before the first round.*\
   A console answers at there:1, of kind 16.
   It keeps a record every 5 minutes.
-  A click of its rain bucket is 0.01in: *
+  A click of its rain bucket is 0.01in.
   Its summer time is off, as it has to be.
   Its zone is number 0 of its own list; this machine's is UTC+00:00 without summer time.
   Its clock shows *, as this machine's does without summer time.
   Written: etc/roof.toml
   Written: etc/roof.env
 Now make the first round, by: sudo systemctl enable --now jofitrana@roof.timer" set_up
-expect 'its settings' 0 $'period = 5\nADDRESS=there:1\nTZ=<+00>-00' cat etc/roof.toml etc/roof.env
+expect 'its settings' 0 $'period = 5\n*\nADDRESS=there:1\nTZ=<+00>-00\nTITLE=roof\nUNITS=us\nBUCKET=0.01in' cat etc/roof.toml etc/roof.env
 expect 'a second setup' 0 $'*Kept as it is: etc/roof.toml\n  Kept as it is: etc/roof.env\nNow make *' set_up
 memory 2D=1e 2B=10
-expect 'a console of another period' 1 '*every 30 minutes.*0.2mm: *! etc/roof.toml has period = 5 in place of period = 30: *' set_up
-expect 'settings that are kept' 0 'period = 5' cat etc/roof.toml
+expect 'a console of another period' 1 '*every 30 minutes.*0.2mm.*! etc/roof.toml has period = 5 in place of period = 30: *' set_up
+expect 'settings that are kept' 0 $'period = 5\n*' cat etc/roof.toml
 sed -i 's/there/here/' etc/roof.env
 expect 'another address' 1 '*! etc/roof.env has ADDRESS=here:1 in place of ADDRESS=there:1: *' set_up
 rm -r etc
 memory 2D=07 2B=30
 expect 'a period and a bucket that are none' 1 '*! Its period is 7 minutes, *! Its rain bucket is of a size *' set_up
-expect 'settings without a period' 0 '' cat etc/roof.toml
+expect 'settings without a period' 1 0 grep -c period etc/roof.toml
 rm -r etc
 memory 12=00 16=01 14=d8 15=ff
 expect 'summer time by itself, and a zone of its own' 1 \
