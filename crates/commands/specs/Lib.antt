@@ -5,11 +5,13 @@ pub mod GoodFile
 pub mod Listing
 pub mod PageRun
 pub mod PageText
+pub mod Pause
 pub mod Recovery
 pub mod ReportRun
 pub mod SlotText
 pub mod SoftRun
 pub mod StationRun
+pub mod StayRun
 pub mod Style
 pub mod StyleRead
 pub mod TaskRun
