@@ -1,7 +1,7 @@
 #!/usr/bin/python3
 """Answers at a port of this machine as a console whose clock, memory and records are chosen, to try the tools on.
 
-    tools/fake_console.py [--kind N] [--clock STAMP] [--byte PLACE=VALUE ..] [--run STAMP COUNT ..] [--mood MOOD] PORT
+    tools/fake_console.py [--host HOST] [--kind N] [--clock STAMP] [--byte PLACE=VALUE ..] [--run STAMP COUNT ..] [--mood MOOD] PORT
 
 It answers one caller after another until it is ended. PLACE and VALUE are hexadecimal, STAMP is YYYY-MM-DD HH:MM. The
 clock shows this machine's time if no other is chosen, and goes on. Each run is COUNT records, a period apart; stamps of
@@ -19,6 +19,7 @@ MEMORY_BYTES = 4096
 SUMMER_BY_HAND, PERIOD_PLACE = 0x12, 0x2D
 RECORD_BYTES, RECORDS_OF_PAGE = 52, 5
 PACKET_SECONDS, PACKET_BYTES = 2, 99
+PACKET_MARK, PACKET_END, PACKET_END_PLACE = b'LOO', b'\n\r', 95
 FLOOD_BYTES = 65_536
 STAMP_BYTES, TIME_BYTES, CHECK_BYTES = 4, 6, 2
 
@@ -53,6 +54,14 @@ def pages_of(records):
         slots = b''.join(records[first:first + RECORDS_OF_PAGE]).ljust(RECORD_BYTES * RECORDS_OF_PAGE, b'\xff')
         pages.append(sealed(bytes([len(pages) % 256]) + slots + bytes(4)))
     return pages
+
+
+def live_packet():
+    """A packet of which all values are zero."""
+    body = bytearray(PACKET_BYTES - CHECK_BYTES)
+    body[:len(PACKET_MARK)] = PACKET_MARK
+    body[PACKET_END_PLACE:] = PACKET_END
+    return sealed(bytes(body))
 
 
 class Console:
@@ -104,8 +113,22 @@ class Console:
             caller.sendall(ACK + sealed(bytes(self.memory[place:place + count])))
         elif word == b'DMPAFT':
             self.dump(caller)
+        elif word == b'LOOP':
+            self.send_packets(caller, int(numbers[0]))
         else:
             caller.sendall(NO)
+
+    def send_packets(self, caller, count):
+        """Sends so many packets, until the caller sends a byte."""
+        caller.sendall(ACK)
+        caller.settimeout(PACKET_SECONDS)
+        for _ in range(count):
+            try:
+                caller.recv(1)
+                break
+            except TimeoutError:
+                caller.sendall(live_packet())
+        caller.settimeout(None)
 
     def frame(self, caller, size):
         """Takes a frame of so many bytes with a good check, or else nothing."""
@@ -158,6 +181,7 @@ class Run(argparse.Action):
 def main():
     words = argparse.ArgumentParser(prog='fake_console', description='Answers as a console of an odd kind.')
     words.add_argument('port', type=int)
+    words.add_argument('--host', default='127.0.0.1')
     words.add_argument('--kind', type=int, default=16)
     words.add_argument('--clock', type=stamp_named)
     words.add_argument('--byte', type=byte_named, action='append', default=[])
@@ -165,7 +189,7 @@ def main():
     words.add_argument('--mood', choices=['asleep', 'sending', 'flooding'])
     chosen = words.parse_args()
     console = Console(chosen)
-    with socket.create_server(('127.0.0.1', chosen.port)) as door:
+    with socket.create_server((chosen.host, chosen.port)) as door:
         while True:
             caller, _ = door.accept()
             with caller:

@@ -46,7 +46,7 @@ def checked(device):
 
 
 def address_of(name, device, folder):
-    """The address at which an adapter is served: the station's own, or the next that no other station has."""
+    """The address at which an adapter is served: the station's own, or the next that nobody has."""
     taken = set()
     for file in Path(folder).glob('*.env'):
         try:
@@ -56,7 +56,8 @@ def address_of(name, device, folder):
         if other.name == name and other.device == device and other.address:
             return other.address
         taken.add(other.address)
-    return next(address for address in (f'{HOST}:{port}' for port in range(FIRST_PORT, 1 << 16)) if address not in taken)
+    addresses = (f'{HOST}:{port}' for port in range(FIRST_PORT, 1 << 16))
+    return next(address for address in addresses if address not in taken and not is_served(address))
 
 
 def is_served(address):

@@ -56,6 +56,8 @@ begin written "$tools/try_setup.sh"
 begin package "$tools/try_package.sh" "$program"
 begin purge "$tools/try_purge.sh"
 begin fields "$tools/try_fields.py"
+begin stations "$tools/try_stations.py" "$program"
+begin new_station "$tools/try_new_station.py" "$program"
 begin page "$tools/try_page.py" "$program"
 begin values "$tools/try_page_values.py" "$program"
 begin sql "$tools/try_sql.py"
@@ -469,7 +471,7 @@ else
     expect 'a page that is installed' 1 'page: *python3-jinja2' prefix/bin/jofitrana-page a folder
 fi
 if /usr/bin/python3 -c 'import psycopg2' 2>/dev/null; then
-    expect 'a writer of tables that is installed' 2 '*required: database, --zone' prefix/bin/jofitrana-sql
+    expect 'a writer of tables that is installed' 2 '*required: database' prefix/bin/jofitrana-sql
 else
     expect 'a writer of tables that is installed' 1 'sql: *python3-psycopg2' prefix/bin/jofitrana-sql
 fi
@@ -523,6 +525,8 @@ expect_end package 0 '*[1-9]* passed, 0 failed'
 expect_end purge 0 '* passed, 0 failed'
 grep -hE ' (is missing|is refused|or refused): ' package.output purge.output >&2
 expect_end fields 0 '*[1-9]* passed, 0 failed'
+expect_end stations 0 '*[1-9]* passed, 0 failed'
+expect_end new_station 0 '*[1-9]* passed, 0 failed'
 if /usr/bin/python3 -c 'import jinja2, matplotlib' 2>/dev/null; then
     expect_end page 0 '*[1-9]* passed, 0 failed'
     expect_end values 0 '*[1-9]* passed, 0 failed'
