@@ -11,12 +11,12 @@ use Rattle.station_session.specs.declared.round_end.RoundEnd.TheVariants as roun
 use Rattle.run_output.specs.Output.{Output}
 use Rattle.run_output.specs.declared.status.Status.{Status}
 use Rattle.commands.specs.StationRun.{end_output, round_lines}
-use Rattle.commands.specs.StayRun.{give_ups_after, last_output, may_follow, most_give_ups, puts, stayed_line, tells_round}
+use Rattle.commands.specs.StayRun.{give_ups_after, last_output, round_may_follow, most_give_ups, puts, stayed_line, tells_round}
 
 -- the lines of a round that another may follow are written
 pub written : {S : Type 0} (outlet : Outlet S) (end : RoundEnd) (give_ups : ℕ) (report : Report) (made : ℕ) (old new : S) (text : List ℕ)
-    (result : Result (Unit {0}) Output) → may_follow end give_ups ≡ true → text ≡ round_lines end report → puts outlet text old result new
-    → tells_round (may_follow end give_ups) outlet end report made old result new
+    (result : Result (Unit {0}) Output) → round_may_follow end give_ups ≡ true → text ≡ round_lines end report → puts outlet text old result new
+    → tells_round (round_may_follow end give_ups) outlet end report made old result new
 written outlet end give_ups report made old new text result follows is did =
     subst (λ (b : Bool). tells_round b outlet end report made old result new) (sym follows)
     (subst (λ (t : List ℕ). puts outlet t old result new) is did)
@@ -30,9 +30,9 @@ told_last end report made text status fresh memory text_is status_is = rw text_i
 
 -- those of another round are given
 pub given : {S : Type 0} (outlet : Outlet S) (end : RoundEnd) (give_ups : ℕ) (report : Report) (made : ℕ) (out : S) (text : List ℕ) (status : Status)
-    (output : Output) → may_follow end give_ups ≡ false → end ≢ round.Stale → end ≢ round.OutOfMemory
+    (output : Output) → round_may_follow end give_ups ≡ false → end ≢ round.Stale → end ≢ round.OutOfMemory
     → text ≡ round_lines end report ++ (stayed_line (made + 1) ++ (end_output end).text) → status ≡ (end_output end).status
-    → output ≡ record { text = text; status = status } → tells_round (may_follow end give_ups) outlet end report made out (Err output) out
+    → output ≡ record { text = text; status = status } → tells_round (round_may_follow end give_ups) outlet end report made out (Err output) out
 given outlet end give_ups report made out text status output ends fresh memory text_is status_is is =
     subst (λ (b : Bool). tells_round b outlet end report made out (Err output) out) (sym ends)
     (let same : output ≡ last_output end report made = is ∙ told_last end report made text status fresh memory text_is status_is in
@@ -48,14 +48,14 @@ lt_of : (m n : ℕ) → nat_lt m n ≡ true → m < n
 lt_of m n test = grind (arith, nat_tests)
 
 -- fewer rounds in a row gave up than end a stay
-pub few_followed : (end : RoundEnd) (before give_ups : ℕ) → give_ups ≡ give_ups_after end before → may_follow end give_ups ≡ true → give_ups < most_give_ups
+pub few_followed : (end : RoundEnd) (before give_ups : ℕ) → give_ups ≡ give_ups_after end before → round_may_follow end give_ups ≡ true → give_ups < most_give_ups
 few_followed round.Done before give_ups is follows = omega (arith, is)
 few_followed round.GaveUp before give_ups is follows = (let few : nat_lt give_ups most_give_ups ≡ true = follows in lt_of give_ups most_give_ups few)
 few_followed round.Flood before give_ups is follows = omega (arith, is)
 few_followed other before give_ups is follows = omega (arith, is)
 
 -- it met no fault of the disk
-pub none_met : (end : RoundEnd) (give_ups : ℕ) → may_follow end give_ups ≡ true → answer_by end ≡ stored.Done
+pub none_met : (end : RoundEnd) (give_ups : ℕ) → round_may_follow end give_ups ≡ true → answer_by end ≡ stored.Done
 none_met round.Done give_ups follows = refl
 none_met round.GaveUp give_ups follows = refl
 none_met round.Flood give_ups follows = refl

@@ -20,7 +20,7 @@ use Rattle.run_output.proofs.Behind.{then_has}
 use Rattle.run_output.proofs.GoodFiles.{IsHindrance, accepted-settles}
 use Rattle.run_output.proofs.Statuses.{attach_ends, call_ends}
 use Rattle.commands.specs.Pause.{pauses_between}
-use Rattle.commands.specs.StayRun.{MayGrow, Standing, give_ups_after, last_output, may_follow, standing, stays, stays_over, tells_round, where_done}
+use Rattle.commands.specs.StayRun.{MayGrow, Standing, give_ups_after, last_output, round_may_follow, standing, stays, stays_over, tells_round, where_done}
 use Rattle.commands.proofs.CaughtUp.{IsSettled, recovers_rows}
 
 -- all rounds were made, the line was dead, or the archive is full; or else a fault of the outside or want of memory ended it
@@ -49,7 +49,7 @@ hindered status (inl fault) = inr (inr (inr (inr (inl fault))))
 hindered status (inr none) = short_ends status none
 
 -- what is given of a round that no other follows
-last_ends : (end : RoundEnd) (give_ups : ℕ) (report : Report) (made : ℕ) → may_follow end give_ups ≡ false → IsStayEnd (last_output end report made).status
+last_ends : (end : RoundEnd) (give_ups : ℕ) (report : Report) (made : ℕ) → round_may_follow end give_ups ≡ false → IsStayEnd (last_output end report made).status
 last_ends round.Done give_ups report made last = absurd (let never : true ≡ false = last in cc)
 last_ends round.Flood give_ups report made last = absurd (let never : true ≡ false = last in cc)
 last_ends round.GaveUp give_ups report made last = inr (inl refl)
@@ -60,7 +60,7 @@ last_ends round.Stale give_ups report made last = short_ends ends.OutOfMemory re
 last_ends round.OutOfMemory give_ups report made last = short_ends ends.OutOfMemory refl
 
 told_ends : {S : Type 0} (outlet : Outlet S) (follows : Bool) (end : RoundEnd) (give_ups : ℕ) (report : Report) (made : ℕ) (old : S) (answer : Result (Unit {0}) Output)
-    (new : S) → may_follow end give_ups ≡ follows → tells_round follows outlet end report made old answer new → IfErr answer (λ output. IsStayEnd output.status)
+    (new : S) → round_may_follow end give_ups ≡ follows → tells_round follows outlet end report made old answer new → IfErr answer (λ output. IsStayEnd output.status)
 told_ends outlet true end give_ups report made old answer new is did = elim did.written [
   | inl done ↦ rw done.0 tt
   | inr fault ↦ rw fault.0 (inr (inr (inr (inr (inr (inl refl))))))
@@ -89,7 +89,7 @@ rounds_end {F} {K} {L} {D} m waits (suc left) made began old new result did =
     (λ output w one. short_ends output.status (ap (λ (o : Output). o.status) one.0))
     (λ _ ready one. then_has Q _ _ ready new result
     (λ output w two. given_ends _ output two.answer two.given
-    (told_ends m.outlet (may_follow two.end (give_ups_after two.end began.give_ups)) two.end (give_ups_after two.end began.give_ups) two.report made ready.out two.answer w.out
+    (told_ends m.outlet (round_may_follow two.end (give_ups_after two.end began.give_ups)) two.end (give_ups_after two.end began.give_ups) two.report made ready.out two.answer w.out
     refl two.told))
     (λ later told two. then_has Q _ _ told new result
     (λ output w three. pause_ends m.traffic waits left _ told.link w.link output three.0)

@@ -21,7 +21,7 @@ use Rattle.run_output.specs.declared.status.Status.TheVariants as ends
 use Rattle.run_output.proofs.CallCauses.{IsQuiet, LinkCauses, attaches_causes, by_link, calls_causes, quiet_causes, settles_causes}
 use Rattle.run_output.proofs.Causes.{Causes, none_well, same_count, then_causes}
 use Rattle.commands.specs.Pause.{pauses_between}
-use Rattle.commands.specs.StayRun.{Standing, give_ups_after, may_follow, puts, standing, stay_round, stayed, stayed_line, stays, stays_over, tells_round, where_done}
+use Rattle.commands.specs.StayRun.{Standing, give_ups_after, round_may_follow, puts, standing, stay_round, stayed, stayed_line, stays, stays_over, tells_round, where_done}
 use Rattle.commands.proofs.RecoveryLaws.{recovers_causes}
 use Rattle.commands.proofs.Rounds.{round_well}
 
@@ -77,12 +77,12 @@ last_as outlet round.DiskFault report made old answer new did =
 last_as outlet end report made old answer new did =
     given_as outlet end _ old answer new (λ is. cc) (λ is. cc) (λ is. absurd cc) (λ is. absurd cc) (λ _ is. cc) did
 
-none_on_disk : (end : RoundEnd) (give_ups : ℕ) → may_follow end give_ups ≡ true → end ≢ round.DiskFault
+none_on_disk : (end : RoundEnd) (give_ups : ℕ) → round_may_follow end give_ups ≡ true → end ≢ round.DiskFault
 none_on_disk round.DiskFault give_ups follows = absurd cc
 none_on_disk other give_ups follows = λ is. cc
 
 told_as : {S : Type 0} (outlet : Outlet S) (follows : Bool) (end : RoundEnd) (give_ups : ℕ) (report : Report) (made : ℕ) (old : S) (answer : Result (Unit {0}) Output)
-    (new : S) → may_follow end give_ups ≡ follows → tells_round follows outlet end report made old answer new → TellsAs outlet end old answer new
+    (new : S) → round_may_follow end give_ups ≡ follows → tells_round follows outlet end report made old answer new → TellsAs outlet end old answer new
 told_as outlet true end give_ups report made old answer new follows did = put_as outlet end _ old answer new (none_on_disk end give_ups follows) did
 told_as outlet false end give_ups report made old answer new follows did = last_as outlet end report made old answer new did
 
@@ -98,7 +98,7 @@ of_step a status (Err output) is = is
 -- a round of a stay
 pub stay_round_causes : {F K L D : Type 0} (m : Meanings F K L D) (made : ℕ) (began : Standing) → Causes m (stay_round m made began)
 stay_round_causes {F} {K} {L} {D} m made began old new result did =
-    let says = told_as m.outlet (may_follow did.end (give_ups_after did.end began.give_ups)) did.end (give_ups_after did.end began.give_ups) did.report made old.out
+    let says = told_as m.outlet (round_may_follow did.end (give_ups_after did.end began.give_ups)) did.end (give_ups_after did.end began.give_ups) did.report made old.out
     did.answer new.out refl did.told in
     let to = λ (status : Status) (by : EndsBy status result). as_step _ status did.answer (subst (λ (r : Result Standing Output). EndsBy status r) did.given by) in
     let from = λ (status : Status) (by : EndsBy status did.answer). subst (λ (r : Result Standing Output). EndsBy status r) (sym did.given) (of_step _ status did.answer by) in

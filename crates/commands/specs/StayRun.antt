@@ -4,7 +4,7 @@ use Rattle.std.specs.Prelude.{ℕ, zero, suc, ◌≡◌, ◌⊎◌, ◌+◌, Boo
 use Rattle.std.specs.Prelude.{Ok, Err, IfErr, IsSomeAnd}
 use Rattle.std.specs.Io.KnownBytes.{Appends}
 use Rattle.std.specs.declared.result.Result.{Result}
-use Rattle.archive_copy.specs.Answers.{CanBeAddedTo}
+use Rattle.batch_adding.specs.Opening.{CanBeAddedTo}
 use Rattle.causes.specs.Cause.{Cause}
 use Rattle.causes.specs.Written.{WritesPart}
 use Rattle.disk_model.specs.Medium.{Medium}
@@ -56,11 +56,11 @@ give_ups_after round.GaveUp before = before + 1
 give_ups_after other before = 0
 
 -- whether a round that ended so may be followed by another, where so many in a row gave up
-abbrev pub may_follow : RoundEnd → ℕ → Bool
-may_follow round.Done give_ups = true
-may_follow round.GaveUp give_ups = nat_lt give_ups most_give_ups
-may_follow round.Flood give_ups = true
-may_follow other give_ups = false
+abbrev pub round_may_follow : RoundEnd → ℕ → Bool
+round_may_follow round.Done give_ups = true
+round_may_follow round.GaveUp give_ups = nat_lt give_ups most_give_ups
+round_may_follow round.Flood give_ups = true
+round_may_follow other give_ups = false
 
 -- what is written last of a round that ended so, after so many others; one that ends by the first two has no line
 abbrev pub last_output : RoundEnd → Report → ℕ → Output
@@ -119,7 +119,7 @@ pub record stay_round {F K L D : Type 0} (m : Meanings F K L D) (made : ℕ) (be
   pub leaves : LeavesRound m.medium end (round_host began.session old.link old.disk)
       (round_host ended new.link new.disk) report.attempts
   pub answer : Result (Unit {0}) Output
-  pub told : tells_round (may_follow end (give_ups_after end began.give_ups)) m.outlet end report made old.out answer new.out
+  pub told : tells_round (round_may_follow end (give_ups_after end began.give_ups)) m.outlet end report made old.out answer new.out
   pub given : result ≡ where_done (standing ended (give_ups_after end began.give_ups)
       (rows_after_batches (session_settings began.session) began.rows (all_batches (last_row_stamp began.rows) serves.tries))) answer
   pub alone : new ≡ record old { link = new.link; disk = new.disk; out = new.out }

@@ -1,6 +1,6 @@
 ghost use Rattle.std.specs.Prelude.{◌≡◌, ◌≢◌, ◌+◌, ◌<◌, ◌≤◌, ◌^◌, false, List, IfOk, IfErr, length};
 ghost use Rattle.command_words.specs.Command.{station_names};
-ghost use Rattle.commands.specs.StayRun.{give_ups_after, may_follow, puts, standing, stay_round, stayed_line, stays, stays_over, tells_round, with_rows};
+ghost use Rattle.commands.specs.StayRun.{give_ups_after, round_may_follow, puts, standing, stay_round, stayed_line, stays, stays_over, tells_round, with_rows};
 ghost use Rattle.disk_model.specs.Disk.{MayBegin};
 ghost use Rattle.run_output.specs.Output.{led_by, no_memory};
 ghost use Rattle.run_output.specs.Outside.{means};
@@ -148,7 +148,7 @@ fn tell_round<K: Sink>(
 ) -> Result<(), Ending>
     requires fresh { end ≢ RoundEnd.Stale }
     requires few { made < MOST_ROUNDS }
-    ensures { tells_round (may_follow end give_ups) K.outlet end report.now made out.old result out.new }
+    ensures { tells_round (round_may_follow end give_ups) K.outlet end report.now made out.old result out.new }
 {
     if let RoundEnd::OutOfMemory = end {
         return Err(ended_after(made, b"", Status::OutOfMemory));
@@ -157,7 +157,7 @@ fn tell_round<K: Sink>(
     let mut text = Text::new();
     push_attempts(&mut text, 1, &report.troubles);
     push_round(&mut text, word, report);
-    if may_follow(end, give_ups) {
+    if round_may_follow(end, give_ups) {
         return put_lines(&text, out);
     }
     push_stayed(&mut text, made + 1);
@@ -166,8 +166,8 @@ fn tell_round<K: Sink>(
 }
 
 // Whether a round that ended so may be followed by another, where so many in a row gave up.
-fn may_follow(end: RoundEnd, give_ups: u32) -> bool
-    ensures { result ≡ may_follow end give_ups }
+fn round_may_follow(end: RoundEnd, give_ups: u32) -> bool
+    ensures { result ≡ round_may_follow end give_ups }
 {
     match end {
         RoundEnd::Done | RoundEnd::Flood => true,

@@ -6,7 +6,7 @@ use Rattle.packed_rows.specs.Rising.{last_row_stamp}
 use Rattle.station_session.specs.Attempts.{all_batches}
 use Rattle.station_session.specs.Holding.{rows_after_batches}
 use Rattle.station_session.specs.Session.{session_settings}
-use Rattle.commands.specs.StayRun.{may_follow}
+use Rattle.commands.specs.StayRun.{round_may_follow}
 use Rattle.commands.specs.declared.staying.Series.{Series}
 use Rattle.commands.proofs.RoundTold.{few_followed, followed, none_met}
 use Rattle.commands.proofs.staying.make_round.Goals as goal
@@ -39,7 +39,7 @@ pub returns-clause-round : goal.returns-clause-round
 returns-clause-round g c rows stands =
     let e = c.round-end.ensures in
     let serves = e.serves rows stands.stands_for in
-    let follows = followed g.K.Sink.outlet (may_follow c.round-end.result c.give_ups_after-give_ups.result) c.round-end.result c.round-end.new.report c.args.made
+    let follows = followed g.K.Sink.outlet (round_may_follow c.round-end.result c.give_ups_after-give_ups.result) c.round-end.result c.round-end.new.report c.args.made
     c.args.outside.now.out c.tell_round.new.out c.tell_round.result c.tell_round.ensures c.in_ok-tell_round.was in
     let done = none_met c.round-end.result c.give_ups_after-give_ups.result follows in (
       rows_after_batches (session_settings c.args.series.session) rows (all_batches (last_row_stamp rows) serves.tries),
@@ -63,6 +63,6 @@ returns-clause-round g c rows stands =
 
 pub returns-clause-give_ups : goal.returns-clause-give_ups
 returns-clause-give_ups g c =
-    let follows = followed g.K.Sink.outlet (may_follow c.round-end.result c.give_ups_after-give_ups.result) c.round-end.result c.round-end.new.report c.args.made
+    let follows = followed g.K.Sink.outlet (round_may_follow c.round-end.result c.give_ups_after-give_ups.result) c.round-end.result c.round-end.new.report c.args.made
     c.args.outside.now.out c.tell_round.new.out c.tell_round.result c.tell_round.ensures c.in_ok-tell_round.was in
     few_followed c.round-end.result c.args.series.give_ups c.give_ups_after-give_ups.result c.give_ups_after-give_ups.ensures follows
