@@ -14,7 +14,7 @@ import subprocess
 import sys
 
 TOP = os.path.dirname(os.path.dirname(os.path.realpath(__file__)))
-NOT_TRIED = ('station', 'copy', 'task', 'install', 'uninstall')
+NOT_TRIED = ('station', 'stay', 'copy', 'task', 'install', 'uninstall')
 TAKEN = ('.', '..', 'program', 'stdin', 'stdout', 'stderr')  # names in the folder that the program runs in
 
 STEPS = 1  # of the toolchain's interpreter, which few commands can run on

@@ -14,7 +14,7 @@ use Rattle.command_words.specs.declared.words.ConsoleWords.{ConsoleWords}
 use Rattle.command_words.specs.declared.words.FleetWords.{FleetWords}
 use Rattle.command_words.specs.declared.words.StationWords.{StationWords}
 
--- what the words of `station` name
+-- what the words of `station` and of `stay` name
 pub record StationNames : Type 0 where
   pub settings : List ℕ
   pub archive : List ℕ
@@ -45,6 +45,7 @@ pub data CommandLine : Type 0 where
   replay : List ℕ → List ℕ → CommandLine
   copy : List ℕ → List ℕ → CommandLine
   station : StationNames → CommandLine
+  stay : StationNames → ℕ → ℕ → CommandLine
   console : ConsoleNames → CommandLine
   fleet : FleetNames → CommandLine
   make : ℕ → ℕ → CommandLine
@@ -100,6 +101,14 @@ station_in (settings ∷ archive ∷ address ∷ []) =
     Some (station (record { settings = settings; archive = archive; address = address }))
 station_in words = None
 
+-- `SETTINGS ARCHIVE ADDRESS ROUNDS WAITS`, with 1 to 1,000,000 rounds, and 0 to 1,000,000 waits between two of them
+unfoldable pub stay_in : List (List ℕ) → Option CommandLine
+stay_in (settings ∷ archive ∷ address ∷ number ∷ count ∷ []) = do
+  rounds ← command_number_within 1 1000000 number
+  waits ← command_number_within 0 1000000 count
+  Some (stay (record { settings = settings; archive = archive; address = address }) rounds waits)
+stay_in words = None
+
 -- `SETTINGS SCHEDULE ADDRESS TURNS`, with 1 to 1,000,000 turns
 abbrev pub console_in : List (List ℕ) → Option CommandLine
 console_in (settings ∷ schedule ∷ address ∷ turns ∷ []) =
@@ -136,12 +145,13 @@ command_of_words (command ∷ words) =
     else if bytes_eq command (codes "replay") then replay_in words
     else if bytes_eq command (codes "copy") then copy_in words
     else if bytes_eq command (codes "station") then station_in words
+    else if bytes_eq command (codes "stay") then stay_in words
     else if bytes_eq command (codes "console") then console_in words
     else if bytes_eq command (codes "fleet") then fleet_in words
     else if bytes_eq command (codes "make") then make_in words
     else None
 
--- the names that the words of `station` lend, as their bytes
+-- the names that the words of `station` and of `stay` lend, as their bytes
 abbrev pub station_names : StationWords → StationNames
 station_names words =
     record { settings = words.settings.now; archive = words.archive.now; address = words.address.now }
@@ -173,6 +183,7 @@ command_read (read.Serve archive address turns) = serve archive.now address.now 
 command_read (read.Replay settings schedule) = replay settings.now schedule.now
 command_read (read.Copy from to) = copy from.now to.now
 command_read (read.Station words) = station (station_names words)
+command_read (read.Stay words rounds waits) = stay (station_names words) rounds waits
 command_read (read.Console words) = console (console_names words)
 command_read (read.Fleet words) = fleet (fleet_names words)
 command_read (read.Make seed records) = make seed records

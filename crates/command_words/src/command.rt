@@ -17,6 +17,12 @@ const MOST_MADE: u64 = 5_000;
 // The most turns for which a console, or an archive, is served.
 const MOST_TURNS: u64 = 1_000_000;
 
+// The most rounds of a stay.
+const MOST_ROUNDS: u64 = 1_000_000;
+
+// The most quiet waits between two rounds of a stay.
+const MOST_WAITS: u64 = 1_000_000;
+
 // The years of the archive days that stamps have.
 const FIRST_YEAR: u64 = 1999;
 
@@ -87,6 +93,15 @@ pub enum Command<'a> {
     },
     /// `station SETTINGS ARCHIVE ADDRESS`: one round of catching up with a console.
     Station(StationWords<'a>),
+    /// `stay SETTINGS ARCHIVE ADDRESS ROUNDS WAITS`: rounds of catching up with a console over one line.
+    Stay {
+        /// What is named as for one round.
+        names: StationWords<'a>,
+        /// How many rounds are made at most, from 1 to 1,000,000.
+        rounds: u32,
+        /// How many quiet waits pass between two of them, up to 1,000,000.
+        waits: u32,
+    },
     /// `console SETTINGS SCHEDULE ADDRESS TURNS`: a new modelled console, served at an address.
     Console(ConsoleWords<'a>),
     /// `fleet SETTINGS SEED SCHEDULE ..`: the runs of one to eight schedules, turn by turn in an order that a number draws.
@@ -120,6 +135,7 @@ impl<'a> Command<'a> {
             "replay" => read_replay(more),
             "copy" => read_copy(more),
             "station" => read_station(more),
+            "stay" => read_stay(more),
             "console" => read_console(more),
             "fleet" => read_fleet(more),
             "make" => read_make(more),
@@ -128,7 +144,7 @@ impl<'a> Command<'a> {
     }
 }
 
-ghost use Rattle.command_words.specs.Command.{climate_in, command_read, console_in, copy_in, fleet_in, command_line_of, make_in, pages_command_in, replay_in, report_in, serve_in, soft_in, station_in, task_in, texts};
+ghost use Rattle.command_words.specs.Command.{climate_in, command_read, console_in, copy_in, fleet_in, command_line_of, make_in, pages_command_in, replay_in, report_in, serve_in, soft_in, station_in, stay_in, task_in, texts};
 ghost use Rattle.command_words.specs.Possible.{IsPossible};
 
 // `FILE`, or `SETTINGS FILE`.
@@ -246,6 +262,28 @@ fn read_station<'a>(words: &[&'a str]) -> Option<Command<'a>>
         archive,
         address,
     }))
+}
+
+// `SETTINGS ARCHIVE ADDRESS ROUNDS WAITS`.
+#[tactic(auto, unfolding(crate::specs::Command::stay_in))]
+fn read_stay<'a>(words: &[&'a str]) -> Option<Command<'a>>
+    ensures command { command_line_of result ≡ stay_in (texts words.now) }
+    ensures possible { IfSome result (λ command. IsPossible (command_read command)) }
+{
+    let [settings, archive, address, rounds, waits] = *words else {
+        return None;
+    };
+    let rounds = read_within(rounds, 1, MOST_ROUNDS)? as u32;
+    let waits = read_within(waits, 0, MOST_WAITS)? as u32;
+    Some(Command::Stay {
+        names: StationWords {
+            settings,
+            archive,
+            address,
+        },
+        rounds,
+        waits,
+    })
 }
 
 // `SETTINGS SCHEDULE ADDRESS TURNS`.

@@ -3,7 +3,7 @@ use arrayvec::ArrayVec;
 /// The most schedules of a fleet, one for each station.
 pub const MOST_SCHEDULES: usize = 8;
 
-/// What the words `station SETTINGS ARCHIVE ADDRESS` name.
+/// What the words `station SETTINGS ARCHIVE ADDRESS` name, and those of `stay` too.
 #[derive(Clone, Copy, Debug)]
 pub struct StationWords<'a> {
     /// The name of the settings file.

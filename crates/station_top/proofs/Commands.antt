@@ -1,6 +1,6 @@
 -- The faults by which a command ends have causes.
 use Rattle.std.proofs.Common.{[], ◌∷◌, refl}
-use Rattle.command_words.specs.Command.{CommandLine, pages, corrected_pages, soft, task, report, climate, serve, replay, copy, station, console, fleet, make}
+use Rattle.command_words.specs.Command.{CommandLine, pages, corrected_pages, soft, task, report, climate, serve, replay, copy, station, stay, console, fleet, make}
 use Rattle.commands.specs.Style.{short}
 use Rattle.commands.proofs.AnswerLaws.{answers_over_causes}
 use Rattle.commands.proofs.ClimateLaws.{tells_climate_causes}
@@ -9,6 +9,7 @@ use Rattle.commands.proofs.PageLaws.{prints_corrected_causes, prints_file_causes
 use Rattle.commands.proofs.ReportLaws.{reports_on_causes}
 use Rattle.commands.proofs.SoftLaws.{prints_soft_causes}
 use Rattle.commands.proofs.StationLaws.{catches_up_causes}
+use Rattle.commands.proofs.StayLaws.{stays_over_causes}
 use Rattle.commands.proofs.TaskLaws.{calls_for_causes}
 use Rattle.model_commands.proofs.ConsoleLaws.{serves_files_causes}
 use Rattle.model_commands.proofs.FleetLaws.{fleets_causes}
@@ -31,6 +32,7 @@ performs_causes m (serve archive address turns) = answers_over_causes m archive 
 performs_causes m (replay settings schedule) = among m (WriteFault ∷ []) _ refl (replays_files_causes m settings schedule)
 performs_causes m (copy from to) = among m (WriteFault ∷ []) _ refl (copies_on_causes m from to)
 performs_causes m (station names) = among m (WriteFault ∷ []) _ refl (catches_up_causes m names)
+performs_causes m (stay names rounds waits) = among m (WriteFault ∷ []) _ refl (stays_over_causes m names rounds waits)
 performs_causes m (console names) = among m (WriteFault ∷ []) _ refl (serves_files_causes m names)
 performs_causes m (fleet names) = among m (WriteFault ∷ []) _ refl (fleets_causes m names)
 performs_causes m (make seed records) = among m (WriteFault ∷ []) _ refl (makes_run_causes m seed records)

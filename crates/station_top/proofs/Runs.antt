@@ -4,7 +4,7 @@ use Rattle.std.specs.Prelude.{IfNone, IfSome}
 use Rattle.std.specs.declared.option.Option.{Option}
 use Rattle.std.specs.declared.result.Result.{Result}
 use Rattle.causes.specs.Cause.{Cause}
-use Rattle.command_words.specs.Command.{CommandLine, pages, corrected_pages, soft, task, report, climate, serve, replay, copy, station, console, fleet, make}
+use Rattle.command_words.specs.Command.{CommandLine, pages, corrected_pages, soft, task, report, climate, serve, replay, copy, station, stay, console, fleet, make}
 use Rattle.commands.specs.StationRun.{ShowsCaughtUp}
 use Rattle.commands.specs.Style.{short}
 use Rattle.commands.specs.TaskRun.{ShowsDone}
@@ -16,6 +16,7 @@ use Rattle.commands.proofs.PageLaws.{done_or_hindered, prints_corrected_complete
 use Rattle.commands.proofs.ReportLaws.{reported, reports_on_complete}
 use Rattle.commands.proofs.SoftLaws.{prints_soft_complete}
 use Rattle.commands.proofs.StationLaws.{catches_up_complete}
+use Rattle.commands.proofs.StayEnds.{stay_ends, stays_over_ends}
 use Rattle.commands.proofs.TaskLaws.{calls_for_done, calls_for_shortage}
 use Rattle.model_commands.specs.ConsoleRun.{IsUntouchedOrShort}
 use Rattle.model_commands.proofs.ConsoleLaws.{served, serves_files_complete, serves_files_shortage}
@@ -124,6 +125,8 @@ module _ {F K L D : Type 0} (m : Meanings F K L D) (words : Option CommandLine) 
   promised (copy from to) did = λ good. within reported (inr (inr (inl refl))) (copies_on_complete m from to old ran.mid ran.ended good did)
   promised (station names) did = λ accepted shown. within settled (inr (inr (inr (inr (inl refl))))) (catches_up_complete m names old ran.mid ran.ended
       accepted (subst (λ (l : L). ShowsCaughtUp m.traffic m.medium old.disk old.link l) link shown) did)
+  promised (stay names rounds waits) did = λ accepted grows. within stay_ends (inr (inr (inr (inr (inr (inl refl))))))
+      (stays_over_ends m names rounds waits old ran.mid ran.ended accepted grows did)
   promised (console names) did = record {
     served = λ good. within served (inr (inr (inr (inl refl)))) (serves_files_complete m names old ran.mid ran.ended good did);
     shortage = λ twelve. subst (λ (l : L). IsUntouchedOrShort m.traffic old.link l) (sym link)

@@ -7,7 +7,7 @@ use Rattle.serial_link.specs.Traffic.{Traffic}
 use Rattle.station_io.specs.Sink.{Outlet}
 use Rattle.command_words.specs.declared.task.Task.{Task}
 use Rattle.command_words.specs.Command.{CommandLine, ConsoleNames, pages, corrected_pages, soft, task, report, climate, serve, replay, copy, station}
-use Rattle.command_words.specs.Command.{console, fleet, make}
+use Rattle.command_words.specs.Command.{console, fleet, make, stay}
 use Rattle.commands.specs.AnswerRun.{answers_over}
 use Rattle.commands.specs.ClimateRun.{tells_climate}
 use Rattle.commands.specs.CopyRun.{TellArchives, copies_on}
@@ -16,6 +16,7 @@ use Rattle.commands.specs.PageRun.{prints_corrected, prints_file}
 use Rattle.commands.specs.ReportRun.{TellsArchive, reports_on}
 use Rattle.commands.specs.SoftRun.{HasEntries, prints_soft}
 use Rattle.commands.specs.StationRun.{ShowsCaughtUp, catches_up}
+use Rattle.commands.specs.StayRun.{MayGrow, stays_over}
 use Rattle.commands.specs.Style.{short}
 use Rattle.commands.specs.TaskRun.{ShowsDone, calls_for}
 use Rattle.model_commands.specs.ConsoleRun.{IsUntouchedOrShort, serves_files}
@@ -52,6 +53,7 @@ performs m (serve archive address turns) = answers_over m archive address turns
 performs m (replay settings schedule) = replays_files m settings schedule
 performs m (copy from to) = copies_on m from to
 performs m (station names) = catches_up m names
+performs m (stay names rounds waits) = stays_over m names rounds waits
 performs m (console names) = serves_files m names
 performs m (fleet names) = fleets m names
 performs m (make seed records) = makes_run seed records
@@ -95,7 +97,8 @@ pub record ConsolePromises {F K L D : Type 0} (m : Meanings F K L D) (names : Co
   pub shortage : result ≡ 12 → IsUntouchedOrShort m.traffic old.link new.link
 
 -- What a command comes to by good input, or by a talk that shows it: it is done, a schedule, or each one of a fleet, is replayed to its
--- end or to a delivery that was unseen, and only such a fault of the outside or want of memory keeps the command from that.
+-- end or to a delivery that was unseen, and only such a fault of the outside or want of memory keeps the command from that. A stay may end
+-- too with a dead line or a full archive.
 abbrev pub Promises : {F K L D : Type 0} → Meanings F K L D → CommandLine → Outside F K L D → Outside F K L D → ℕ → Type 0
 Promises m (pages file) old new result =
     IsSomeAnd (m.shelf.held old.files file) IsGoodFile → IsOneOf (0 ∷ 8 ∷ 9 ∷ 12 ∷ []) result
@@ -118,6 +121,9 @@ Promises m (copy from to) old new result =
 Promises m (station names) old new result =
     IsSomeAnd (m.shelf.held old.files names.settings) SettingsAreAccepted
     → ShowsCaughtUp m.traffic m.medium old.disk old.link new.link → IsOneOf (0 ∷ 6 ∷ 7 ∷ 8 ∷ 9 ∷ 12 ∷ []) result
+Promises m (stay names rounds waits) old new result =
+    IsSomeAnd (m.shelf.held old.files names.settings) SettingsAreAccepted
+    → MayGrow m.medium old.disk → IsOneOf (0 ∷ 4 ∷ 6 ∷ 7 ∷ 8 ∷ 9 ∷ 10 ∷ 12 ∷ []) result
 Promises m (console names) old new result = ConsolePromises m names old new result
 Promises m (fleet names) old new result =
     HasGoodFleet m.shelf names old.files → IsOneOf (0 ∷ 5 ∷ 8 ∷ 9 ∷ 12 ∷ []) result

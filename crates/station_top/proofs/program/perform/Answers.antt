@@ -21,6 +21,9 @@ returns-in-Some-Copy g c = rw c.in-Some-Copy.is (rw c.in-Some-Copy.field-0-is c.
 pub returns-in-Some-Station : goal.returns-in-Some-Station
 returns-in-Some-Station g c = rw c.in-Some-Station.is (rw c.in-Some-Station.field-0-is c.catch_up.ensures)
 
+pub returns-in-Some-Stay : goal.returns-in-Some-Stay
+returns-in-Some-Stay g c = rw c.in-Some-Stay.is (rw c.in-Some-Stay.field-0-is c.stay.ensures)
+
 pub returns-in-Some-Console : goal.returns-in-Some-Console
 returns-in-Some-Console g c = rw c.in-Some-Console.is (rw c.in-Some-Console.field-0-is c.serve_files.ensures)
 
