@@ -18,7 +18,7 @@ use Rattle.station_session.specs.Attempts.{Tried, all_said, page_count, skip_cou
 use Rattle.station_session.specs.Batches.{kept_count, kept_records}
 use Rattle.station_session.specs.Records.{stored_rows}
 use Rattle.station_replay.specs.Keeping.{Archive}
-use Rattle.station_replay.specs.Replay.{Does, IsBroken, IsReplay, IsRound, Item, Opens, Rounded, Runs, Stage, after_round, closing_items, opening_if_closed, is_stop, left_by_round, opened}
+use Rattle.station_replay.specs.Replay.{Does, IsBroken, IsReplay, IsRound, IsUnseen, IsWhole, Item, Opens, Rounded, Runs, Stage, after_round, closing_items, opening_if_closed, is_stop, left_by_round, opened}
 use Rattle.station_replay.specs.Round.{Attempted, Ending, finished, tried_of}
 use Rattle.schedule_file.specs.declared.schedule.step.Stop.{Stop}
 use Rattle.station_replay.specs.Schedule.{ReplayStep}
@@ -299,7 +299,24 @@ module _ (settings : StationSettings) where
       ap text items ∙ (text_join now rest ∙ (ap (λ (t : List ℕ). t ++ text rest) same.0
       ∙ (ap (λ (t : List ℕ). text here ++ t) (one_comes xs mid rest later more from) ∙ (sym (text_join here later) ∙ sym (ap text all)))))
 
+  -- what leads up to an unseen delivery goes on to no end
+  never_both : {A : Type 0} (xs ys : List ReplayStep) (f : Fates) (left : ℕ → List (List ℕ)) (stop : Option Stop) (s : Stage)
+      (is js : List Item) (u v : Stage) (i : Item) → Runs settings (xs ++ ReplayStep.Round f left stop ∷ ys) s is u → Runs settings xs s js v
+      → IsBroken settings f stop (opened v.is_open v) i → A
+  never_both [] ys f left stop s is js u v i (mid, now, rest, items, does, more) none broken =
+      no_both f left stop (opened s.is_open s) mid i does.0 (subst (λ (z : Stage). IsBroken settings f stop (opened z.is_open z) i) none.1 broken) does.1
+  never_both (x ∷ xs) ys f left stop s is js u v i (mid, now, rest, items, does, more) (at, here, later, all, acts, others) broken =
+      let same = same_does x s now here mid at does acts in
+      never_both xs ys f left stop mid rest later u v i more (subst (λ (z : Stage). Runs settings xs z later v) (sym same.1) others) broken
+
 pub one_text : (settings : StationSettings) (from : Stage) (steps : List ReplayStep) (o other : List Item) → IsReplay settings from steps o
     → IsReplay settings from steps other → text o ≡ text other
 one_text settings from steps o other one two =
     one_comes settings steps from o other (replay_comes settings from steps o one) (replay_comes settings from steps other two)
+
+-- no schedule has a run that comes to its end, and one that comes to an unseen delivery
+pub not_both : {A : Type 0} (settings : StationSettings) (from : Stage) (steps : List ReplayStep) (o other : List Item)
+    → IsWhole settings from steps o → IsUnseen settings from steps other → A
+not_both settings from steps o other whole unseen =
+    never_both settings unseen.before unseen.behind unseen.fates unseen.left unseen.stop from whole.given unseen.given whole.last unseen.last unseen.unsaid
+    (subst (λ (z : List ReplayStep). Runs settings z from whole.given whole.last) unseen.steps_are whole.runs) unseen.runs unseen.broken

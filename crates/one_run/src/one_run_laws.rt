@@ -7,7 +7,7 @@ ghost use Rattle.station_sim.specs.Line.{Line};
 ghost use Rattle.schedule_file.specs.declared.schedule.step.Stop.{Stop};
 ghost use Rattle.station_replay.specs.Schedule.{ReplayStep};
 ghost use Rattle.station_replay.specs.Keeping.{Archive};
-ghost use Rattle.station_replay.specs.Replay.{IsReplay, Item, Stage};
+ghost use Rattle.station_replay.specs.Replay.{IsReplay, IsUnseen, IsWhole, Item, Stage};
 ghost use Rattle.one_run.specs.SameTried.{SameTried, TriesOver};
 ghost use Rattle.station_replay.specs.Texts.{text};
 
@@ -25,4 +25,10 @@ pub fn an_attempt_is_fixed()
 pub fn a_run_has_one_text()
     ensures { (settings : StationSettings) (from : Stage) (steps : List ReplayStep) (o other : List Item)
         → IsReplay settings from steps o → IsReplay settings from steps other → text o ≡ text other }
+{}
+
+/// All runs of a schedule are of one kind: if one comes to its end, none comes to an unseen delivery.
+pub fn a_run_has_one_kind()
+    ensures { (settings : StationSettings) (from : Stage) (steps : List ReplayStep) (o other : List Item)
+        → IsWhole settings from steps o → IsUnseen settings from steps other → ⊥ }
 {}
