@@ -1,9 +1,13 @@
 pub mod BeforeRounds
+pub mod BlankPackets
 pub mod ConsoleLaws
 pub mod FleetLaws
+pub mod FleetReplays
+pub mod FleetTexts
 pub mod GoodSchedule
 pub mod MakeLaws
 pub mod NewStations
+pub mod OneReplay
 pub mod Readied
 pub mod ReplayLaws
 pub mod Replays

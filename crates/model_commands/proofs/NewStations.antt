@@ -8,6 +8,7 @@ use Rattle.schedule_file.specs.declared.schedule.Schedule.{Schedule}
 use Rattle.settings_file.specs.StationSettings.{StationSettings}
 use Rattle.station_fleet.specs.StationTurns.{station_turning}
 use Rattle.station_fleet.specs.declared.station.Station.{Station}
+use Rattle.model_commands.specs.BlankPacket.{blank_packet}
 use Rattle.model_commands.specs.FleetRun.{IsNewStation}
 use Rattle.model_commands.specs.ScheduleReading.{IsFit}
 
@@ -34,7 +35,7 @@ pub few_left : (turns stations : ℕ) → turns ≤ stations * 2 ^ 48 → statio
 few_left turns stations few eight = omega (arith, few, eight)
 
 may_turn_new : (settings : StationSettings) (schedule : Schedule) (s : Station) → IsNewStation settings schedule s → station_turning.may_turn s
-may_turn_new settings schedule s new = (new_memory settings.period, new.packet, [], new.before, new.made, new.stands.stands)
+may_turn_new settings schedule s new = (new_memory settings.period, blank_packet, [], new.before, new.made, new.stands.stands)
 
 -- each may take a turn
 pub all_may_turn : (settings : StationSettings) (schedules : List Schedule) (stations : List Station)

@@ -4,8 +4,6 @@ use Rattle.std.specs.declared.option.Option.{Option}
 use Rattle.std.specs.declared.result.Result.{Result}
 use Rattle.causes.proofs.WritesInTurn.{writes_nothing}
 use Rattle.eeprom_map.specs.Memory.{new_memory}
-use Rattle.loop_packet.specs.Blank.{PacketIsBlank}
-use Rattle.loop_packet.specs.declared.packet.LoopPacket.{LoopPacket}
 use Rattle.run_output.specs.Ended.{Lines, output_of}
 use Rattle.run_output.specs.Output.{Output, no_memory}
 use Rattle.schedule_replay.specs.Replayed.{ReplayIsCutOff, IsReplayed}
@@ -15,6 +13,7 @@ use Rattle.settings_file.specs.StationSettings.{StationSettings}
 use Rattle.station_io.specs.Sink.{Outlet}
 use Rattle.station_replay.specs.Replay.{Stage, start}
 use Rattle.station_replay.specs.Schedule.{ReplayStep}
+use Rattle.model_commands.specs.BlankPacket.{blank_packet}
 use Rattle.model_commands.specs.ReplayRun.{WritesRun, replays}
 
 -- by each end of a replay what it promises there was written
@@ -39,13 +38,11 @@ not_begun settings from steps known = record {
 }
 
 -- for want of memory it did not begin
-pub replays_nothing : {S : Type 0} (outlet : Outlet S) (settings : StationSettings) (steps : List ReplayStep) (packet : LoopPacket) (out : S)
-    (result : Result Lines Output) → PacketIsBlank packet → output_of result ≡ no_memory → replays outlet settings steps out result out
-replays_nothing outlet settings steps packet out result blank given = record {
-  packet = packet;
-  blank = blank;
+pub replays_nothing : {S : Type 0} (outlet : Outlet S) (settings : StationSettings) (steps : List ReplayStep) (out : S)
+    (result : Result Lines Output) → output_of result ≡ no_memory → replays outlet settings steps out result out
+replays_nothing outlet settings steps out result given = record {
   end = replay_end.OutOfMemory;
-  written = not_begun settings (start (new_memory settings.period) packet) steps (outlet.taken out);
+  written = not_begun settings (start (new_memory settings.period) blank_packet) steps (outlet.taken out);
   cause = record { never_falls = omega arith; rose = λ no. absurd cc };
   still = λ no. refl;
   given = given;

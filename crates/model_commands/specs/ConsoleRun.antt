@@ -12,7 +12,6 @@ use Rattle.console_server.specs.declared.serving.ServeEnd.{ServeEnd}
 use Rattle.console_server.specs.declared.serving.ServeEnd.TheVariants as serve_end
 use Rattle.console_server.specs.declared.serving.Served.{Served}
 use Rattle.eeprom_map.specs.Memory.{new_memory}
-use Rattle.loop_packet.specs.Blank.{PacketIsBlank}
 use Rattle.loop_packet.specs.declared.packet.LoopPacket.{LoopPacket}
 use Rattle.run_output.specs.Calls.{calls}
 use Rattle.run_output.specs.Ended.{Lines, output_of}
@@ -29,6 +28,7 @@ use Rattle.serial_link.specs.Traffic.{Traffic}
 use Rattle.serial_link.specs.declared.link.Side.TheVariants.{Serve}
 use Rattle.station_replay.specs.Schedule.{ReplayStep}
 use Rattle.station_sim.specs.Line.{due_all}
+use Rattle.model_commands.specs.BlankPacket.{blank_packet}
 use Rattle.model_commands.specs.ScheduleReading.{reads_schedule}
 
 -- the console after the steps before the first round: records fell due and ticks passed, and openings change nothing
@@ -65,9 +65,9 @@ served_output serve_end.OutOfMemory count = no_memory
 abbrev pub unserved : Served
 unserved = record { heard = 0; said = 0 }
 
--- a console in memory stands for the one to be served, with a blank packet
+-- a console in memory stands for the one to be served, with the blank packet
 abbrev pub readied : ℕ → List ReplayStep → Console → Type 0
-readied period steps console = (packet : LoopPacket) × PacketIsBlank packet × ConsoleStandsFor console (console_served period packet steps)
+readied period steps console = ConsoleStandsFor console (console_served period blank_packet steps)
 
 -- such a console was made, or there was no memory for it
 abbrev pub readies : {W : Type 0} → ℕ → List ReplayStep → steps.CommandStep W Console

@@ -12,8 +12,6 @@ use Rattle.fleet.specs.FleetEnds.{RunsFleet}
 use Rattle.fleet.specs.declared.member.MemberTurn.TheVariants.{Ended, More}
 use Rattle.fleet.specs.declared.run.FleetEnd.{FleetEnd}
 use Rattle.fleet.specs.declared.run.FleetEnd.TheVariants as fleet_end
-use Rattle.loop_packet.specs.Blank.{PacketIsBlank}
-use Rattle.loop_packet.specs.declared.packet.LoopPacket.{LoopPacket}
 use Rattle.run_output.specs.Ended.{Lines, output_of}
 use Rattle.run_output.specs.Output.{Output, no_memory, write_fault}
 use Rattle.run_output.specs.Outside.{Meanings, over_files, over_out}
@@ -35,6 +33,7 @@ use Rattle.station_io.specs.Files.{Shelf, most_bytes}
 use Rattle.station_io.specs.Sink.{Outlet}
 use Rattle.station_replay.specs.Replay.{start}
 use Rattle.station_sim.specs.declared.sim.Sim.{Sim}
+use Rattle.model_commands.specs.BlankPacket.{blank_packet}
 use Rattle.model_commands.specs.ReplayRun.{IsGoodSchedule}
 use Rattle.model_commands.specs.ScheduleReading.{reads_schedule}
 
@@ -49,18 +48,16 @@ reads_schedules m period given (name ∷ names) old result new =
     then (over_files (reads_schedule m.shelf name period)) (λ schedule.
     then finds_memory (λ _. reads_schedules m period (given ++ schedule ∷ []) names)) old result new
 
--- A station that runs this schedule and has taken no turn. It has a line to a new console of the settings' period, with a blank packet,
+-- A station that runs this schedule and has taken no turn. It has a line to a new console of the settings' period, with the blank packet,
 -- and a new disk that has room for the schedule's records.
 pub record IsNewStation (settings : StationSettings) (schedule : Schedule) (s : Station) : Type 0 where
   pub is_new : RunIsNew s.run
-  pub packet : LoopPacket
-  pub blank : PacketIsBlank packet
   pub before : Sim
   pub made : Stopping MemDisk
-  pub line : LineAt (start (new_memory settings.period) packet) before
-  pub disk : IsNewDisk schedule.records (new_memory settings.period) packet made
+  pub line : LineAt (start (new_memory settings.period) blank_packet) before
+  pub disk : IsNewDisk schedule.records (new_memory settings.period) blank_packet made
   pub stands : StationStands settings
-      (record { eeprom = new_memory settings.period; packet = packet; steps = schedule.steps.items; before = before; made = made }) [] s
+      (record { eeprom = new_memory settings.period; packet = blank_packet; steps = schedule.steps.items; before = before; made = made }) [] s
 
 -- a station is made for each schedule, or there is no memory for them
 abbrev pub makes_stations : {W : Type 0} → StationSettings → List Schedule → steps.CommandStep W (Vec Station)

@@ -1,4 +1,6 @@
+pub mod BlankPacket
 pub mod ConsoleRun
+pub mod FleetPrints
 pub mod FleetRun
 pub mod MakeRun
 pub mod ReplayRun

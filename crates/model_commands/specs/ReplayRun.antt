@@ -4,8 +4,6 @@ use Rattle.std.specs.declared.option.Option.{Option}
 use Rattle.std.specs.declared.result.Result.{Result}
 use Rattle.causes.specs.Cause.{Cause}
 use Rattle.eeprom_map.specs.Memory.{new_memory}
-use Rattle.loop_packet.specs.Blank.{PacketIsBlank}
-use Rattle.loop_packet.specs.declared.packet.LoopPacket.{LoopPacket}
 use Rattle.run_output.specs.Ended.{Lines, output_of}
 use Rattle.run_output.specs.Output.{Output}
 use Rattle.run_output.specs.Outside.{Meanings, over_files, over_out}
@@ -25,6 +23,7 @@ use Rattle.station_io.specs.Files.{Shelf, most_bytes}
 use Rattle.station_io.specs.Sink.{Outlet}
 use Rattle.station_replay.specs.Replay.{Stage, start}
 use Rattle.station_replay.specs.Schedule.{ReplayStep}
+use Rattle.model_commands.specs.BlankPacket.{blank_packet}
 use Rattle.model_commands.specs.ScheduleReading.{reads_schedule}
 
 -- the status of a run whose replay ended so
@@ -40,14 +39,12 @@ WritesRun replay_end.Done settings from steps old new = IsReplayed false setting
 WritesRun replay_end.Unseen settings from steps old new = IsReplayed true settings from steps old new
 WritesRun other settings from steps old new = ReplayIsCutOff settings from steps old new
 
--- The steps were run over a new console of the settings' period, with a blank packet, and an archive that was never
+-- The steps were run over a new console of the settings' period, with the blank packet, and an archive that was never
 -- opened. What is kept of the run is written, or a prefix of it, and no last line is left.
 pub record replays {S : Type 0} (outlet : Outlet S) (settings : StationSettings) (steps : List ReplayStep)
     (old : S) (result : Result Lines Output) (new : S) : Type 0 where
-  pub packet : LoopPacket
-  pub blank : PacketIsBlank packet
   pub end : ReplayEnd
-  pub written : WritesRun end settings (start (new_memory settings.period) packet) steps (outlet.taken old) (outlet.taken new)
+  pub written : WritesRun end settings (start (new_memory settings.period) blank_packet) steps (outlet.taken old) (outlet.taken new)
   pub cause : Cause (outlet.faults old) (outlet.faults new) (end ≡ replay_end.WriteFault)
   pub still : end ≢ replay_end.WriteFault → outlet.faults new ≡ outlet.faults old
   pub given : output_of result ≡ record { text = []; status = replay_status end }

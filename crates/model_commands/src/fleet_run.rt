@@ -7,11 +7,11 @@ ghost use Rattle.run_output.specs.Outside.{means};
 ghost use Rattle.station_fleet.specs.StationTurns.{station_turning};
 
 use crate::judging::read_schedule;
+use crate::packets::blank_packet;
 use causes::OutOfMemory;
 use command_words::FleetWords;
 use disk_model::Disk;
 use fleet::{Fleet, FleetEnd, MOST_STATIONS};
-use loop_packet::LoopPacket;
 use run_output::{Ending, Outside, Status, Text, settle};
 use schedule_file::Schedule;
 use schedule_replay::{new_disk, new_line};
@@ -88,7 +88,7 @@ fn make_station(
     requires fit { IsFit settings.now.period schedule }
     ensures { IfOk result (IsNewStation settings.now schedule) }
 {
-    let line = new_line(alloc, settings.period(), LoopPacket::blank())?;
+    let line = new_line(alloc, settings.period(), blank_packet())?;
     let disk = new_disk(alloc, schedule.records())?;
     Ok(Station::new(alloc, settings, schedule, line, disk))
 }

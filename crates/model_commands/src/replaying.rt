@@ -6,8 +6,8 @@ ghost use Rattle.schedule_steps.specs.Accepted.{ScheduleIsAccepted};
 ghost use Rattle.schedule_replay.specs.Replayed.{steps_in};
 
 use crate::judging::read_schedule;
+use crate::packets::blank_packet;
 use disk_model::Disk;
-use loop_packet::LoopPacket;
 use run_output::{Ending, Outside, Status, Text, settle};
 use schedule_file::Schedule;
 use schedule_replay::{ReplayEnd, new_disk, new_line, replay};
@@ -42,7 +42,7 @@ fn replay_anew<K: Sink>(
     requires period { schedule.now.period ≡ settings.now.period }
     ensures { replays K.outlet settings.now (steps_in schedule.now) out.old result out.new }
 {
-    let packet = LoopPacket::blank();
+    let packet = blank_packet();
     let Ok(mut line) = new_line(alloc, settings.period(), packet) else {
         return ended(ReplayEnd::OutOfMemory);
     };

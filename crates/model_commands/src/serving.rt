@@ -7,13 +7,13 @@ ghost use Rattle.schedule_steps.specs.Accepted.{ScheduleIsAccepted};
 ghost use Rattle.schedule_replay.specs.Replayed.{steps_in};
 
 use crate::judging::read_schedule;
+use crate::packets::blank_packet;
 use command_words::ConsoleWords;
 use console_model::Console;
 use console_server::{ServeEnd, Served, make_ready, serve};
 use disk_model::Disk;
 use eeprom_map::Eeprom;
 use itoa::Buffer;
-use loop_packet::LoopPacket;
 use run_output::{Ending, Outside, Status, Text, connect, settle};
 use schedule_file::Schedule;
 use serial_link::{Link, Side};
@@ -38,7 +38,7 @@ pub fn serve_files<F: Files, K: Sink, L: Link, D: Disk>(
     serve_console(&mut console, words.turns, &mut outside.link)
 }
 
-// A new console of the schedule's period with a blank packet, which has the steps before the first round behind it.
+// A new console of the schedule's period with the blank packet, which has the steps before the first round behind it.
 fn ready_console(alloc: Global, schedule: &Schedule) -> Result<Console, Ending>
     requires { ScheduleIsAccepted schedule.now }
     ensures ready { IfOk result (readied schedule.now.period (steps_in schedule.now)) }
@@ -47,7 +47,7 @@ fn ready_console(alloc: Global, schedule: &Schedule) -> Result<Console, Ending>
     let Ok(eeprom) = Eeprom::new(alloc, schedule.period()) else {
         return Err(Ending::silent(Status::OutOfMemory));
     };
-    let Ok(mut console) = Console::new(alloc, eeprom, LoopPacket::blank()) else {
+    let Ok(mut console) = Console::new(alloc, eeprom, blank_packet()) else {
         return Err(Ending::silent(Status::OutOfMemory));
     };
     make_ready(&mut console, schedule.steps(), schedule.period());

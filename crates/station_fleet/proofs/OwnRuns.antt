@@ -124,6 +124,26 @@ module _ {K : Type 0} (outlet : Outlet K) where
       let behind = was_member along.mid new e.after after log k t along.later is in
       was_before old along.mid e k behind.0 along.turn behind.1 _ refl
 
+  -- and is one behind it
+  is_behind : (old mid : Crew Station) (e : TurnEntry K) (k : ℕ) (s : Station) → OneTurn station_turning outlet old e mid
+      → slice_get old.members k ≡ Some s → (test : Bool) → (k == e.station - 1) ≡ test
+      → (t : Station) × slice_get mid.members k ≡ Some t
+  is_behind old mid e k s one was true at =
+      let here : k ≡ e.station - 1 = grind (arith, nat_tests) in
+      (one.after, ap (λ (n : ℕ). slice_get mid.members n) here ∙ one.is)
+  is_behind old mid e k s one was false other =
+      let apart : k ≢ e.station - 1 = grind (arith, nat_tests) in
+      (s, one.others k apart ∙ was)
+
+  pub is_member : (old new : Crew Station) (before after : K) (log : List (TurnEntry K)) (k : ℕ) (s : Station)
+      → Along station_turning outlet old before log new after → slice_get old.members k ≡ Some s
+      → (t : Station) × slice_get new.members k ≡ Some t
+  is_member old new before after [] k s along was =
+      (s, ap (λ (c : Crew Station). slice_get c.members k) along.0 ∙ was)
+  is_member old new before after (e ∷ log) k s along was =
+      let next = is_behind old along.mid e k s along.turn was _ refl in
+      is_member along.mid new e.after after log k next.0 along.later next.1
+
   module _ (settings : ℕ → StationSettings) (course : ℕ → Course) (old new : Crew Station) (before after : K)
       (log : List (TurnEntry K)) (along : Along station_turning outlet old before log new after)
       (begin : Begin settings course old) where

@@ -16,6 +16,8 @@ use Rattle.fleet.specs.StationLines.{AreUncut, station_lines}
 use Rattle.fleet.specs.TurnText.{TurnEntry}
 use Rattle.fleet.proofs.LogSteps.{no_more}
 use Rattle.one_run.proofs.OneRun.{one_text}
+use Rattle.station_replay.specs.Replay.{IsReplay, Item}
+use Rattle.station_replay.specs.Texts.{text}
 use Rattle.schedule_replay.specs.Replaying.{Course}
 use Rattle.station_fleet.specs.declared.station.Station.{Station}
 use Rattle.station_fleet.specs.Fleets.{AllOver, Begin, EachOverReplays, EachReplays, RunIsOver, IsReplayText, NoneEnded}
@@ -23,15 +25,22 @@ use Rattle.station_fleet.specs.Outcomes.{TurnsComeTo, end_of_turns, only, course
 use Rattle.station_fleet.specs.StationTurns.{station_turning}
 use Rattle.station_fleet.proofs.OwnRuns.{own_runs, was_member}
 
+-- the text of one run is that of each
+text_of_run : (settings : StationSettings) (c : Course) (lines : List ℕ) (run : List Item)
+    → IsReplay settings (course_start c) (course_steps settings c) run → text run ≡ lines → IsReplayText settings c lines
+text_of_run settings c lines run is_run writes = record {
+  run = run;
+  is_run = is_run;
+  lines_are = sym writes;
+  each = λ o replay. sym writes ∙ one_text settings (course_start c) (course_steps settings c) run o is_run replay;
+}
+
 -- what a station wrote that came to its end is the text of each run of its steps
 text_of_end : (answer : MemberTurn) (settings : StationSettings) (c : Course) (lines : List ℕ) (s : Station) → RunIsOver answer
     → TurnsComeTo (Some answer) settings c [] (λ bytes. bytes ≡ lines) s → IsReplayText settings c lines
 text_of_end More settings c lines s over came = absurd over
-text_of_end Ended settings c lines s over came = λ o replay.
-    sym came.writes ∙ one_text settings (course_start c) (course_steps settings c) came.given o
-    (inl came.took_part.run) replay
-text_of_end Unseen settings c lines s over came = λ o replay.
-    sym came.writes ∙ one_text settings (course_start c) (course_steps settings c) came.given o (inr came.is_unseen) replay
+text_of_end Ended settings c lines s over came = text_of_run settings c lines came.given (inl came.took_part.run) came.writes
+text_of_end Unseen settings c lines s over came = text_of_run settings c lines came.given (inr came.is_unseen) came.writes
 text_of_end WriteFault settings c lines s over came = absurd over
 text_of_end OutOfMemory settings c lines s over came = absurd over
 

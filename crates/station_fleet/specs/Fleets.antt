@@ -40,9 +40,12 @@ RunIsOver Unseen = Unit {0}
 RunIsOver WriteFault = ⊥
 RunIsOver OutOfMemory = ⊥
 
--- these are the lines that `replay` writes of these settings and this course: the text of each run of its steps
-abbrev pub IsReplayText : StationSettings → Course → List ℕ → Type 0
-IsReplayText settings c lines = (o : List Item) → IsReplay settings (course_start c) (course_steps settings c) o → lines ≡ text o
+-- These are the lines that `replay` writes of these settings and this course: the text of a run of its steps, and so of each.
+pub record IsReplayText (settings : StationSettings) (c : Course) (lines : List ℕ) : Type 0 where
+  pub run : List Item
+  pub is_run : IsReplay settings (course_start c) (course_steps settings c) run
+  pub lines_are : lines ≡ text run
+  pub each : (o : List Item) → IsReplay settings (course_start c) (course_steps settings c) o → lines ≡ text o
 
 -- the lines of each station that is over, without its number, are those that `replay` writes
 abbrev pub EachOverReplays : (ℕ → StationSettings) → (ℕ → Course) → Crew Station → List ℕ → Type 0

@@ -26,7 +26,7 @@ pub fn each_station_runs_its_schedule<K: Sink>()
 {}
 
 /// The lines of a station that is over, without its number, are those that `replay` writes of the same settings, schedule and
-/// period, whatever the other stations do. If all stations came to their end, so it is of each of them.
+/// period, if no turn of any station was cut off. If all stations came to their end, so it is of each of them.
 pub fn each_station_prints_its_replay<K: Sink>()
     ensures over { (old new : Crew Station) (before after : K) (log : List (TurnEntry K)) (settings : ℕ
         → StationSettings) (course : ℕ → Course)
