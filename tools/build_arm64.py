@@ -34,6 +34,7 @@ FOLDER = f'{build.TOP}/out/arm64'
 PROGRAM = f'{FOLDER}/{crate_list.PROGRAM}'
 BUILT = f'{FOLDER}/built'  # the sums of what the program was built from, and of the program
 LOG = f'{build.LOGS}/arm64.log'
+FIRST = f'{FOLDER}/first_verdict'  # the verdict on the program for x86-64 over the same libraries
 GATED = f'{build.TOP}/out/gated'  # the sum of what the gate has proved
 CRATES = f'{build.TOP}/crates'
 KEPT_WORK = 'incremental=trusted'  # says that a verdict rests on the work of earlier runs
@@ -88,23 +89,31 @@ def load_rt():
     return made
 
 
-def first_verdict():
-    """The verdict on the program for x86-64, in the log of what has proved the sources as they stand, or nothing."""
-    now, said = sum_of_sources(), []
-    if read(GATED).strip() == now:
-        said = OF_THE_GATE.findall(read(f'{build.LOGS}/gate.log'))
-    if not said and build.stands():
-        said = [read(f'{build.LOGS}/{crate_list.PROGRAM}.log')]
-    return next(iter(VERDICT.findall('\n'.join(said))[-1:]), '')
+def has_stamps(crate):
+    """Whether ./station has built libraries below. The gate leaves its own without stamps, and they fit one another alone."""
+    return any(os.path.isfile(f'{it.folder}/out/rlib/stamp') for it in crate.below())
+
+
+def is_gated():
+    """Whether the gate has proved the sources as they stand."""
+    return read(GATED).strip() == sum_of_sources()
+
+
+def first_verdict(crate):
+    """The verdict on the program for x86-64, in the log of what has built the libraries below, or nothing."""
+    said = ''
+    if has_stamps(crate):
+        said = read(f'{build.LOGS}/{crate_list.PROGRAM}.log') if build.stands() else ''
+    elif is_gated():
+        said = '\n'.join(OF_THE_GATE.findall(read(f'{build.LOGS}/gate.log')))
+    return next(iter(VERDICT.findall(said)[-1:]), '')
 
 
 def libraries_stand(crate):
-    """Whether each library below is built of its sources as they stand. The gate leaves its own without a stamp, and they fit
-    one another alone."""
-    below = crate.below()
-    if any(os.path.isfile(f'{it.folder}/out/rlib/stamp') for it in below):
-        return all(it.is_built() for it in below)
-    return not below or all(os.path.isdir(it.rlib) for it in below) and read(GATED).strip() == sum_of_sources()
+    """Whether each library below is built of its sources as they stand."""
+    if has_stamps(crate):
+        return all(it.is_built() for it in crate.below())
+    return all(os.path.isdir(it.rlib) for it in crate.below()) and is_gated()
 
 
 def of_any_processor(verdict):
@@ -151,11 +160,11 @@ def prove(rt, crate, cross, first, made):
 
 def stand_below(crate):
     """Has the libraries and the program for x86-64 stand, and returns the verdict on that program."""
-    if not first_verdict() or not libraries_stand(crate):
+    if not first_verdict(crate) or not libraries_stand(crate):
         with contextlib.suppress(FileNotFoundError):
             os.remove(build.BUILT)  # it may be noted as built over other libraries
         subprocess.run([f'{build.TOP}/tools/build.py', '/bin/true'], check=False)
-    first = first_verdict()
+    first = first_verdict(crate)
     if not first or not libraries_stand(crate):
         raise build.Fault('the program for x86-64 does not stand, and the one for arm64 is built over its libraries')
     return first
@@ -177,8 +186,9 @@ def build_program(cross):
         prove(rt, crate, cross, first, made)
         os.makedirs(FOLDER, exist_ok=True)
         shutil.move(made, PROGRAM)
-        with open(BUILT, 'w', encoding='ascii') as file:
-            file.write(sums(cross, PROGRAM))
+        for name, text in ((FIRST, first), (BUILT, sums(cross, PROGRAM))):
+            with open(name, 'w', encoding='ascii') as file:
+                file.write(text)
         for it in held:
             os.close(it)
 
@@ -186,7 +196,7 @@ def build_program(cross):
 def main(words):
     try:
         if words in (['--sources'], ['--verdict']):
-            print(sum_of_sources() if words == ['--sources'] else hold_verdict(read(LOG), first_verdict()))
+            print(sum_of_sources() if words == ['--sources'] else hold_verdict(read(LOG), read(FIRST)))
             return 0
         cross = cross_arm64.Cross()
         if words[:1] == ['--holds']:

@@ -15,6 +15,7 @@ import sys
 import time
 from contextlib import ExitStack, contextmanager
 from pathlib import Path
+from struct import Struct
 from subprocess import Popen
 from threading import Thread
 
@@ -24,7 +25,7 @@ from held_port import held_port
 from model.archive import CLOSED_GATE, THIS_VERSION, head_slot, sealed_batch, slots_to_add
 from model.records import FIELDS
 from model.rows import Row
-from trying import LONGEST, SLEEPER, Differs, Ended, Missed, hold, hold_seconds, need, try_all
+from trying import LONGEST, SLEEPER, Differs, Ended, Missed, Moment, hold, hold_seconds, need, try_all
 
 HERE, ALSO_HERE, HERE_TOO = "127.0.0.1", "127.0.0.2", "127.0.0.3"
 ONLY_PORT = 40_000  # of a network that has no other
@@ -56,6 +57,9 @@ MESSAGES = 8
 ROWS_OF_MESSAGES = 5
 MOST_ALONE = 0.75  # the part of them that comes in segments of their own
 SEGMENTS_IN = slice(152, 156)  # the place of tcpi_data_segs_in in Linux's tcp_info
+SO_TIMESTAMPNS = 35  # of Linux: each message comes with the time at which the system had it
+STAMP = Struct("=qq")  # seconds and nanoseconds
+NANOSECONDS = 1e9
 SMALL_BUFFER, SMALL_SEGMENT = 2048, 500
 MANY_PAGES = 3000  # more than the system keeps for a caller who takes none
 CALLS_FOR_A_PART = 150  # to wake: behind so many replies Linux was seen to take a part of a page that had waited
@@ -78,6 +82,7 @@ LEAST_OVER_IT = 300_000  # bytes that come over that line within a case, in whic
 def listener(host=HERE, port=0, **options):
     """A socket that waits for the program's call, at a port of its own or at one that is held."""
     waiting = socket.create_server((host, port), **options)
+    waiting.setsockopt(socket.SOL_SOCKET, SO_TIMESTAMPNS, 1)
     waiting.settimeout(LONGEST)
     return waiting
 
@@ -152,13 +157,24 @@ def hear(line, count):
     return heard
 
 
+def next_piece(line):
+    """What comes next over a line, and the moment at which the system had it, however late it is read here."""
+    asked = SLEEPER.now()
+    piece, notes, _, _ = line.recvmsg(SMALL_BUFFER, socket.CMSG_SPACE(STAMP.size))
+    stamps = [STAMP.unpack(data) for _, kind, data in notes if kind == SO_TIMESTAMPNS]
+    seconds_ago = time.time() - stamps[0][0] - stamps[0][1] / NANOSECONDS if stamps else 0
+    return piece, Moment(time.monotonic() - seconds_ago, asked.late)
+
+
 def hold_talk(line, wanted):
     """Holds what comes over a line, and the waits before each piece and altogether."""
     first = before = SLEEPER.now()
     for waits, piece in wanted:
-        hold("it said", line.recv(SMALL_BUFFER), piece)
-        before = hold_seconds(f"the waits before {piece}", before, waits * QUIET_WAIT)
-    hold_seconds("all waits", first, sum(waits for waits, _ in wanted) * QUIET_WAIT, SOONER)
+        said, ended = next_piece(line)
+        hold("it said", said, piece)
+        hold_seconds(f"the waits before {piece}", before, waits * QUIET_WAIT, ended=ended)
+        before = ended
+    hold_seconds("all waits", first, sum(waits for waits, _ in wanted) * QUIET_WAIT, SOONER, before)
 
 
 def stop_and_continue(process):

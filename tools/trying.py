@@ -21,7 +21,7 @@ NAP = 0.02  # seconds of one sleep of a sleeper
 STEPS = 2000  # that a sleeper counts behind each sleep, in some 0.1 ms
 MOST_LATE = 0.5  # seconds: if the sleeper came later than that within a case, each time that the case held may have been missed
 NOT_TRIED = 'NOT_TRIED'  # of the environment: the file in which the gate collects what is left out
-TRIES = 3  # how often a case that missed a time is tried, since other processes may have been in its way
+TRIES = 5  # how often a case is tried by itself if other processes may have been in its way
 GLANCE = 1  # seconds between one look whether a run takes too long and the next
 
 
@@ -153,11 +153,10 @@ def hold(what, seen, wanted):
         raise Differs(f"{what}: {seen!r}, in place of {wanted!r}")
 
 
-def hold_seconds(what, began, wanted, sooner=SLACK):
-    """Holds the time since a moment against the one that is wanted, and gives this moment. It may be shorter by that part, and
-    longer by a quarter and by what the machine spent on others meanwhile."""
-    now = SLEEPER.now()
-    seconds = now.time - began.time
+def hold_seconds(what, began, wanted, sooner=SLACK, ended=None):
+    """Holds the time from one moment to another, or else to this one, against the one that is wanted. It may be shorter by that
+    part, and longer by a quarter and by what the machine spent on others meanwhile."""
+    seconds = (ended or SLEEPER.now()).time - began.time
     slack = max(SLACK * wanted, AT_ONCE)
     least = wanted - max(sooner * wanted, AT_ONCE)
     late = 0.0
@@ -166,7 +165,6 @@ def hold_seconds(what, began, wanted, sooner=SLACK):
         late = began.lateness()
     if not least <= seconds <= wanted + slack + late:
         raise Missed(f"{what}: {seconds:.2f} s, in place of {wanted:.2f} s; others took {late:.2f} s")
-    return now
 
 
 def need(*command):
@@ -185,37 +183,46 @@ def leave_out(what):
             file.write(f'{what}\n')
 
 
+class Tried(NamedTuple):
+    """What was in the way of a case, if anything, and whether other processes may have been."""
+    reason: Exception | None
+    is_doubtful: bool
+
+
 def try_once(path, case):
-    """Tries a case in a folder of its own; gives what was in its way, or nothing."""
+    """Tries a case in a folder of its own."""
+    began = SLEEPER.now()
     with tempfile.TemporaryDirectory() as folder:
         try:
             case(Program(path, Path(folder)))
+        except LeftOut as reason:
+            return Tried(reason, False)
         except Exception as reason:  # whatever it is, the other cases go on
-            return reason
-    return None
+            return Tried(reason, isinstance(reason, Missed) or began.lateness() > MOST_LATE)
+    return Tried(None, False)
 
 
-def try_case(path, case):
-    """Tries a case, also again if a time may have been missed; gives what was in its way at last, or nothing."""
+def try_case(path, case, tried=None):
+    """Tries a case, also again if other processes may have been in its way; gives what was in its way at last, or nothing. It may
+    have been tried before."""
     for _ in range(TRIES):
-        began = SLEEPER.now()
-        reason = try_once(path, case)
-        is_missed = isinstance(reason, Missed) or reason is not None and began.lateness() > MOST_LATE
-        if isinstance(reason, LeftOut) or not is_missed:
+        if tried and not tried.is_doubtful:
             break
-    return reason
+        tried = try_once(path, case)
+    return tried.reason
 
 
 def try_all(words, usage, cases, at_once):
-    """Tries the cases, so many at once, over the program of the command line; gives the status."""
+    """Tries the cases, so many at once, over the program of the command line; gives the status. What may have failed because the
+    machine ran others is tried again by itself."""
     if len(words) != 2:
         sys.exit(usage)
     path = str(Path(words[1]).resolve())
     with ThreadPoolExecutor(at_once) as pool:
-        tried = {case: pool.submit(try_case, path, case) for case in cases}
+        tried = dict(zip(cases, pool.map(lambda case: try_once(path, case), cases)))
     passed = failed = 0
-    for case, future in tried.items():
-        reason = future.result()
+    for case in cases:
+        reason = try_case(path, case, tried[case])
         if reason is None:
             passed += 1
             continue
