@@ -10,6 +10,7 @@ the rows that the archive has as the call comes. It runs until Control-C, which 
 Statuses: 0 stopped, 2 words out of form, 6 the address is taken; else the status with which the program refused the files.
 """
 import argparse
+import os
 import re
 import selectors
 import signal
@@ -158,7 +159,8 @@ def main():
         print(f'again: {reason}', file=sys.stderr)
         sys.exit(reason.status)
     except (OSError, OverflowError) as fault:
-        print(f'again: {place[0]}:{place[1]}: {getattr(fault, "strerror", None) or fault}', file=sys.stderr)
+        why = os.strerror(fault.errno) if getattr(fault, 'errno', None) else fault
+        print(f'again: {place[0]}:{place[1]}: {why}', file=sys.stderr)
         sys.exit(LINK_FAULT)
 
 

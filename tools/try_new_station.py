@@ -66,7 +66,7 @@ FAULTS = {
     '[calibration.outTemp]\n# a comment\nadd = 1\noffset = 2\n': "line 4: the key 'offset' is not known: known are num, den, add",
     '[limits]\nrain = { least = 0, max = 1 }\n': "line 2: the key 'max' is not known: known are least, greatest",
     '[[change]]\nfrom = "2024-07-01 00:10"\n[[change]]\nfrom = "2024-08-01 00:10"\n[change.limits.UVindex]\nleast = 0\n':
-        "line 6: the key 'UVindex' is not known: no field has this name",
+        "line 5: the key 'UVindex' is not known: no field has this name",
     '[calibration.outTemp]\nadd = 1.5\n': "line 2: the value of 'add' is none that it may have",
     '[limits.outTemp]\nleast = 3\ngreatest = 2\n': "'least' of outTemp is above its 'greatest'",
     'period = 7\n': "line 1: 'period' is none that a console can keep",

@@ -18,16 +18,20 @@ from pathlib import Path
 sys.dont_write_bytecode = True  # nothing is left beside the scripts
 
 import stations
+from model.archive import CLOSED_GATE, THIS_VERSION, head_slot, sealed_batch, slots_to_add
 from model.records import NAMES
-from model.rows import Row
+from model.rows import Row, row_line
 from model.stamps import stamp_of_texts
 from stand_in import write_archive
 from trying import LeftOut, hold, try_all
+from zones import zone_named
 
 TOOLS = Path(__file__).resolve().parent
 STAND_IN = TOOLS / 'stand_in.py'
 FAR_ZONE = 'America/New_York'  # of this machine, so that its own zone is never right by chance
 GOOD, TROUBLE, USAGE = 0, 1, 2
+ZONE_OF_A_COMMAND = re.compile(r"""(?:--zone |-zone |TZ=)["']?((?:[A-Z][A-Za-z]*/|<)[A-Za-z0-9<>+/:_-]+)""")
+LEAST_ZONES = 10
 
 ROOF = """\
 ADDRESS=127.0.0.1:1
@@ -258,6 +262,18 @@ def zone_of_a_page(program):
     hold('its age', bool(re.search(r'\b[345] minutes old', page)), True)
 
 
+def zones_of_the_manual(_):
+    """Each zone that a document or a tool's own words name in a command is one without summer time."""
+    top, found = TOOLS.parent, 0
+    for file in [top / 'README.md', *top.glob('docs/*.md'), top / 'docs/jofitrana.1', *TOOLS.glob('[!t]*.py')]:
+        for line in file.read_text(encoding='utf-8').splitlines():
+            for name in ZONE_OF_A_COMMAND.findall(line):
+                offsets = {datetime(2025, month, 1, tzinfo=zone_named(name)).utcoffset() for month in (1, 7)}
+                hold(f'{file.name} has the zone {name}, whose offsets are {len(offsets)}', len(offsets), 1)
+                found += 1
+    hold(f'{found} zones are enough', found >= LEAST_ZONES, True)
+
+
 def settings_without_a_bucket(program):
     """A tool that takes a click for 0.01 inch since the settings have no bucket reports it."""
     write_environment(program, 'TZ=<+01>-1\n')
@@ -275,8 +291,43 @@ def words_of_a_station(program):
         hold(' '.join(words), run(program, *words)[0], USAGE)
 
 
+def batches_of(rows, sizes):
+    """An archive of rows, in batches of these sizes."""
+    parts, first = [head_slot(THIS_VERSION)], 0
+    for size in sizes:
+        parts.append(sealed_batch(slots_to_add(rows[:first], rows[first:first + size])))
+        first += size
+    return b''.join(parts) + CLOSED_GATE
+
+
+def rows_up_to_a_stamp(program):
+    """Salvage keeps the batches whose rows are not later than a stamp, and prints the rows of the others. Each stamp is tried."""
+    rows = [row_of(f'2025-07-{day:02} 12:{minute:02}', outTemp=day) for day, minute in
+            ((1, 0), (1, 5), (1, 10), (1, 15), (2, 0), (2, 5), (3, 0), (3, 5))]
+    sizes, ends = (2, 3, 1, 2), (0, 2, 5, 6, 8)
+    (program.folder / 'var').mkdir()
+    whole = batches_of(rows, sizes)
+    program.write('var/roof.archive', whole)
+    write_environment(program)
+    for count, stamp in enumerate(row_line(row)[4:20] for row in rows):
+        kept = max(end for end in ends if end <= count + 1)
+        status, printed, trouble = run(program, 'salvage.py', '--until', stamp, '--station', 'roof', '--program', program.path, 'new')
+        if kept == 0:
+            hold(f'until {stamp}', (status, trouble), (TROUBLE, f'salvage: var/roof.archive has no batch of rows up to {stamp}\n'))
+            hold('no archive', (program.folder / 'new').exists(), False)
+            continue
+        hold(f'until {stamp}: {trouble}', (status, printed), (GOOD, ''.join(row_line(row) + '\n' for row in rows[kept:])))
+        shown = program.run('report new rows 1999-12-31 2127-12-31').printed
+        hold(f'the rows until {stamp}', shown, ''.join(row_line(row) + '\n' for row in rows[:kept]))
+        hold('the archive', program.read('new'), batches_of(rows[:kept], sizes[:ends.index(kept)]))
+        (program.folder / 'new').unlink()
+    hold('OLD', program.read('var/roof.archive'), whole)
+    for words in (['--until', '2025-07-01', '--station', 'roof', 'new'], ['--station', 'roof', 'a', 'b'], ['a']):
+        hold(' '.join(words), run(program, 'salvage.py', *words)[0], USAGE)
+
+
 CASES = (forms_of_settings, settings_out_of_form, rain_of_a_table, rain_of_a_page, rain_of_a_chart, rain_of_a_database,
-         zone_of_an_export, zone_of_a_page, settings_without_a_bucket, words_of_a_station)
+         zone_of_an_export, zone_of_a_page, zones_of_the_manual, settings_without_a_bucket, words_of_a_station, rows_up_to_a_stamp)
 
 if __name__ == '__main__':
     sys.exit(try_all(sys.argv, __doc__, CASES, 4))

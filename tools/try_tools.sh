@@ -58,6 +58,8 @@ begin purge "$tools/try_purge.sh"
 begin fields "$tools/try_fields.py"
 begin stations "$tools/try_stations.py" "$program"
 begin new_station "$tools/try_new_station.py" "$program"
+begin again "$tools/try_again.py" "$program"
+begin use_it "$tools/try_use_it.py" "$program"
 begin page "$tools/try_page.py" "$program"
 begin values "$tools/try_page_values.py" "$program"
 begin sql "$tools/try_sql.py"
@@ -527,6 +529,8 @@ grep -hE ' (is missing|is refused|or refused): ' package.output purge.output >&2
 expect_end fields 0 '*[1-9]* passed, 0 failed'
 expect_end stations 0 '*[1-9]* passed, 0 failed'
 expect_end new_station 0 '*[1-9]* passed, 0 failed'
+expect_end again 0 '*[1-9]* passed, 0 failed'
+expect_end use_it 0 '*'
 if /usr/bin/python3 -c 'import jinja2, matplotlib' 2>/dev/null; then
     expect_end page 0 '*[1-9]* passed, 0 failed'
     expect_end values 0 '*[1-9]* passed, 0 failed'
