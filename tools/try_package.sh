@@ -118,13 +118,29 @@ declare -A shut_in=(
 $linked
 $writing"
     [jofitrana-check]="$common
-$linked"
+MemoryDenyWriteExecute=yes
+PrivateNetwork=yes
+RestrictAddressFamilies=none
+SystemCallFilter=~@privileged @resources"
+    [jofitrana-clock]="$common
+$linked
+$writing"
     [jofitrana-page]="$common
 $writing
 CacheDirectory=jofitrana
 PrivateNetwork=yes
 RestrictAddressFamilies=none
-SystemCallFilter=~@privileged")
+SystemCallFilter=~@privileged"
+    [jofitrana-alert]="$writing
+CapabilityBoundingSet=CAP_SETUID CAP_SETGID CAP_CHOWN CAP_DAC_OVERRIDE CAP_FOWNER
+EnvironmentFile=/etc/jofitrana/%i.env
+KeyringMode=private
+PrivateMounts=yes
+PrivateTmp=yes
+ProtectControlGroups=yes
+ProtectHome=read-only
+ProtectSystem=full
+User=jofitrana")
 kinds='User|Group|DynamicUser|SupplementaryGroups|EnvironmentFile|.*Capabilit.*|Device.*|Keyring.*|Lock.*|NoNew.*|Private.*|ProcSubset'
 kinds+='|Protect.*|RemoveIPC|Restrict[A-Z].*|SystemCall.*|Memory.*|State.*|Cache.*|Bind.*|Read.*|UMask'
 for name in "${!shut_in[@]}"; do
@@ -146,6 +162,7 @@ if command -v systemd-analyze >/dev/null; then
     cp "$tools"/../systemd/*@.* units
     sed -i 's|^ExecStart=jofitrana[-a-z]* |ExecStart=/bin/true |' units/*
     for name in "${!shut_in[@]}"; do
+        [ "$name" != jofitrana-alert ] || continue # a mailer has rights of its own
         expect "an exposure of $name of at most 1.1" 0 '*exposure level*' \
             exposure "units/$name@.service"
     done
@@ -255,9 +272,27 @@ expect 'the rows of the archive' 0 48 eval "in_root jofitrana report /var/lib/jo
 expect 'a round beside one that holds the archive' 0 'left out by its condition' \
     flock "$root/var/lib/jofitrana/roof.archive" chroot "$root" "$tools/run_unit.py" /usr/lib/systemd/system/jofitrana@.service roof
 expect 'a check by its unit' 0 'JOFITRANA OK *' unit jofitrana-check
+expect 'a look at its console by its unit' 0 $'time *\nJOFITRANA OK *' unit jofitrana-clock
+expect 'whose note it is' 0 jofitrana in_root stat -c %U /var/lib/jofitrana/roof.console
 sed -i 's/^period = 30/period = 15/' "$root/etc/jofitrana/roof.toml"
-expect 'a check by its unit, of settings of another period' 2 'JOFITRANA CRITICAL *, and /etc/jofitrana/roof.toml has 15: *' \
-    unit jofitrana-check
+expect 'a look by its unit, at a console of another period' 2 '*JOFITRANA CRITICAL *, and /etc/jofitrana/roof.toml has 15: *' \
+    unit jofitrana-clock
+expect 'a check by its unit behind it' 2 'JOFITRANA CRITICAL *, and /etc/jofitrana/roof.toml has 15: *' unit jofitrana-check
+
+# A mailer that keeps what it is given.
+printf '#!/bin/sh\n{ id -un; echo "$@"; cat; } >>/var/lib/jofitrana/mail\n' >"$root/usr/sbin/sendmail"
+chmod 755 "$root/usr/sbin/sendmail"
+echo 'ALERT=sendmail observer@example.org' >>"$root/etc/jofitrana/roof.env"
+expect 'an alert by its unit' 0 '' unit jofitrana-alert
+expect 'its mail' 0 $'jofitrana\nobserver@example.org\nroof: JOFITRANA CRITICAL *' cat "$root/var/lib/jofitrana/mail"
+expect 'an alert of the same' 0 '' unit jofitrana-alert
+sed -i 's/^period = 15/period = 30/' "$root/etc/jofitrana/roof.toml"
+expect 'an alert as all is well again' 0 '' unit jofitrana-alert
+expect 'its mails' 0 $'*JOFITRANA CRITICAL *\njofitrana\nobserver@example.org\nroof: JOFITRANA OK *' \
+    cat "$root/var/lib/jofitrana/mail"
+expect 'a look at a console that does not answer' 0 $'link fault\nleft out by its condition' eval \
+    "sed 's/:$port/:1/' '$root/etc/jofitrana/roof.env' >'$root/etc/jofitrana/away.env' && in_root '$tools/run_unit.py' \
+    /usr/lib/systemd/system/jofitrana-clock@.service away"
 if in_root /usr/bin/python3 -c 'import jinja2, matplotlib' 2>/dev/null; then
     echo 'PAGE=--metric' >>"$root/etc/jofitrana/roof.env"
     # Matplotlib looks for fonts as a user first draws, and reports it where that takes long.
@@ -280,7 +315,7 @@ expect 'its second step' 0 '*Setting up jofitrana *' packages --configure jofitr
 expect 'an upgrade in two steps starts nothing' 1 '' grep start "$root/noted"
 expect 'what an upgrade keeps' 0 '' differing wanted <(data)
 expect 'the package is removed' 0 '*Removing jofitrana *' packages -r jofitrana
-expect 'a removal stops rounds and checks' 0 "*stop jofitrana@?.timer jofitrana-check@?.timer jofitrana@?.service *" \
+expect 'a removal stops rounds and checks' 0 "*stop jofitrana@?.timer jofitrana-check@?.timer jofitrana-clock@?.timer jofitrana@?.service *" \
     grep stop "$root/noted"
 expect 'what a removal keeps' 0 '' differing wanted <(data)
 expect 'a removal takes the program away' 1 '' [ -e "$root/usr/bin/jofitrana" ]

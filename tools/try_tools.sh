@@ -43,7 +43,7 @@ odd_console() {
 # Makes a round with a console whose clock was set back, and checks the archive.
 round_and_check() {
     "$program" station settings.toml back.archive "$1"
-    "$tools/check.sh" -p "$program" --console "$1" back.archive
+    "$tools/check.py" -p "$program" --console "$1" back.archive
 }
 
 # These take some seconds each, in which the rest is tried.
@@ -53,6 +53,8 @@ odd_console back --clock '2024-10-27 02:30' --run '2024-10-27 01:00' 24 --run '2
 begin check round_and_check "127.0.0.1:$port"
 begin salvage "$tools/try_salvage.py" "$program"
 begin written "$tools/try_setup.sh"
+begin watched "$tools/try_check.py"
+begin alerts "$tools/try_alert.py"
 begin package "$tools/try_package.sh" "$program"
 begin purge "$tools/try_purge.sh"
 begin fields "$tools/try_fields.py"
@@ -194,7 +196,7 @@ some_rows() {
 
 # Runs the check on the rows that are listed. A busy machine may take minutes: try_setup.sh holds each limit.
 check() {
-    "$tools/check.sh" -p ./program "$@"
+    "$tools/check.py" -p ./program "$@"
 }
 
 some_rows 5 3 290 >listed
@@ -222,7 +224,10 @@ expect 'an archive that began today' 0 'JOFITRANA OK * lacks 1 rows *' check a
 some_rows 5 -4 290 >listed
 expect 'a row as of a clock that is a little ahead' 0 'JOFITRANA OK * [0-4] minutes ahead of the clock*' check a
 some_rows 5 -30 290 >listed
-expect 'a row of the future' 2 'JOFITRANA CRITICAL * [23]? minutes ahead of the clock*was set back*' check -w 99,9 -c 99,9 a
+expect 'a row of the future, and rows that come' 1 'JOFITRANA WARNING * [23]? minutes ahead of the clock*is ahead, *' check a
+touch -d '20 minutes ago' a
+expect 'a row of the future' 2 'JOFITRANA CRITICAL * [23]? minutes ahead of the clock*was set back*' check a
+rm a
 cp rows listed
 expect 'a row of long ago' 2 'JOFITRANA CRITICAL - last row 2024-07-01 00:25,* lacks 2 rows *' check a
 
@@ -249,10 +254,10 @@ expect 'a console that is behind' 1 'JOFITRANA WARNING *, 1? minutes behind this
 rm answers/time
 expect 'a console that does not answer' 1 'JOFITRANA WARNING *was asked for its time: link fault *' check --console there:1 a
 
-expect 'a zone that is none' 3 'JOFITRANA UNKNOWN - TZ=Europe/Nowhere is no time zone *' env TZ=Europe/Nowhere "$tools/check.sh" a
-expect 'a zone that is a folder' 3 'JOFITRANA UNKNOWN - TZ=Europe is no time zone *' env TZ=Europe "$tools/check.sh" a
-expect 'a zone that is a rule' 0 'JOFITRANA OK *' env TZ='<+00>-0' "$tools/check.sh" -p ./program a
-expect 'a zone of this system' 0 'JOFITRANA OK *' env TZ=Etc/UTC "$tools/check.sh" -p ./program a
+expect 'a zone that is none' 3 'JOFITRANA UNKNOWN - TZ=Europe/Nowhere is no time zone *' env TZ=Europe/Nowhere "$tools/check.py" a
+expect 'a zone that is a folder' 3 'JOFITRANA UNKNOWN - TZ=Europe is no time zone *' env TZ=Europe "$tools/check.py" a
+expect 'a zone that is a rule' 0 'JOFITRANA OK *' env TZ='<+00>-0' "$tools/check.py" -p ./program a
+expect 'a zone of this system' 0 'JOFITRANA OK *' env TZ=Etc/UTC "$tools/check.py" -p ./program a
 for name in a.toml a.env a.conf; do
     expect "an archive of the name $name" 3 "JOFITRANA UNKNOWN - $name is named as settings are, *" check "$name"
 done
@@ -262,7 +267,7 @@ expect 'an archive without rows' 2 'JOFITRANA CRITICAL - a has no row' check a
 : >refused
 expect 'a damaged archive' 2 'JOFITRANA CRITICAL - a: damaged at 352' check a
 rm refused
-expect 'no program' 3 'JOFITRANA UNKNOWN - the program is missing: ./nowhere' "$tools/check.sh" -p ./nowhere a
+expect 'no program' 3 'JOFITRANA UNKNOWN - the program is missing: ./nowhere' "$tools/check.py" -p ./nowhere a
 expect 'limits out of form' 3 'JOFITRANA UNKNOWN - usage: *' check -w 5 a
 expect 'an option that is none' 3 'JOFITRANA UNKNOWN - usage: *' check -x 5 a
 expect 'two archives' 3 'JOFITRANA UNKNOWN - usage: *' check a b
@@ -505,7 +510,8 @@ fi
 
 if command -v systemd-analyze >/dev/null; then
     mkdir units && cp "$tools"/../systemd/*@.* units
-    sed -i "s|^ExecStart=jofitrana[-a-z]* |ExecStart=$folder/program |" units/*
+    sed -i -e "s|^ExecStart=jofitrana[-a-z]* |ExecStart=$folder/program |" \
+        -e "s|^ExecCondition=jofitrana |ExecCondition=$folder/program |" units/*
     expect 'the units' 0 '' systemd-analyze verify --man=no --recursive-errors=no "$folder"/units/*
 else
     leave_out 'systemd-analyze is missing: no unit was tried'
@@ -523,6 +529,8 @@ expect_end setup 0 "*Its clock was set to this machine's time*Its clock shows *,
 expect_end check 2 $'round ok attempts 1 pages 10 skipped 0 acked 36 rows 36\nJOFITRANA CRITICAL *, before the last row: *'
 expect_end salvage 0 '* passed, 0 failed'
 expect_end written 0 '*[1-9]* passed, 0 failed'
+expect_end watched 0 '*[1-9]* passed, 0 failed'
+expect_end alerts 0 '*[1-9]* passed, 0 failed'
 expect_end package 0 '*[1-9]* passed, 0 failed'
 expect_end purge 0 '* passed, 0 failed'
 grep -hE ' (is missing|is refused|or refused): ' package.output purge.output >&2
