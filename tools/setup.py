@@ -1,30 +1,35 @@
 #!/usr/bin/python3
 """Asks a console what a station's settings have to hold, reports what it found, and writes the settings.
 
-    jofitrana-setup [--set-clock] [--no-limits] [--title TEXT] [--units us|metric] [--bucket SIZE] NAME ADDRESS
+    jofitrana-setup [--set-clock] [--summer] [--no-limits] [--title TEXT] [--units us|metric] [--bucket SIZE] NAME ADDRESS
     jofitrana-setup NAME DEVICE
+    jofitrana-setup --adjust NAME
     jofitrana-setup --check FILE
 
 It writes NAME.toml and NAME.env below /etc/jofitrana if they are not there, and else reports how they differ from the
-console. DEVICE is a serial adapter of this machine, which it has served by a unit. With `--check` it just looks through a
-file of settings, and names the first fault with its line. What no option names is asked at a terminal. Nothing in the console is changed but its clock, with `--set-clock`, and only before the first round. Lines that
-begin with `!` are troubles, each with what to do.
+console. DEVICE is a serial adapter of this machine, which it has served by a unit. What no option names is asked at a terminal.
+With `--check` it just looks through a file of settings, and names the first fault with its line. Nothing in the console is changed
+but its clock: with `--set-clock`, only before the first round, and with `--adjust`, only if no record is lost. Lines that begin
+with `!` are troubles, each with what to do.
 Statuses: 0, 1 if there is a trouble, 2 if the words are out of form.
 """
 import argparse
 import os
 import re
 import sys
-import time
 from contextlib import nullcontext
-from datetime import datetime, timedelta, timezone
+from datetime import datetime, timedelta
 
 sys.dont_write_bytecode = True  # nothing is left beside an installed script
 import archives
 import serial_line
+import setup_clock
 import station_files
 import stations
+from console_clock import offset_text, standard_offset
+from row_gaps import PERIODS
 from rows import BUCKETS as BUCKET_SIZES
+from setup_clock import PERIOD
 
 FIRST_OF_ALL = """\
 First of all: switch the console's summer time off, and set its clock, before the first round. Never set it back later:
@@ -32,19 +37,14 @@ a record whose stamp is not later than the last row is lost."""
 
 # The places of the console's memory that are read, by the Davis serial manual.
 FIRST_PLACE = 0x11
-ZONE, SUMMER_BY_HAND, SUMMER_ON, OFFSET, HAS_OFFSET, SETUP_BITS, PERIOD = 0x11, 0x12, 0x13, 0x14, 0x16, 0x2B, 0x2D
+ZONE, OFFSET, HAS_OFFSET, SETUP_BITS = 0x11, 0x14, 0x16, 0x2B
 PLACES = PERIOD + 1 - FIRST_PLACE
 BUCKET_SHIFT, BUCKET_MASK = 4, 3
 BUCKETS = ('0.01in', '0.2mm', '0.1mm')  # by the number that the console has for them
 HUNDREDTHS_OF_HOUR = 100
 VANTAGE_PRO = 16
-PERIODS = (1, 5, 10, 15, 30, 60, 120)
 
-CLOCK_SECONDS = 60  # so far two clocks may differ
-WHOLE_UNITS = 3  # of a unit of time; a shorter span is given in the next smaller unit
-SECONDS_TO_SET = 4  # from the first byte to the console until it has the time that was said
 SHORT_FILE = 177  # bytes; a longer file is an archive, or is refused
-STAMP = '%Y-%m-%d %H:%M:%S'
 MASK = 0o022  # the user of the rounds reads what is written here, whatever root keeps from others elsewhere
 
 ADDRESS = re.compile(r'''[^\s"'\\$%=]+:[0-9]{1,5}''')
@@ -60,42 +60,10 @@ ANSWERS = {
 }
 
 
-def standard_offset():
-    """How far this machine's zone is ahead of UTC outside summer time."""
-    return timedelta(seconds=-time.timezone)
-
-
-def standard_time():
-    """What a clock of this machine's zone shows that keeps no summer time."""
-    return datetime.now(timezone.utc).replace(microsecond=0, tzinfo=None) + standard_offset()
-
-
-def offset_text(offset):
-    """An offset from UTC as +HH:MM."""
-    minutes = round(offset.total_seconds()) // 60
-    return f'{"-" if minutes < 0 else "+"}{abs(minutes) // 60:02}:{abs(minutes) % 60:02}'
-
-
-def zone_rule(offset):
-    """A value of TZ for a clock that is always so far ahead of UTC. Its sign is the other way round."""
-    text = offset_text(offset)
-    name = text.removesuffix(':00').replace(':', '')
-    return f'<{name}>{"-" if text[0] == "+" else "+"}{text[1:].removesuffix(":00")}'
-
-
 def is_zone_known(name):
     """Whether this system knows the zone of a TZ, or it is a rule in itself."""
     folder = os.environ.get('TZDIR', '/usr/share/zoneinfo')
     return name in ('', 'UTC') or os.path.isfile(os.path.join(folder, name.removeprefix(':'))) or bool(ZONE_RULE.match(name))
-
-
-def words_of_time(span):
-    """A span of time in words."""
-    seconds = abs(int(span.total_seconds()))
-    for unit, size in (('days', 86_400), ('hours', 3_600), ('minutes', 60)):
-        if seconds >= WHOLE_UNITS * size:
-            return f'{seconds / size:.0f} {unit}'
-    return f'{seconds} seconds'
 
 
 class Report:
@@ -153,26 +121,6 @@ def look_at_kind(station, report):
         report.trouble(f'A Vantage Pro or Pro2 has kind {VANTAGE_PRO}. No other console was ever tried.')
 
 
-def emptying(station, memory):
-    """What to do about records in the console's memory that are later than a clock that goes back."""
-    return (f"  If the clock goes back by that, the console's memory has records of the future, which would block all others.\n"
-            f'  Empty it before the first round, by: jofitrana task {station.address} period {memory[PERIOD]}\n'
-            '  That deletes its records.')
-
-
-def look_at_summer_time(station, memory, report):
-    """Reports whether the console's clock changes for summer time."""
-    where = "in the console's Setup Mode, at DAYLIGHT SAVINGS,"
-    if not memory[SUMMER_BY_HAND]:
-        report.trouble('Summer time comes and goes by itself, and an hour of records is lost each autumn:\n'
-                       f'  {where} choose MANUAL and OFF before the first round.\n{emptying(station, memory)}')
-    elif memory[SUMMER_ON]:
-        report.trouble(f'Summer time is switched on: {where} choose OFF before the first round.\n{emptying(station, memory)}\n'
-                       '  After a round leave it on for good, since to switch it off loses an hour of records.')
-    else:
-        report.found('Its summer time is off, as it has to be.')
-
-
 def look_at_zone(memory, report):
     """Reports the console's zone, which moves no stamp while summer time is off."""
     if memory[HAS_OFFSET]:
@@ -204,50 +152,18 @@ def look_at_period(memory, report):
     return None
 
 
-def console_clock(station):
-    """What the console's clock shows, and how far it is ahead of standard time."""
-    shown = datetime.strptime(station.ask('time').removeprefix('time '), STAMP)
-    return shown, shown - standard_time()
-
-
-def set_clock(station, report):
-    """Sets the console's clock to standard time."""
-    station.ask('time', 'set', *f'{standard_time() + timedelta(seconds=SECONDS_TO_SET):{STAMP}}'.split(' '))
-    report.found("Its clock was set to this machine's time without summer time.")
-
-
-def set_clock_if_wanted(station, chosen, memory, last, report):
-    """Sets the console's clock if that is wanted and loses nothing."""
-    if not chosen.set_clock:
+def adjust(chosen, report):
+    """Sets the clock of a station's console right if that loses no record."""
+    try:
+        known = stations.read_station(chosen.name, chosen.settings, chosen.archives)
+    except stations.StationFault as fault:
+        report.trouble(str(fault))
         return
-    if last is not None:
-        report.trouble(f'Its clock is not set: {station.archive} has rows, and a clock that goes back loses records.')
+    if not known.address:
+        report.trouble(f'{known.environment} has no ADDRESS.')
         return
-    shown, ahead = console_clock(station)
-    set_clock(station, report)
-    if ahead.total_seconds() > CLOCK_SECONDS:
-        report.trouble(f'Its clock showed {shown} before, and went back.\n{emptying(station, memory)}')
-
-
-def look_at_clock(station, chosen, memory, report):
-    """Reports the console's clock, and sets it if that is wanted and loses nothing."""
-    last = station.last_stamp()
-    set_clock_if_wanted(station, chosen, memory, last, report)
-    shown, ahead = console_clock(station)
-    if last and shown < last:
-        report.trouble(f'Its clock shows {shown}, before the last row of {last:%Y-%m-%d %H:%M}: it was set back.\n'
-                       f'  No record is added until it has passed that row. Set it forward if it is wrong.')
-    if abs(ahead.total_seconds()) <= CLOCK_SECONDS:
-        report.found(f"Its clock shows {shown}, as this machine's does without summer time.")
-        return
-    way = 'ahead of' if ahead > timedelta() else 'behind'
-    text = f"Its clock shows {shown}, {words_of_time(ahead)} {way} this machine's time without summer time."
-    if last is None:
-        report.trouble(f'{text}\n  Set it before the first round, by: jofitrana-setup --set-clock {station.name} {station.address}')
-    elif ahead > timedelta():
-        report.trouble(f'{text}\n  Leave it as it is: to set it back would lose the records of that time.')
-    else:
-        report.trouble(f'{text}\n  To set it forward loses nothing: jofitrana task {station.address} time set DATE TIME')
+    chosen.address = known.address
+    setup_clock.adjust(Station(chosen, report), known, report)
 
 
 def look_at_all(station, chosen, report):
@@ -256,11 +172,12 @@ def look_at_all(station, chosen, report):
     memory = bytes(FIRST_PLACE) + bytes.fromhex(station.ask('eeprom', 'read', f'{FIRST_PLACE:X}', str(PLACES)))
     period = look_at_period(memory, report)
     bucket = look_at_bucket(memory, report)
-    look_at_summer_time(station, memory, report)
+    right = setup_clock.right_time(station, chosen, report)
+    setup_clock.look_at_summer_time(station, memory, right, report)
     look_at_zone(memory, report)
-    look_at_clock(station, chosen, memory, report)
+    setup_clock.look_at_clock(station, chosen, memory, right, report)
     station_files.look_at_settings(station, chosen, period, report)
-    station_files.look_at_environment(station, chosen, zone_rule(standard_offset()), bucket, report)
+    station_files.look_at_environment(station, chosen, right.text(), bucket, report)
 
 
 def station_name(name):
@@ -286,6 +203,8 @@ def chosen_words():
                        help='where the console is, as 192.168.1.20:22222, or its serial adapter, as /dev/serial/by-id/NAME')
     words.add_argument('--check', metavar='FILE', help='look through a file of settings, and ask no console')
     words.add_argument('--set-clock', action='store_true', help="set the console's clock, if no round was made yet")
+    words.add_argument('--summer', action='store_true', help='the console keeps summer time, and an hour is lost each autumn')
+    words.add_argument('--adjust', action='store_true', help="set the console's clock right, if that loses nothing")
     words.add_argument('--title', help='what pages and charts are headed')
     words.add_argument('--units', choices=stations.UNITS, help='the units of pages and charts')
     words.add_argument('--bucket', choices=BUCKET_SIZES, help='a click of the rain bucket')
@@ -294,8 +213,10 @@ def chosen_words():
     words.add_argument('--archives', default=stations.ARCHIVES, metavar='FOLDER', help='where NAME.archive stands')
     words.add_argument('--program', default='jofitrana')
     chosen = words.parse_args()
-    if (chosen.check is None) == (chosen.address is None):
-        words.error('the following arguments are required: NAME, ADDRESS; or --check FILE')
+    is_of_form = (chosen.check is not None, chosen.name is not None, chosen.address is not None) in (
+        [(False, True, False)] if chosen.adjust else [(True, False, False), (False, True, True)])
+    if not is_of_form:
+        words.error('the following arguments are required: NAME, ADDRESS; or --adjust NAME; or --check FILE')
     return chosen
 
 
@@ -334,6 +255,9 @@ def main():
     try:
         if chosen.check is not None:
             station_files.check_settings(chosen.check, chosen.program, report)
+            sys.exit(report.has_trouble)
+        if chosen.adjust:
+            adjust(chosen, report)
             sys.exit(report.has_trouble)
         print(FIRST_OF_ALL)
         set_up(chosen, report)

@@ -83,7 +83,7 @@ rm -r etc
 # How many seconds the clock that setup sets is ahead of the moment at which it is said, and how many setup took.
 console 05
 began=$(date +%s)
-expect 'setup sets the clock' 0 "*Its clock was set to this machine's time*" set_up --set-clock
+expect 'setup sets the clock' 0 "*Its clock showed *, and was set to this machine's time*" set_up --set-clock
 took=$(($(date +%s) - began))
 read -r said _ _ day clock < <(grep 'time set' asked)
 ahead=$(($(date -d "$day $clock" +%s) - said))
