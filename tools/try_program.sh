@@ -52,6 +52,8 @@ expect 'a good file, from another folder' 0 "$rows"
 
 check "$top/tools/try_rows.py" "$program"
 expect 'the cases of the tables' 0 ''
+check "$top/tools/try_limits.sh" "$program"
+expect 'the least stack and address space of each command' 0 ''
 
 run pages $'\xff'
 expect 'a word that is not UTF-8' 1 usage
