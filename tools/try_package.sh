@@ -117,6 +117,9 @@ declare -A shut_in=(
     [jofitrana]="$common
 $linked
 $writing"
+    [jofitrana-stay]="$common
+$linked
+$writing"
     [jofitrana-check]="$common
 MemoryDenyWriteExecute=yes
 PrivateNetwork=yes
@@ -218,7 +221,7 @@ trap leave_root EXIT
 mount --rbind /proc "$root/proc"
 touch "$root/dev/null"
 mount --bind /dev/null "$root/dev/null"
-mkdir -p "$root"/packages/{info,updates,triggers} "$root/noting" "$root/run/systemd/system" "$root/etc/systemd/system/timers.target.wants"
+mkdir -p "$root"/packages/{info,updates,triggers} "$root/noting" "$root/run/systemd/system" "$root"/etc/systemd/system/{timers,multi-user}.target.wants
 touch "$root"/packages/{status,available}
 for name in systemctl deb-systemd-invoke; do
     printf '#!/bin/sh\necho "%s $*" >>/noted\n' "$name" >"$root/noting/$name"
@@ -226,7 +229,8 @@ for name in systemctl deb-systemd-invoke; do
 done
 cp "$package" "$root/package.deb"
 wants=$root/etc/systemd/system/timers.target.wants
-rm -rf "${root:?}"/etc/jofitrana "$root"/var/{lib,cache}/jofitrana "${wants:?}"/*
+stays=$root/etc/systemd/system/multi-user.target.wants
+rm -rf "${root:?}"/etc/jofitrana "$root"/var/{lib,cache}/jofitrana "${wants:?}"/* "${stays:?}"/*
 
 # Runs a command in the root.
 in_root() {
@@ -271,6 +275,10 @@ expect 'whose archive it is' 0 $'755 jofitrana /var/lib/jofitrana
 expect 'the rows of the archive' 0 48 eval "in_root jofitrana report /var/lib/jofitrana/roof.archive rows 1999-12-31 2127-12-31 | wc -l"
 expect 'a round beside one that holds the archive' 0 'left out by its condition' \
     flock "$root/var/lib/jofitrana/roof.archive" chroot "$root" "$tools/run_unit.py" /usr/lib/systemd/system/jofitrana@.service roof
+echo 'ROUNDS=1' >>"$root/etc/jofitrana/roof.env"
+expect 'a stay of one round by its unit' 0 $'round ok attempts 1 pages 0 * rows 48\nstayed 1' unit jofitrana-stay
+expect 'a stay beside a round that holds the archive' 7 'disk fault' \
+    flock "$root/var/lib/jofitrana/roof.archive" chroot "$root" "$tools/run_unit.py" /usr/lib/systemd/system/jofitrana-stay@.service roof
 expect 'a check by its unit' 0 'JOFITRANA OK *' unit jofitrana-check
 expect 'a look at its console by its unit' 0 $'time *\nJOFITRANA OK *' unit jofitrana-clock
 expect 'whose note it is' 0 jofitrana in_root stat -c %U /var/lib/jofitrana/roof.console
@@ -305,6 +313,7 @@ fi
 # An upgrade starts no timer, and neither way to take the package away touches what the observer has.
 ln -s /usr/lib/systemd/system/jofitrana@.timer "$wants/jofitrana@roof.timer"
 ln -s /usr/lib/systemd/system/other.timer "$wants/other.timer"
+ln -s /usr/lib/systemd/system/jofitrana-stay@.service "$stays/jofitrana-stay@barn.service"
 echo mine >"$root/var/lib/jofitrana/notes"
 echo mine >"$root/etc/jofitrana/other.toml"
 data >wanted
@@ -315,16 +324,17 @@ expect 'its second step' 0 '*Setting up jofitrana *' packages --configure jofitr
 expect 'an upgrade in two steps starts nothing' 1 '' grep start "$root/noted"
 expect 'what an upgrade keeps' 0 '' differing wanted <(data)
 expect 'the package is removed' 0 '*Removing jofitrana *' packages -r jofitrana
-expect 'a removal stops rounds and checks' 0 "*stop jofitrana@?.timer jofitrana-check@?.timer jofitrana-clock@?.timer jofitrana@?.service *" \
+expect 'a removal stops rounds and checks' 0 "*stop jofitrana@?.timer jofitrana-check@?.timer jofitrana-clock@?.timer jofitrana@?.service jofitrana-stay@?.service *" \
     grep stop "$root/noted"
 expect 'what a removal keeps' 0 '' differing wanted <(data)
 expect 'a removal takes the program away' 1 '' [ -e "$root/usr/bin/jofitrana" ]
 expect 'the package is installed again' 0 '*Setting up jofitrana *' packages -i /package.deb
-expect 'the enabled timers start again' 0 'deb-systemd-invoke start jofitrana@roof.timer' grep start "$root/noted"
+expect 'the enabled timers and stays start again' 0 $'deb-systemd-invoke start jofitrana@roof.timer\ndeb-systemd-invoke start jofitrana-stay@barn.service' grep start "$root/noted"
 expect 'an upgrade behind it' 0 '*Setting up jofitrana *' packages -i /package.deb
 expect 'an upgrade behind it starts nothing' 1 '' grep start "$root/noted"
 expect 'the package is purged' 0 '*/etc/jofitrana is kept*/var/lib/jofitrana is kept*' packages -P jofitrana
 expect 'what a purge keeps' 0 '' differing wanted <(data)
 expect 'the timers that a purge leaves enabled' 0 other.timer ls "$wants"
+expect 'the stays that a purge leaves enabled' 0 '' ls "$stays"
 
 conclude
