@@ -1,5 +1,5 @@
-"""Cases over a built program, for the scripts try_disk, try_line, try_beside and try_packets: each passes, fails, or is left out
-on this machine."""
+"""Cases over a built program, for the scripts try_disk, try_line, try_beside, try_stay and try_packets: each passes, fails, or is
+left out on this machine."""
 import os
 import shutil
 import signal
