@@ -39,7 +39,7 @@ LAST_OF_MADE = datetime(1999, 12, 31, 23, 55)  # a made archive of N rows ends N
 FRAME_BYTES = 6
 MOST_ROUNDS = 1_000_000
 WAKES = 9  # line feeds of a round for which nobody wakes
-LATEST_KILL = 1.5  # seconds after the start
+LATEST_KILL, ROUNDS_AGAIN = 1.5, 3  # seconds after the start, and rounds of the next stay
 GIVE_UPS = 12  # rounds in a row that end a stay
 ROUND = re.compile(r'^round (\w+) attempts \d+ pages \d+ skipped 0 acked (\d+) rows (\d+)$', re.M)
 ROW = re.compile(r'^row (\S+ \S+) 5 ', re.M)
@@ -220,8 +220,8 @@ def stay_that_is_killed(program):
         if (program.folder / archive).exists():
             hold_archive(program, console, ended.printed, archive)
         again = Console(records=len(console.stamps), more=0)
-        ended = program.run(stay(again, 1).replace(' archive ', f' {archive} '), env=environment)
-        hold('the rounds of the next stay', hold_rounds(ended, DONE, ''), ['ok'])
+        ended = program.run(stay(again, ROUNDS_AGAIN).replace(' archive ', f' {archive} '), env=environment)
+        hold('the rounds of the next stay', set(hold_rounds(ended, DONE, '')) - {'gaveup'}, {'ok'})  # gaveup: others ran
         hold('the rows then', len(shown(program, archive)), len(again.stamps))
 
     many(RUNS_KILLED * SCALE, once)
@@ -373,7 +373,7 @@ def instructions_of_a_round(program):
         one, more = (instructions(program, environment, rows, rounds) for rounds in (1, 1 + ROUNDS_COUNTED))
         of_round.append((more - one) / ROUNDS_COUNTED)
     short, long = of_round
-    hold(f'{short:.0f} instructions and {long:.0f} are alike', abs(long - short) <= MOST_UNLIKE * short, True)
+    hold(f'{short:.0f} instructions and {long:.0f} are alike', 0 < short and abs(long - short) <= MOST_UNLIKE * short, True)
     print(f'{short:.0f} instructions for a round over {SHORT_ARCHIVE} rows, {long:.0f} over {LONG_ARCHIVE * SCALE}')
 
 
