@@ -87,6 +87,11 @@ def listener(host=HERE, port=0, **options):
     return waiting
 
 
+def call(host, port):
+    """A line to who listens there."""
+    return socket.create_connection((host, port), LONGEST)
+
+
 def word_for(waiting):
     """The word by which the program calls there."""
     return f"{HERE}:{waiting.getsockname()[1]}"
@@ -140,7 +145,7 @@ def listens(process, port):
 def is_taken(host, port):
     """Whether a call is taken there."""
     try:
-        socket.create_connection((host, port)).close()
+        call(host, port).close()
     except ConnectionRefusedError:
         return False
     return True
@@ -232,7 +237,7 @@ def console_that_hangs_up(program):
 
 def call_that_is_not_answered(program):
     """A call ends by itself: the queue of those who call there is full."""
-    with listener(backlog=0) as peer, socket.create_connection(peer.getsockname()):
+    with listener(backlog=0) as peer, call(*peer.getsockname()):
         with program.start(TASK.format(word_for(peer))) as run:
             hold("the task", run.end(), LINK_FAULT)
             hold_seconds("the call", run.began, TO_CALL / 2)
@@ -273,7 +278,7 @@ def call_by_a_name_that_is_not_answered(program):
     with held_port() as port, ExitStack() as queues:
         for host in hosts:
             queues.enter_context(listener(host, port, backlog=0))
-            queues.enter_context(socket.create_connection((host, port)))
+            queues.enter_context(call(host, port))
         with program.start(TASK.format(f"console:{port}"), under=under) as run:
             hold("the task", run.end(), LINK_FAULT)
             hold_seconds("the calls", run.began, TO_CALL * (1 - 0.5 ** len(hosts)))
@@ -295,7 +300,7 @@ def call_to_itself(program):
 
 def turns_of_a_console(program):
     """A console's turn without a byte is one quiet wait."""
-    with serving(program, FEW_TURNS) as (run, port), socket.create_connection((HERE, port)):
+    with serving(program, FEW_TURNS) as (run, port), call(HERE, port):
         began = SLEEPER.now()
         hold("the console", run.end(), Ended(0, "served 0 0\n"))
         hold_seconds("its turns", began, FEW_TURNS * QUIET_WAIT)
@@ -305,7 +310,7 @@ def caller_elsewhere(program):
     """A console serves one caller, at its own address alone."""
     with serving(program, MANY_TURNS, ALSO_HERE) as (run, port):
         hold("a call elsewhere is taken", is_taken(HERE, port), False)
-        with socket.create_connection((ALSO_HERE, port)) as line:
+        with call(ALSO_HERE, port) as line:
             line.sendall(LF)
             hold("it said", hear(line, len(AWAKE)), AWAKE)
             hold("a second call is taken", is_taken(ALSO_HERE, port), False)
@@ -319,7 +324,7 @@ def segments_in(line):
 
 def messages_in_a_row(program):
     """A message is sent at once, and does not wait for the next one until the one before it is confirmed."""
-    with serving(program, MANY_TURNS) as (_, port), socket.create_connection((HERE, port)) as line:
+    with serving(program, MANY_TURNS) as (_, port), call(HERE, port) as line:
         for _ in range(ROWS_OF_MESSAGES):
             line.setsockopt(socket.IPPROTO_TCP, socket.TCP_QUICKACK, 0)
             line.sendall(MESSAGES * LF)
@@ -333,6 +338,7 @@ def messages_in_a_row(program):
 def untaken_message(program, calls):
     """A console that answers so many calls to wake, and then says more pages than the system keeps, which nobody takes."""
     with serving(program, MANY_TURNS) as (run, port), socket.socket() as line:
+        line.settimeout(LONGEST)
         line.setsockopt(socket.SOL_SOCKET, socket.SO_RCVBUF, SMALL_BUFFER)
         line.setsockopt(socket.IPPROTO_TCP, socket.TCP_MAXSEG, SMALL_SEGMENT)
         line.connect((HERE, port))
@@ -381,6 +387,7 @@ def asked(program, buffer, segment=None):
     """A service that was asked for more than the system keeps, and a line with such a buffer, of which nothing is taken yet."""
     program.write("archive", archive_of_rows(ROWS))
     with listening(program, f"serve archive {{}} {MANY_TURNS}") as (run, port), socket.socket() as line:
+        line.settimeout(LONGEST)
         line.setsockopt(socket.SOL_SOCKET, socket.SO_RCVBUF, buffer)
         if segment:
             line.setsockopt(socket.IPPROTO_TCP, socket.TCP_MAXSEG, segment)
