@@ -134,6 +134,16 @@ CacheDirectory=jofitrana
 PrivateNetwork=yes
 RestrictAddressFamilies=none
 SystemCallFilter=~@privileged"
+    [jofitrana-line]="$(grep -v -E '^Private(Devices|Users)=' <<<"$common")
+DeviceAllow=char-ttyACM rw
+DeviceAllow=char-ttyAMA rw
+DeviceAllow=char-ttyS rw
+DeviceAllow=char-ttyUSB rw
+MemoryDenyWriteExecute=yes
+RestrictAddressFamilies=AF_INET
+SupplementaryGroups=dialout
+SystemCallFilter=~@privileged @resources
+UMask=0077"
     [jofitrana-alert]="$writing
 CapabilityBoundingSet=CAP_SETUID CAP_SETGID CAP_CHOWN CAP_DAC_OVERRIDE CAP_FOWNER
 EnvironmentFile=/etc/jofitrana/%i.env
@@ -165,7 +175,8 @@ if command -v systemd-analyze >/dev/null; then
     cp "$tools"/../systemd/*@.* units
     sed -i 's|^ExecStart=jofitrana[-a-z]* |ExecStart=/bin/true |' units/*
     for name in "${!shut_in[@]}"; do
-        [ "$name" != jofitrana-alert ] || continue # a mailer has rights of its own
+        # A mailer has rights of its own, and a serial line has devices.
+        [[ $name != jofitrana-alert && $name != jofitrana-line ]] || continue
         expect "an exposure of $name of at most 1.1" 0 '*exposure level*' \
             exposure "units/$name@.service"
     done
