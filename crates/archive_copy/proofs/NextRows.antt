@@ -9,7 +9,6 @@ use Rattle.station_base.specs.CivilMinute.{CivilMinute}
 use Rattle.station_base.specs.declared.row.Row.{Row}
 use Rattle.causes.specs.Lists.{IsFrontOf}
 use Rattle.packed_rows.specs.Rising.{stamp_exceeds, rows_rise, last_stamp_after, last_row_stamp}
-use Rattle.batch_adding.specs.Adding.{batch_count}
 use Rattle.packed_rows.proofs.RowLaws.{rise_front, rise_behind}
 
 -- one more of the next rows
@@ -79,10 +78,6 @@ front_next mine theirs at front le =
     let place : length mine + (at - length mine) ≡ at = omega (arith, le) in
     sym (take-append-add mine (drop (length mine) theirs) n) ∙ ap (λ (m : ℕ). take m (mine ++ drop (length mine) theirs)) place
     ∙ ap (take at) (front_rest mine theirs front)
-
--- a batch less is to come
-pub batch_less : (k : ℕ) → 0 < k → batch_count k ≡ 1 + batch_count (k - min 5 k)
-batch_less k pos = omega arith
 
 -- some of the next rows, and then more of them
 pub next_joins : (mine theirs so_far new : List Row) (at k : ℕ) → length mine ≤ at → so_far ≡ take (at - length mine) (drop (length mine) theirs) → new ≡ take k (drop at theirs)

@@ -1,5 +1,5 @@
 -- The changes for batches.
-use Rattle.std.proofs.Common.{◌≡◌, ℕ, ◌+◌, ◌-◌, ◌<◌, ◌≤◌, true, false, List, [], ◌∷◌, ◌++◌, length, take, drop, refl, sym, ◌∙◌, ap, subst, arith, append_assoc, append-nil, length-append}
+use Rattle.std.proofs.Common.{◌≡◌, ℕ, ◌+◌, ◌-◌, ◌<◌, ◌≤◌, true, false, List, [], ◌∷◌, ◌++◌, length, min, take, drop, refl, sym, ◌∙◌, ap, subst, arith, append_assoc, append-nil, length-append}
 use Rattle.std.proofs.Math.Seq.{take-append-add}
 use Rattle.std.proofs.lemmas.List.{take_all, take-append-drop, length-take}
 use Rattle.causes.specs.Lists.{IsFrontOf}
@@ -10,6 +10,7 @@ use Rattle.disk_model.specs.declared.disk.Disked.TheVariants.{Done}
 use Rattle.gated_log.specs.Calls.{up_to}
 use Rattle.station_base.specs.declared.row.Row.{Row}
 use Rattle.batch_adding.proofs.Changes.{are_for, are_take, up_done, up_failed}
+use Rattle.batch_adding.specs.Adding.{batch_count}
 use Rattle.batch_adding.specs.Calls.{AddsBatches, AreBatches, changes_of_batch, changes_of_batches, failed_answer, rows_of_batches}
 
 -- each of them has five rows
@@ -125,3 +126,7 @@ module _ {D : Type 0} (medium : Medium D) (mine : List Row) (d : D) where
 -- some of the next rows are a front of them
 pub front_of : (rows next : List Row) (n : ℕ) → rows ≡ take n next → IsFrontOf rows next
 front_of rows next n is = (drop n next, ap (λ (xs : List Row). xs ++ drop n next) is ∙ take-append-drop n next)
+
+-- a batch less is to come
+pub batch_less : (k : ℕ) → 0 < k → batch_count k ≡ 1 + batch_count (k - min 5 k)
+batch_less k pos = omega arith

@@ -3,7 +3,7 @@ ghost use Rattle.disk_model.specs.Disk.{Faults, LeavesOnly, MayBegin};
 ghost use Rattle.gated_log.specs.Calls.{up_to};
 ghost use Rattle.station_base.specs.declared.row.Row.{Row};
 ghost use Rattle.packed_rows.specs.Adding.{AreLimited, ArePrintable};
-ghost use Rattle.packed_rows.specs.Rising.{RowsRiseAfter};
+ghost use Rattle.packed_rows.specs.Rising.{RowsRiseAfter, last_stamp_after};
 ghost use Rattle.weather_book.specs.Book.{BookStandsFor, book_is_stale, last_stamp_of, len_of, most_rows_of};
 ghost use Rattle.weather_book.specs.Stands.{StandsOn};
 ghost use Rattle.batch_adding.specs.Adding.{HasOldOrAll, MovedBy};
@@ -45,6 +45,8 @@ pub fn add_batch<E: Disk>(mine: &mut Book, to: &mut E, rows: &[Row]) -> BatchEnd
     ensures fresh { result ≡ BatchEnd.Done → book_is_stale mine.new ≡ false }
     ensures most { result ≡ BatchEnd.Done → most_rows_of mine.new ≡ most_rows_of mine.old }
     ensures len { result ≡ BatchEnd.Done → len_of mine.new ≡ len_of mine.old + length rows.now }
+    ensures last { result ≡ BatchEnd.Done
+        → last_stamp_of mine.new ≡ last_stamp_after (last_stamp_of mine.old) rows.now }
     ensures images { (old : List Row) → StandsOn E.medium mine.old to.old old
         → LeavesOnly E.medium (HasOldOrAll old rows.now) to.old to.new }
     ensures stands { result ≡ BatchEnd.Done → (old : List Row) → StandsOn E.medium mine.old to.old old

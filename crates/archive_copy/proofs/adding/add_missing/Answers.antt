@@ -7,7 +7,7 @@ use Rattle.packed_rows.specs.Rows.{slot_total}
 use Rattle.weather_book.proofs.Looks.{no_look}
 use Rattle.weather_book.proofs.Pieces.{more_reads}
 use Rattle.batch_adding.specs.Calls.{rows_of_batches, slots_end}
-use Rattle.batch_adding.proofs.Batches.{adds_none, adds_one, ends_so, fails_one, front_of}
+use Rattle.batch_adding.proofs.Batches.{adds_none, adds_one, batch_less, ends_so, fails_one, front_of}
 use Rattle.packed_rows.specs.Rising.{last_row_stamp, rows_rise}
 use Rattle.weather_book.specs.Stands.{StandsOn}
 use Rattle.weather_book.proofs.BookOnDisk.{to_read_stays}
@@ -15,7 +15,7 @@ use Rattle.weather_book.proofs.RowsOfBook.{stands_rise}
 use Rattle.batch_adding.specs.Adding.{HasSome, batch_count}
 use Rattle.batch_adding.proofs.Kept.{leaves_join, nothing_left}
 use Rattle.archive_copy.proofs.Kept.{batch_leaves}
-use Rattle.archive_copy.proofs.NextRows.{batch_less, front_next, more_next, next_joins, next_rise, up_to_five}
+use Rattle.archive_copy.proofs.NextRows.{front_next, more_next, next_joins, next_rise, up_to_five}
 use Rattle.archive_copy.proofs.ReadAhead.{ahead_none}
 use Rattle.archive_copy.proofs.adding.add_missing.Goals as goal
 

@@ -1,0 +1,4 @@
+pub mod Ahead
+pub mod Later
+pub mod Fives
+pub mod ImportEnds
