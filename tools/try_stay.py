@@ -7,7 +7,7 @@ The lines are cut, consoles sleep, fall silent, flood, or set their clocks back,
 archive has to have the first of the console's records, in order, and at least those that a round counted. SCALE is a whole
 number, and 1 if it is left out: so many times as many runs and rounds are made, and archives are so many times as long.
 
-Waits are made a twentieth as long, which takes a C compiler. A case that cannot be run here is named with the reason: one
+Waits are made shorter, which takes a C compiler. A case that cannot be run here is named with the reason: one
 takes strace, and one valgrind. The last line is 'N passed, M failed', and the status is 1 if any failed.
 """
 import random
@@ -26,8 +26,9 @@ from threading import Thread
 
 sys.dont_write_bytecode = True  # nothing is left beside the scripts
 
+import trying
 from fake_console import ACK, CANCEL, FLOOD_BYTES, WAKE_ANSWER, pages_of, record, sealed, words_of
-from trying import LONGEST, Differs, Ended, hold, need, try_all
+from trying import Differs, Ended, hold, need, try_all
 
 TOOLS = Path(__file__).resolve().parent
 QUICK_WAITS = TOOLS / 'quick_waits.c'
@@ -38,6 +39,7 @@ PERIOD = timedelta(minutes=5)
 LAST_OF_MADE = datetime(1999, 12, 31, 23, 55)  # a made archive of N rows ends N periods behind it
 FRAME_BYTES = 6
 MOST_ROUNDS = 1_000_000
+QUICK, QUICKER = 5, 20  # by which waits are divided: where what was said must not come late, and where many pass
 WAKES = 9  # line feeds of a round for which nobody wakes
 LATEST_KILL, ROUNDS_AGAIN = 1.5, 3  # seconds after the start, and rounds of the next stay
 GIVE_UPS = 12  # rounds in a row that end a stay
@@ -74,7 +76,7 @@ class Console(Thread):
         self.more, self.left, self.deaf, self.talk = more, cut, deaf, talk
         self.fed = self.dumps = 0
         self.door = socket.create_server((HERE, 0))
-        self.door.settimeout(LONGEST)
+        self.door.settimeout(trying.LONGEST)
         self.address = f'{HERE}:{self.door.getsockname()[1]}'
         self.start()
 
@@ -148,14 +150,14 @@ def stay(console, rounds, waits=1):
     return f'stay settings archive {console.address} {rounds} {waits}'
 
 
-def quick(program):
-    """Settings without a key, and an environment in which waits are short."""
+def quick(program, by=QUICK):
+    """Settings without a key, and an environment in which waits are shorter by that number."""
     need('cc', '--version')
     library = program.folder / 'quick.so'
     if not library.exists():
         subprocess.run(['cc', '-shared', '-fPIC', '-O1', '-o', library, QUICK_WAITS], check=True)
     program.write('settings', '')
-    return {'LD_PRELOAD': str(library)}
+    return {'LD_PRELOAD': str(library), 'QUICKER': str(by)}
 
 
 def shown(program, archive='archive'):
@@ -207,7 +209,7 @@ def line_that_is_cut(program):
 
 def stay_that_is_killed(program):
     """A stay that is killed at any moment leaves the rows that it counted, and the next one goes on from there."""
-    environment = quick(program)
+    environment = quick(program, QUICKER)
 
     def once(number):
         console, archive = Console(records=60, more=3), f'archive{number}'
@@ -242,7 +244,7 @@ def end_by_a_signal(program):
 
 def sleeping_console(program):
     """Rounds in a row for which nobody wakes end the run with 4 if they are too many, and else the next round goes on."""
-    environment = quick(program)
+    environment = quick(program, QUICKER)
     console = Console(deaf=range(GIVE_UPS * WAKES))
     ends = hold_rounds(program.run(stay(console, 20), env=environment), DEAD, 'gave up\n')
     hold('the rounds', ends, ['gaveup'] * GIVE_UPS)
@@ -254,7 +256,7 @@ def sleeping_console(program):
 
 def silent_line(program):
     """Packets that are dropped for a while, with no reset of the line, cost rounds, and no row."""
-    environment = quick(program)
+    environment = quick(program, QUICKER)
     console = Console(deaf=range(2, 2 + 5 * WAKES))
     ended = program.run(stay(console, 8), env=environment)
     hold('the rounds', hold_rounds(ended, DONE, ''), ['ok', 'ok'] + ['gaveup'] * 5 + ['ok'])
@@ -327,7 +329,7 @@ def archive_that_is_read_once(program):
     environment = quick(program)
     console = Console()
     under = ['strace', '-f', '-y', '-o', 'trace', '-e', 'trace=connect,read,pread64,openat,mmap']
-    words = ['-E', f'LD_PRELOAD={environment["LD_PRELOAD"]}']
+    words = [f'-E{name}={value}' for name, value in environment.items()]
     rounds = ROUNDS_TRACED * SCALE
     ended = program.run(stay(console, rounds), under=[*under, *words])
     hold('the rounds', hold_rounds(ended, DONE, ''), ['ok'] * rounds)
@@ -341,7 +343,7 @@ def archive_that_is_read_once(program):
 
 def memory_of_many_rounds(program):
     """The memory of a stay does not grow with its rounds."""
-    environment = quick(program)
+    environment = quick(program, QUICKER)
     rounds = ROUNDS_OF_MEMORY * SCALE
     console = Console(more=0)
     with program.start(stay(console, MOST_ROUNDS, 0), env=environment) as run:
@@ -384,4 +386,5 @@ CASES_AT_ONCE = 3
 if __name__ == '__main__':
     if len(sys.argv) == 3:
         SCALE = int(sys.argv.pop())
+        trying.LONGEST *= SCALE
     sys.exit(try_all(sys.argv, __doc__, CASES, CASES_AT_ONCE))
