@@ -46,7 +46,8 @@ GIVE_UPS = 12  # rounds in a row that end a stay
 ROUND = re.compile(r'^round (\w+) attempts \d+ pages \d+ skipped 0 acked (\d+) rows (\d+)$', re.M)
 ROW = re.compile(r'^row (\S+ \S+) 5 ', re.M)
 ALL_ROWS = 'rows 1999-12-31 2127-12-31'
-DONE, DEAD, CUT, KILLED = 0, 4, 6, -signal.SIGKILL
+DONE, DEAD, CUT = 0, 4, 6
+SIGNALS = signal.SIGKILL, signal.SIGTERM
 SCALE = 1
 
 # How much is tried, each times the scale.
@@ -208,17 +209,17 @@ def line_that_is_cut(program):
 
 
 def stay_that_is_killed(program):
-    """A stay that is killed at any moment leaves the rows that it counted, and the next one goes on from there."""
+    """A stay that is ended at any moment leaves the rows that it counted, and the next one goes on from there."""
     environment = quick(program, QUICKER)
 
     def once(number):
-        console, archive = Console(records=60, more=3), f'archive{number}'
+        console, archive, by = Console(records=60, more=3), f'archive{number}', SIGNALS[number % len(SIGNALS)]
         words = stay(console, MOST_ROUNDS, 0).replace(' archive ', f' {archive} ')
         with program.start(words, env=environment) as run:
             time.sleep(random.Random(number).uniform(0, LATEST_KILL))
-            run.process.kill()
+            run.process.send_signal(by)
             ended = run.end()
-        hold('the status', ended.status, KILLED)
+        hold('the status', ended.status, -by)
         if (program.folder / archive).exists():
             hold_archive(program, console, ended.printed, archive)
         again = Console(records=len(console.stamps), more=0)
