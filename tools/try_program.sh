@@ -88,6 +88,12 @@ for name in ./old.archive "$work/old.archive" link.archive second.archive; do
 done
 check cmp -s old.archive kept
 expect 'an archive that was to be copied to itself is kept' 0 ''
+mkdir below
+ln -s below/far.archive near.archive
+run copy old.archive near.archive
+expect 'a copy to a link to a file that is not there' 0 'copied 2'
+check cmp -s old.archive below/far.archive
+expect 'a copy is made where the link leads' 0 ''
 
 cp "$top/examples/settings.toml" "$top/examples/first.schedule" .
 run replay settings.toml first.schedule

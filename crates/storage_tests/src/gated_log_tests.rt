@@ -1,6 +1,5 @@
-use disk_model::{Disk, Disked, Length, MemDisk, Stopping};
-use gated_log::{Append, GatedLog, LogStart, Purpose, SLOT_SIZE, Version};
-use std::alloc::Global;
+use disk_model::{Disk, Disked, MemDisk};
+use gated_log::{Append, GatedLog, LogStart, Purpose, SLOT_SIZE};
 use std::process::Abort;
 use std::test::Fail;
 
@@ -18,62 +17,6 @@ fn slots_of<D: Disk>(rt: &impl Abort, disk: &mut D) -> Result<u64, Fail> {
         LogStart::Log(log) => Ok(log.slots()),
         _ => Err("no log")?,
     }
-}
-
-#[test]
-fn two_slots_are_appended_to_a_new_archive(rt: HostRuntime) -> Result<(), Fail> {
-    let mut disk = MemDisk::new(rt.alloc(), LONGEST, 20, LONGEST)?;
-    let LogStart::Log(mut log) = GatedLog::recover(&mut disk, Purpose::Write) else {
-        return Err("no log")?;
-    };
-    assert_eq!(rt; log.slots(), 0);
-    assert_eq!(rt; disk.moment(), 3);
-    assert!(rt; disk.length() == Length::Known(177));
-    let mut pair = PAIR;
-    pair[SLOT_SIZE + 1] = 7;
-    assert!(rt; log.append(&mut disk, &pair) == Append::Done);
-    assert_eq!(rt; log.slots(), 2);
-    assert_eq!(rt; disk.moment(), 7);
-    assert!(rt; disk.length() == Length::Known(529));
-    let mut slot = [0; SLOT_SIZE];
-    assert!(rt; log.slot(&mut disk, 1, &mut slot) == Disked::Done);
-    assert_eq!(rt; [slot[0], slot[1], slot[2]], [0, 7, 0]);
-    let mut both = PAIR;
-    assert!(rt; log.slots_at(&mut disk, 0, &mut both) == Disked::Done);
-    assert_eq!(rt; [both[0], both[1], both[2]], [1, 0, 2]);
-    assert_eq!(rt; both[SLOT_SIZE + 1], 7);
-    Ok(())
-}
-
-// Appends two slots to a new archive, stops within change `k` of that, and restarts.
-fn slots_after_a_stop(rt: &impl Abort, alloc: Global, k: u64, pick: u64) -> Result<u64, Fail> {
-    let mut disk = Stopping::new(MemDisk::new(alloc, LONGEST, 20, 2 * LONGEST)?);
-    let LogStart::Log(mut log) = GatedLog::recover(&mut disk, Purpose::Write) else {
-        return Err("no log")?;
-    };
-    assert!(rt; k > 0 && !disk.stopped() && disk.moment() == 3);
-    disk.arm(k, pick);
-    assert!(rt; log.append(&mut disk, &PAIR) == Append::DiskFault);
-    assert!(rt; disk.moment() < 100);
-    assert!(rt; log.append(&mut disk, &PAIR) == Append::Stale);
-    assert!(rt; disk.stopped());
-    disk.restart();
-    slots_of(rt, &mut disk)
-}
-
-#[test]
-fn a_stop_leaves_all_slots_or_none(rt: HostRuntime) -> Result<(), Fail> {
-    for (pick, late) in [0, 2, 2, 2, 2, 2, 2].iter().enumerate() {
-        for k in 1..5 {
-            let slots = slots_after_a_stop(&rt, rt.alloc(), k, pick as u64)?;
-            assert_eq!(rt;
-                slots,
-                if k < 3 { 0 } else { *late },
-                "change {k}, pick {pick}"
-            );
-        }
-    }
-    Ok(())
 }
 
 // Makes an archive, appends two slots, recovers it for reading and reads a slot; which of these met a fault.
@@ -133,49 +76,5 @@ fn a_recovery_follows_many_batches_by_one_read(rt: HostRuntime) -> Result<(), Fa
             _ => return Err("no log")?,
         }
     }
-    Ok(())
-}
-
-#[test]
-fn other_files_are_refused(rt: HostRuntime) -> Result<(), Fail> {
-    let mut disk = MemDisk::new(rt.alloc(), LONGEST, 20, LONGEST)?;
-    assert!(rt; disk.write_at(0, &[b'A'; 200]) == Disked::Done);
-    let LogStart::NotArchive(head) = GatedLog::recover(&mut disk, Purpose::Read) else {
-        return Err("an archive")?;
-    };
-    assert_eq!(rt; head, *b"AAAAAAAA");
-
-    let mut file = [0; 353];
-    file[..8].copy_from_slice(b"DVARCH02");
-    file[176] = 1;
-    assert!(rt; disk.moment() == 1);
-    assert!(rt; disk.write_at(0, &file) == Disked::Done);
-    let LogStart::Damaged(place) = GatedLog::recover(&mut disk, Purpose::Read) else {
-        return Err("no damage")?;
-    };
-    assert_eq!(rt; place, 176);
-    Ok(())
-}
-
-#[test]
-fn the_first_version_is_read_and_not_written(rt: HostRuntime) -> Result<(), Fail> {
-    let mut disk = MemDisk::new(rt.alloc(), LONGEST, 20, LONGEST)?;
-    let mut file = [0; 353];
-    file[..8].copy_from_slice(b"DVARCH01");
-    file[176] = 1;
-    file[178] = 1;
-    assert!(rt; disk.write_at(0, &file[..352]) == Disked::Done);
-    assert!(rt; disk.moment() == 1);
-    // The chain breaks, since no byte stands behind the batch: that is told after the version.
-    let LogStart::OldVersion = GatedLog::recover(&mut disk, Purpose::Write) else {
-        return Err("written")?;
-    };
-    assert!(rt; disk.moment() == 2);
-    assert!(rt; disk.write_at(352, &[0]) == Disked::Done);
-    let LogStart::Log(log) = GatedLog::recover(&mut disk, Purpose::Read) else {
-        return Err("no log")?;
-    };
-    assert_eq!(rt; log.slots(), 1);
-    assert!(rt; log.version() == Version::First);
     Ok(())
 }

@@ -4,6 +4,8 @@
 #[cfg(test)]
 mod archive_copy_tests;
 #[cfg(test)]
+mod archives;
+#[cfg(test)]
 mod climate_table_tests;
 #[cfg(test)]
 mod daily_summary_tests;
@@ -13,13 +15,7 @@ pub mod fixtures;
 #[cfg(test)]
 mod gated_log_tests;
 #[cfg(test)]
-mod quality_tests;
-#[cfg(test)]
 mod query_service_tests;
-#[cfg(test)]
-mod row_slot_tests;
-#[cfg(test)]
-mod settings_changes_tests;
 #[cfg(test)]
 mod settings_file_tests;
 #[cfg(test)]

@@ -1,20 +1,14 @@
-use crate::weather_reports_tests::{archive, recorded, row_at};
+use crate::archives::{CHANGES, LONGEST, archive};
+use crate::dated_rows::Time;
 use disk_model::MemDisk;
 use query_service::{Queries, QueryEnd, answer_queries};
 use serial_link::{ScriptItem, ScriptLink, TalkItem};
 use std::alloc::Global;
 use std::process::Abort;
 use std::test::Fail;
-use weather_book::Book;
 
-const LONGEST: usize = 20_000;
-
-// The archive of two rows of July 2024.
-fn two_rows(rt: &impl Abort, alloc: Global, disk: &mut MemDisk) -> Result<Book, Fail> {
-    let first = recorded(row_at(rt, 7, 1, 5, 650));
-    let second = recorded(row_at(rt, 7, 1, 10, 671));
-    archive(rt, alloc, disk, &[first, second])
-}
+// Two times of one day.
+const TWO: [Time; 2] = [(7, 1, 5), (7, 1, 10)];
 
 // A script of these bytes, with a wait between two pieces, and then of one more item.
 fn script(alloc: Global, pieces: &[&[u8]], last: Option<ScriptItem>) -> Result<ScriptLink, Fail> {
@@ -42,51 +36,6 @@ fn said(alloc: Global, link: &ScriptLink) -> Result<Vec<u8>, Fail> {
         }
     }
     Ok(bytes)
-}
-
-#[test]
-fn each_line_is_answered_as_it_ends(rt: HostRuntime) -> Result<(), Fail> {
-    let alloc = rt.alloc();
-    let mut disk = MemDisk::new(alloc, LONGEST, 20, LONGEST)?;
-    let book = two_rows(&rt, alloc, &mut disk)?;
-    let count_and_last = "count 2
-row 2024-07-01 00:10 5 outTemp=671 rain=0 highRainRate=0 windSamples=0 windGust=0 ET=0
-";
-    let days = b"rows 2024-07-01 2024-07-02\nrows 2024-07-02 2024-07-01\nday 2024-06-30\n";
-    let days_text =
-        "row 2024-07-01 00:05 5 outTemp=650 rain=0 highRainRate=0 windSamples=0 windGust=0 ET=0
-row 2024-07-01 00:10 5 outTemp=671 rain=0 highRainRate=0 windSamples=0 windGust=0 ET=0
-end
-error
-end
-";
-    let cases: [(&[&[u8]], u32, u64, &str); 7] = [
-        (&[b"cou", b"nt\nlast\n"], 3, 2, count_and_last),
-        (&[&[b'x'; 70], b"\ncount\n"], 3, 2, "error\ncount 2\n"),
-        (
-            &[&[b'x'; 64], b"\n", &[b'x'; 65], b"\n"],
-            7,
-            2,
-            "error\nerror\n",
-        ),
-        (&[days], 1, 3, days_text),
-        (
-            &[b"\ncount \ncount\r\nCOUNT\nday 2024-07-01 \nrows 2024-07-01\n"],
-            1,
-            6,
-            "error\nerror\nerror\nerror\nerror\nerror\n",
-        ),
-        (&[b"count\ncount"], 1, 1, "count 2\n"),
-        (&[b"count"], 1, 0, ""),
-    ];
-    for (pieces, turns, lines, text) in cases {
-        let mut link = script(alloc, pieces, None)?;
-        let mut count = Queries { lines: 0 };
-        let end = answer_queries(&book, &mut disk, &mut link, turns, &mut count);
-        assert_eq!(rt; (end, count.lines), (QueryEnd::Done, lines));
-        assert_eq!(rt; said(alloc, &link)?.as_slice(), text.as_bytes());
-    }
-    Ok(())
 }
 
 #[test]
@@ -122,8 +71,8 @@ fn a_link_or_a_disk_that_fails_ends_the_service(rt: HostRuntime) -> Result<(), F
         (rows, ScriptItem::SendFails, 1, QueryEnd::LinkFault, 0, ""),
     ];
     for (heard, last, call, want, lines, text) in cases {
-        let mut disk = MemDisk::new(alloc, LONGEST, 20, LONGEST)?;
-        let book = two_rows(&rt, alloc, &mut disk)?;
+        let mut disk = MemDisk::new(alloc, LONGEST, CHANGES, LONGEST)?;
+        let book = archive(&rt, alloc, &mut disk, &TWO)?;
         assert!(rt; call >= 1);
         disk.fail_at(call);
         let mut link = script(alloc, &[heard], Some(last))?;

@@ -10,13 +10,13 @@ pushed : (P : Row → Type 0) (rows : List Row) (row : Row) (b : Bool) → All P
 pushed P rows row true all one = All-push P rows row all one
 pushed P rows row false all one = all
 
-pub loop-day-preserved : goal.loop-day-preserved
-loop-day-preserved g c =
+pub loop-time-preserved : goal.loop-time-preserved
+loop-time-preserved g c =
     let Printable : Row → Type 0 = λ r. All IsPrintable r.values in
     let Limited : Row → Type 0 = λ r. AreMissing r.limited r.values in
     record {
       printable = subst (All Printable) (sym c.push.ensures.items)
-          (pushed Printable c.loop-day.rows.items c.row_of.result (is_ok c.push.result) c.loop-day.invariant.printable c.row_of.ensures.printable);
+          (pushed Printable c.loop-time.rows.items c.row_of.result (is_ok c.push.result) c.loop-time.invariant.printable c.row_of.ensures.printable);
       limited = subst (All Limited) (sym c.push.ensures.items)
-          (pushed Limited c.loop-day.rows.items c.row_of.result (is_ok c.push.result) c.loop-day.invariant.limited c.row_of.ensures.limited);
+          (pushed Limited c.loop-time.rows.items c.row_of.result (is_ok c.push.result) c.loop-time.invariant.limited c.row_of.ensures.limited);
     }
