@@ -171,15 +171,15 @@ def next_piece(line):
     return piece, Moment(time.monotonic() - seconds_ago, asked.late)
 
 
-def hold_talk(line, wanted):
-    """Holds what comes over a line, and the waits before each piece and altogether."""
-    first = before = SLEEPER.now()
+def hold_talk(line, began, wanted):
+    """Holds what comes over a line since a moment, and the waits before each piece and altogether."""
+    before = began
     for waits, piece in wanted:
         said, ended = next_piece(line)
         hold("it said", said, piece)
         hold_seconds(f"the waits before {piece}", before, waits * QUIET_WAIT, ended=ended)
         before = ended
-    hold_seconds("all waits", first, sum(waits for waits, _ in wanted) * QUIET_WAIT, SOONER, before)
+    hold_seconds("all waits", began, sum(waits for waits, _ in wanted) * QUIET_WAIT, SOONER, before)
 
 
 def stop_and_continue(process):
@@ -207,7 +207,7 @@ def disturbed(run, pause):
 def task_at_a_silent_console(program):
     """A task waits as often and as long as it has to."""
     with calling(program, TASK) as (run, line):
-        hold_talk(line, SILENT_TASK)
+        hold_talk(line, run.began, SILENT_TASK)
         hold("the task", run.end(), ASLEEP)
 
 
@@ -215,14 +215,14 @@ def round_at_a_silent_console(program):
     """So does a round."""
     program.write("settings", "period = 5\n")
     with calling(program, "station settings archive {}") as (run, line):
-        hold_talk(line, SILENT_ROUND)
+        hold_talk(line, run.began, SILENT_ROUND)
         hold("the round", run.end(), GAVE_UP)
 
 
 def task_that_is_disturbed(program):
     """A process that is stopped and goes on waits as long, no less and no more."""
     with calling(program, TASK) as (run, line), disturbed(run, WITHIN_A_WAIT):
-        hold_talk(line, SILENT_TASK)
+        hold_talk(line, run.began, SILENT_TASK)
         hold("the task", run.end(), ASLEEP)
 
 

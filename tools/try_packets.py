@@ -26,7 +26,7 @@ sys.dont_write_bytecode = True  # nothing is left beside the scripts
 
 from model.pages import sealed
 from try_line import ACK, AWAKE, END, HERE, LF, MANY_TURNS, ONLY_PORT
-from try_line import hear, hold_talk, listener, serving, with_one_port, word_for
+from try_line import hear, hold_talk, listener, next_piece, serving, with_one_port, word_for
 from trying import LONGEST, SLEEPER, Differs, Ended, Missed, Run, hold, hold_seconds, need, try_all
 
 TOOL = Path(__file__).resolve().parent / "packets.py"
@@ -351,7 +351,9 @@ def part_of_an_entry(program):
 def silent_console(program):
     """A console that never answers is called three times."""
     with taking(program) as console:
-        hold_talk(console.line, [(0, LF), *[(WAITS_FOR_AN_ANSWER, LF)] * TRIES, (0, END)])
+        said, began = next_piece(console.line)
+        hold("it said", said, LF)
+        hold_talk(console.line, began, [*[(WAITS_FOR_AN_ANSWER, LF)] * TRIES, (0, END)])
         console.hold_end(SILENT, NONE_PASSED, "the console does not answer\n")
 
 
