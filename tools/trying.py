@@ -21,7 +21,7 @@ NAP = 0.02  # seconds of one sleep of a sleeper
 STEPS = 2000  # that a sleeper counts behind each sleep, in some 0.1 ms
 MOST_LATE = 0.5  # seconds: if the sleeper came later than that within a case, each time that the case held may have been missed
 NOT_TRIED = 'NOT_TRIED'  # of the environment: the file in which the gate collects what is left out
-TRIES = 5  # how often a case is tried by itself if other processes may have been in its way
+TRIES = 8  # how often a case is tried by itself if other processes may have been in its way
 GLANCE = 1  # seconds between one look whether a run takes too long and the next
 
 
