@@ -1,5 +1,6 @@
 #!/usr/bin/python3
-"""Runs the commands of README's 'Use it' in their order, each as it stands there, over a modelled console.
+"""Runs the commands of README's 'Use it' in their order, each as it stands there, over a modelled console. Behind them come those of
+USING that name a station.
 
     tools/try_use_it.py PROGRAM
 
@@ -34,6 +35,8 @@ LINK_FAULT = 6
 PATH = '/noting:/usr/local/sbin:/usr/local/bin:/usr/sbin:/usr/bin:/sbin:/bin'
 NAP = 0.05
 SHORTER = {' 86400 ': ' 5 '}  # seconds of live packets
+OF_A_STATION = re.compile(r'(sudo )?jofitrana-\w+ .*--station ')
+LEAST_OF_USING = 6
 
 SUDO = '#!/bin/sh\nexec "$@"\n'
 SYSTEMCTL = f"""\
@@ -53,22 +56,29 @@ PRINTED = {
     'jofitrana copy': 'copied 388',
     'jofitrana report': r'day 2024-07-01 outTemp min 650 at 2024-07-01 00:05 max 650',
     'jofitrana climate': r'climate 2024-07 days 1 mean 6500 high 650',
-    'jofitrana-check': r'JOFITRANA (OK|WARNING) - last row ',
-    'jofitrana-salvage': r'saved\.archive has its first 388 rows',
+    'jofitrana-check': r'JOFITRANA \w+ - last row ',
+    'jofitrana-salvage --station': r'saved\.archive has its first 388 rows',
+    'jofitrana-salvage --until': r'kept\.archive has its first 100 rows',
     'jofitrana replay': r'end rows 2584 days 10',
     'jofitrana fleet': r'1 end rows .*2 end rows ',
     'jofitrana make': r'made 5000 records 85 rounds',
     'jofitrana soft': r'row \d{4}-\d\d-\d\d ',
 }
-STATUSES = {'jofitrana-check': (0, 1)}  # the packets' archive may have a row that grows old meanwhile
+STATUSES = {'jofitrana-check': (0, 1, 2)}  # the modelled console has no weather between 2024 and this day, and it stands still
+
+
+def commands_in(text):
+    """The commands of a text, which are indented there."""
+    lines = [re.split(r'\s+# ', line)[0].strip() for line in text.splitlines() if line.startswith('    ')]
+    return [line for line in lines if line and not line.startswith('# ')]
 
 
 def commands():
-    """The commands of README's 'Use it'."""
-    text = (TOOLS.parent / 'README.md').read_text(encoding='utf-8')
-    section = text.split('## Use it\n')[1].split('\n## ')[0]
-    lines = [re.split(r'\s+# ', line)[0].strip() for line in section.splitlines() if line.startswith('    ')]
-    return [line for line in lines if line and not line.startswith('# ')]
+    """The commands of README's 'Use it', and behind them those of USING that name a station."""
+    readme, using = ((TOOLS.parent / name).read_text(encoding='utf-8') for name in ('README.md', 'docs/USING.md'))
+    of_stations = [line for line in commands_in(using) if OF_A_STATION.match(line)]
+    hold(f'{len(of_stations)} commands of USING are enough', len(of_stations) >= LEAST_OF_USING, True)
+    return [*commands_in(readme.split('## Use it\n')[1].split('\n## ')[0]), 'cd /home/observer', *of_stations]
 
 
 def make_root(folder, program):
