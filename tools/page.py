@@ -31,6 +31,7 @@ except ImportError:
 import page_now
 import rows as row_lines
 import stations
+import summer_time
 from climate_tables import YearOfRows, tables_of
 from even_rain import even_rain
 from joined import joined
@@ -91,8 +92,8 @@ def days_within(year, first, last):
 class Page:
     """The page of an archive."""
 
-    def __init__(self, archive, folder, units, name):
-        self.archive, self.folder, self.units, self.name = archive, folder, units, name
+    def __init__(self, archive, folder, units, name, zone=None):
+        self.archive, self.folder, self.units, self.name, self.zone = archive, folder, units, name, zone
         self.templates = jinja2.Environment(loader=jinja2.FileSystemLoader(TEMPLATES), autoescape=True, trim_blocks=True,
                                             lstrip_blocks=True, undefined=jinja2.StrictUndefined)
 
@@ -146,7 +147,8 @@ class Page:
         """Writes the page itself, behind the charts that it names, and takes away those of earlier pages."""
         for chart in charts:
             self.folder.write(chart.file, chart.svg)
-        self.folder.write('index.html', self.render('index.html', now=now, made=made, charts=charts, years=years))
+        twice = summer_time.next_twice(self.zone, made) if self.zone else None
+        self.folder.write('index.html', self.render('index.html', now=now, made=made, charts=charts, years=years, twice=twice))
         self.folder.clear({chart.file for chart in charts})
 
     def write(self, made):
@@ -199,7 +201,9 @@ def main():
         archive, folder = files_of(chosen.names, station)
         archives = joined([Archive(chosen.program, name) for name in (archive, *chosen.also)])
         name = chosen.name or (station.title if station else UNNAMED)
-        page = Page(even_rain(archives, buckets), Folder(folder), Units(stations.is_metric(station, chosen.metric), buckets), name)
+        units = Units(stations.is_metric(station, chosen.metric), buckets)
+        zone = station.zone if station and station.zone else summer_time.zone_of_machine()
+        page = Page(even_rain(archives, buckets), Folder(folder), units, name, zone)
         page.write(station.now() if station else datetime.now())
     except (Refused, stations.StationFault, row_lines.NotRows, OSError) as trouble:
         sys.exit(f'page: {trouble}')

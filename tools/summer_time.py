@@ -1,6 +1,9 @@
 """Which hour of stamps comes twice as a zone's summer time ends: an archive keeps its first time alone."""
+import os
 from datetime import datetime, timedelta
 from typing import NamedTuple
+
+from zones import NoZone, zone_named
 
 LOOK_AHEAD = timedelta(days=31)
 STEP_SECONDS = 900  # clocks change at a quarter of an hour
@@ -29,3 +32,11 @@ def next_twice(zone, now, ahead=LOOK_AHEAD):
         if behind <= before:
             return Twice(behind, before + timedelta(seconds=STEP_SECONDS))
     return None
+
+
+def zone_of_machine():
+    """The zone of TZ; None without it, or if it is no zone."""
+    try:
+        return zone_named(os.environ['TZ']) if os.environ.get('TZ') else None
+    except NoZone:
+        return None

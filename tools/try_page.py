@@ -37,6 +37,7 @@ try:
     import rows as row_lines
     from reports import summaries
     from units import Units
+    from zones import zone_named
 except SystemExit as reason:  # a library is missing
     leave_out(f'{str(reason).split(";", maxsplit=1)[0]}: no page was tried')
     sys.exit(0)
@@ -289,6 +290,16 @@ def age_of_the_last_row(program):
     hold('an old row', page_now.age_text(then, then + timedelta(minutes=5000)), '3 days old')
 
 
+def hour_that_comes_twice(program):
+    """The hour that is going to be lost as summer time ends, from 31 days before, and in no zone without summer time."""
+    for zone, day, wanted in (('Europe/Berlin', 30, True), ('Europe/Berlin', 32, False), ('<+01>-01', 30, False)):
+        one = page_of(program, [])
+        one.zone = zone_named(zone)
+        one.write_index(datetime(2024, 10, 27, 3) - timedelta(days=day), None, [], [])
+        text = '02:00 to 03:00 of 2024-10-27 will come twice as summer time ends. The second time will be lost.'
+        hold(f'{zone}, {day} days before', text in seen(program).text, wanted)
+
+
 def gaps_of_charts(_):
     """A chart has a line for each stretch of rows, and none over a gap, however many rows it has."""
     def values_of(number):
@@ -514,7 +525,7 @@ def pages_of_the_program(program):
 
 CASES = (year_of_rows, page_in_a_browser, last_row_and_its_day, climate_tables, midnight_of_a_month, days_without_rows,
          day_that_is_whole, empty_archive, single_row, day_of_limits, trend_of_three_hours, age_of_the_last_row,
-         gaps_of_charts, awkward_name, page_by_itself, letters_that_can_be_read, rules_of_html, program_without_climate,
+         hour_that_comes_twice, gaps_of_charts, awkward_name, page_by_itself, letters_that_can_be_read, rules_of_html, program_without_climate,
          refusals, years_that_do_not_change, reader_of_a_page, pages_of_the_program)
 AT_ONCE = 2
 
