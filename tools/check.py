@@ -14,6 +14,7 @@ import argparse
 import os
 import re
 import sys
+from contextlib import suppress
 from datetime import date, datetime, timedelta
 from typing import NamedTuple
 
@@ -253,7 +254,8 @@ def console_findings(subject, last, chosen):
                 consoles.period_finding(noted.period, subject.settings, claimed)]
     asked, period, troubles = consoles.ask_console(chosen.program, subject.address, subject.now, last.stamp)
     if asked and subject.is_station:
-        consoles.remember(asked, subject.archive.name)
+        with suppress(PermissionError):  # a user who may just read gets the line all the same
+            consoles.remember(asked, subject.archive.name)
     clock = consoles.clock_finding(asked, chosen.clock) if asked else None
     return [*troubles, clock, consoles.period_finding(period, subject.settings, claimed)]
 
