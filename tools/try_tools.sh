@@ -65,6 +65,7 @@ begin again "$tools/try_again.py" "$program"
 begin use_it "$tools/try_use_it.py" "$program"
 begin page "$tools/try_page.py" "$program"
 begin values "$tools/try_page_values.py" "$program"
+begin weewx "$tools/try_weewx.py" "$program"
 begin sql "$tools/try_sql.py"
 mkdir shown path
 ln -s "$program" path/jofitrana
@@ -470,6 +471,8 @@ expect 'what is installed' 0 'station: systemd finds no unit below prefix: *' \
     "$tools/install.sh" install --prefix prefix --program ./program
 expect 'the program installed' 0 '' cmp program prefix/bin/jofitrana
 expect 'an export that is installed' 0 '' on rows prefix/bin/jofitrana-export table.csv
+expect 'a reader of WeeWX that is installed' 1 'weewx: a: unable to open database file' \
+    prefix/bin/jofitrana-weewx rows a --zone UTC --bucket 0.2mm
 expect 'a setup that is installed' 2 '*no name of a station*' prefix/bin/jofitrana-setup roof.toml there:1
 expect 'a check that is installed' 3 'JOFITRANA UNKNOWN - rows holds text, *' prefix/bin/jofitrana-check rows
 expect 'a salvage that is installed' 0 '*new.archive has its first 15 rows, *' \
@@ -544,6 +547,7 @@ expect_end stations 0 '*[1-9]* passed, 0 failed'
 expect_end new_station 0 '*[1-9]* passed, 0 failed'
 expect_end again 0 '*[1-9]* passed, 0 failed'
 expect_end use_it 0 '*'
+expect_end weewx 0 '*[1-9]* passed, 0 failed'
 if /usr/bin/python3 -c 'import jinja2, matplotlib' 2>/dev/null; then
     expect_end page 0 '*[1-9]* passed, 0 failed'
     expect_end values 0 '*[1-9]* passed, 0 failed'
