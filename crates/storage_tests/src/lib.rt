@@ -4,6 +4,8 @@
 #[cfg(test)]
 mod archive_copy_tests;
 #[cfg(test)]
+mod archive_import_tests;
+#[cfg(test)]
 mod archives;
 #[cfg(test)]
 mod climate_table_tests;
