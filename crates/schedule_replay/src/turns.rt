@@ -129,6 +129,8 @@ impl ReplayRun {
         ensures one_call { result ≡ ReplayTurn.More → is_some self.new.playing ≡ true
             → MakesOneCall line.old disk.old line.new disk.new }
         ensures ends_open { result ≡ ReplayTurn.Ended → is_some self.old.run.session ≡ true }
+        ensures ends_alone { result ≡ ReplayTurn.Ended
+            → (self.old.playing ≡ None) × (length steps.now ≤ self.old.taken) }
         ensures write_fault { Cause (T.telling.faults teller.old) (T.telling.faults teller.new)
             (result ≡ ReplayTurn.WriteFault) }
         ensures still { result ≢ ReplayTurn.WriteFault → T.telling.faults teller.new ≡ T.telling.faults teller.old }

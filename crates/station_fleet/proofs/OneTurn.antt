@@ -1,5 +1,5 @@
 -- One turn of a station.
-use Rattle.std.proofs.Common.{ℕ, ◌≡◌, ◌≢◌, ◌⊎◌, ◌+◌, ◌<◌, true, List, [], ◌∷◌, ◌++◌, inl, inr, refl, sym, ap, subst, ◌∙◌}
+use Rattle.std.proofs.Common.{ℕ, ◌≡◌, ◌≢◌, ◌⊎◌, ◌+◌, ◌<◌, ◌≤◌, length, None, true, List, [], ◌∷◌, ◌++◌, inl, inr, refl, sym, ap, subst, ◌∙◌}
 use Rattle.std.specs.Prelude.{is_some}
 use Rattle.causes.specs.Cause.{Cause}
 use Rattle.station_io.specs.Sink.{Outlet}
@@ -49,6 +49,8 @@ pub record RunTook {K : Type 0} (outlet : Outlet K) (steps : List code_step.Step
   pub one_turn : answer ≡ replay.More → IsOneTurn old new
   pub says_or_stores : answer ≡ replay.More → SaysOrStores line disk line_then disk_then
   pub one_call : answer ≡ replay.More → is_some new.playing ≡ true → MakesOneCall line disk line_then disk_then
+  pub ends_open : answer ≡ replay.Ended → is_some old.run.session ≡ true
+  pub ends_alone : answer ≡ replay.Ended → (old.playing ≡ None) × (length steps ≤ old.taken)
   pub left : answer ≡ replay.More → run_turns_left steps new < run_turns_left steps old
   pub write_fault : Cause (outlet.faults out) (outlet.faults out_then) (answer ≡ replay.WriteFault)
   pub still : answer ≢ replay.WriteFault → outlet.faults out_then ≡ outlet.faults out
@@ -175,7 +177,11 @@ module _ {K : Type 0} (outlet : Outlet K) (s : Station) (steps : List code_step.
     },
     refl,
   )
-  one_by replay.Ended is = tt
+  one_by replay.Ended is = record {
+    no_round = (took.ends_alone is).0;
+    all_taken = subst (λ (xs : List code_step.Step). length xs ≤ s.run.taken) same (took.ends_alone is).1;
+    is_open = took.ends_open is;
+  }
   one_by replay.Unseen is = tt
   one_by replay.WriteFault is = tt
   one_by replay.OutOfMemory is = tt

@@ -1,5 +1,5 @@
 -- What the turns of a station come to.
-use Rattle.std.specs.Prelude.{◌≡◌, ◌⊎◌, ℕ, ◌+◌, true, List, [], ◌∷◌, ◌++◌, is_some, Some, None}
+use Rattle.std.specs.Prelude.{◌≡◌, ◌≤◌, ◌⊎◌, ℕ, ◌+◌, length, true, List, [], ◌∷◌, ◌++◌, is_some, Some, None}
 use Rattle.std.specs.declared.option.Option.{Option}
 use Rattle.causes.specs.Lists.{IsFrontOf}
 use Rattle.settings_file.specs.StationSettings.{StationSettings}
@@ -92,11 +92,17 @@ pub record TakesOneTurn (old new : Station) : Type 0 where
   pub says_or_stores : SaysOrStores old.line old.disk new.line new.disk
   pub one_call : is_some new.run.playing ≡ true → MakesOneCall old.line old.disk new.line new.disk
 
--- the turns were taken one by one, up to the end if there is one
+-- The run is at its end: no round is under way, all steps are taken, and the archive is open.
+pub record IsAtEnd (s : Station) : Type 0 where
+  pub no_round : s.run.playing ≡ None
+  pub all_taken : length s.schedule.steps.items ≤ s.run.taken
+  pub is_open : is_some s.run.run.session ≡ true
+
+-- the turns were taken one by one, up to the end if there is one; the end is a turn of its own
 abbrev pub TurnsOneByOne : Station → List MemberTurn → Station → Type 0
 TurnsOneByOne old [] new = new ≡ old
 TurnsOneByOne old (More ∷ later) new = (next : Station) × TakesOneTurn old next × TurnsOneByOne next later new
-TurnsOneByOne old (Ended ∷ later) new = Unit {0}
+TurnsOneByOne old (Ended ∷ later) new = IsAtEnd old
 TurnsOneByOne old (Unseen ∷ later) new = Unit {0}
 TurnsOneByOne old (WriteFault ∷ later) new = Unit {0}
 TurnsOneByOne old (OutOfMemory ∷ later) new = Unit {0}

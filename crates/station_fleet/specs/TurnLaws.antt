@@ -185,7 +185,7 @@ one_by_one_joins : (l m n : Station) (first later : List MemberTurn) → TurnsOn
 one_by_one_joins l m n [] later one two = subst (λ (s : Station). TurnsOneByOne s later n) one two
 one_by_one_joins l m n (More ∷ first) later one two =
     (one.0, one.1, one_by_one_joins one.0 m n first later one.2 two)
-one_by_one_joins l m n (Ended ∷ first) later one two = tt
+one_by_one_joins l m n (Ended ∷ first) later one two = one
 one_by_one_joins l m n (Unseen ∷ first) later one two = tt
 one_by_one_joins l m n (WriteFault ∷ first) later one two = tt
 one_by_one_joins l m n (OutOfMemory ∷ first) later one two = tt

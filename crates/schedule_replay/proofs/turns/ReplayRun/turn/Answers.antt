@@ -55,6 +55,10 @@ returns-in_default-clause-ended g c is eeprom packet items before made p =
     let none = none_under_way c.args.self.now.playing (sym c.is_some.ensures ∙ c.if-is_some.false) in
     subst (λ (r : ReplayTurn). RunTurnsTo g.T.Teller.telling r k c.args.self.now.settings items c.args.line.now c.close.new.disk c.close.new.self c.args.teller.now c.close.new.teller) is (c.close.ensures.turns_to k items c.args.line.now (stands_none c.args.self.now.playing k c.args.self.now.settings c.args.self.now.taken c.args.self.now.turns items c.args.self.now.run c.args.line.now c.args.disk.now none p) c.in_default.ensures.lookup.3)
 
+pub returns-in_default-clause-ends_alone : goal.returns-in_default-clause-ends_alone
+returns-in_default-clause-ends_alone g c is =
+    (none_under_way c.args.self.now.playing (sym c.is_some.ensures ∙ c.if-is_some.false), c.in_default.ensures.lookup.3)
+
 pub returns-in_default-clause-unseen : goal.returns-in_default-clause-unseen
 returns-in_default-clause-unseen g c is eeprom packet items before made p =
     let k = course eeprom packet c.args.steps.now before made in
