@@ -2,3 +2,5 @@ pub mod Ahead
 pub mod Later
 pub mod Fives
 pub mod ImportEnds
+pub mod SlotRows
+pub mod ArchiveRows
