@@ -16,3 +16,5 @@ mod running;
 mod scripts;
 #[cfg(test)]
 mod sink_tests;
+#[cfg(test)]
+mod stay_tests;
