@@ -2,8 +2,6 @@
 #![tactic(auto)]
 
 #[cfg(test)]
-mod failing_replay_tests;
-#[cfg(test)]
 mod made_run_tests;
 #[cfg(test)]
 mod narrow_sink;
@@ -12,8 +10,6 @@ mod periods;
 mod replay_member;
 #[cfg(test)]
 mod replay_opening_tests;
-#[cfg(test)]
-mod replay_turns_tests;
 #[cfg(test)]
 mod schedule_language_tests;
 #[cfg(test)]

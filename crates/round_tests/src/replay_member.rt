@@ -1,4 +1,4 @@
-ghost use Rattle.std.specs.Prelude.{◌≡◌, IfOk, OnOk};
+ghost use Rattle.std.specs.Prelude.{◌≡◌, IfOk};
 ghost use Rattle.schedule_replay.specs.Replaying.{MayTurn};
 
 use disk_model::{MemDisk, Stopping};
@@ -13,9 +13,7 @@ use std::alloc::Global;
 use std::process::Abort;
 use std::test::Fail;
 
-// No run of these tests takes more turns, or writes more bytes.
-pub(crate) const MOST_TURNS: u32 = 1_000;
-
+// More bytes than one turn writes here.
 const ROOM: usize = 10_000;
 
 // A run with what it works on.
@@ -62,52 +60,5 @@ impl Member {
             &mut self.disk,
             &mut self.out,
         )
-    }
-
-    // Takes turns until one writes something, which is this. Tells what that turn came to.
-    pub(crate) fn write(&mut self, rt: &impl Abort, text: &str) -> Result<ReplayTurn, Fail>
-        requires { MayTurn self.old.schedule.steps.items self.old.line self.old.disk self.old.run }
-        ensures { IfOk result (λ turn. turn ≡ ReplayTurn.More
-            → MayTurn self.new.schedule.steps.items self.new.line self.new.disk self.new.run) }
-    {
-        let before = self.out.bytes().len();
-        for _ in 0..MOST_TURNS {
-            let turn = self.turn();
-            let bytes = self.out.bytes();
-            if bytes.len() > before {
-                assert!(rt; &bytes[before..] == text.as_bytes(), "{text}");
-                return Ok(turn);
-            }
-            match turn {
-                ReplayTurn::More => {}
-                _ => break,
-            }
-        }
-        Err("nothing written")?
-    }
-
-    // The same of a turn that is not the last.
-    pub(crate) fn go_on(&mut self, rt: &impl Abort, text: &str) -> Result<(), Fail>
-        requires { MayTurn self.old.schedule.steps.items self.old.line self.old.disk self.old.run }
-        ensures { OnOk result (MayTurn self.new.schedule.steps.items self.new.line self.new.disk self.new.run) }
-    {
-        match self.write(rt, text)? {
-            ReplayTurn::More => Ok(()),
-            _ => Err("no more")?,
-        }
-    }
-
-    // Takes the turns that are left.
-    pub(crate) fn finish(&mut self) -> Result<(), Fail>
-        requires { MayTurn self.old.schedule.steps.items self.old.line self.old.disk self.old.run }
-    {
-        for _ in 0..MOST_TURNS {
-            match self.turn() {
-                ReplayTurn::More => {}
-                ReplayTurn::Ended => return Ok(()),
-                _ => break,
-            }
-        }
-        Err("no end")?
     }
 }

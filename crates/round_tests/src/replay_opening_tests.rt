@@ -1,5 +1,6 @@
 use crate::replay_member::Member;
 use disk_model::{Disk, Length};
+use schedule_replay::ReplayTurn;
 use std::alloc::Global;
 use std::process::Abort;
 use std::test::Fail;
@@ -14,7 +15,8 @@ fn leaves(
     changes: u64,
 ) -> Result<(), Fail> {
     let mut member = Member::new(rt, alloc, &format!(in alloc; "open\n{stop}")?)?;
-    member.go_on(rt, written)?;
+    assert!(rt; member.turn() == ReplayTurn::More, "{stop}");
+    assert!(rt; member.out.bytes() == written.as_bytes(), "{stop}");
     assert!(rt; member.disk.length() == Length::Known(length), "{stop}");
     assert_eq!(rt; member.disk.moment(), changes, "{stop}");
     Ok(())

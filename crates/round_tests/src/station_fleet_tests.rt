@@ -53,23 +53,6 @@ fn run_three<K: Sink>(
 }
 
 #[test]
-fn stations_take_turns_as_they_are_drawn(rt: HostRuntime) -> Result<(), Fail> {
-    let mut out = MemSink::new(rt.alloc(), ROOM)?;
-    let end = run_three(&rt, rt.alloc(), ["", "", ""], 1, &mut out)?;
-    assert_eq!(rt;
-        end,
-        FleetEnd::Done {
-            turns: 6,
-            switches: 5
-        }
-    );
-    let text =
-        "3 open rows 0\n2 open rows 0\n1 open rows 0\n2 end rows 0 days 0\n3 end rows 0 days 0\n1 end rows 0 days 0\n";
-    assert!(rt; out.bytes() == text.as_bytes());
-    Ok(())
-}
-
-#[test]
 fn the_least_unseen_station_is_named(rt: HostRuntime) -> Result<(), Fail> {
     // The changes of the first page pass its check.
     let unseen = "run 2024-07-01 00:05 5\nround\nreply 4 flip 5 011021\nround\n";

@@ -1,17 +1,59 @@
 use crate::five_minutes;
 use archive_record::Rec52;
-use arrayvec::ArrayVec;
 use console_model::Due;
 use console_tests::new_console;
 use loop_packet::LoopPacket;
-use schedule_file::{Fate, Fates};
+use schedule_file::{Fates, Schedule, Step};
 use serial_link::{Link, Recv, Sent, TalkItem};
-use station_base::{Period, Stamp};
+use station_base::Stamp;
 use station_sim::{Sim, Unseen};
 use std::alloc::Global;
 use std::process::Abort;
 use std::test::Fail;
 use value_tests::record_of;
+
+// Room for a page.
+const ROOM: usize = 300;
+
+// What is done over a line, and what comes of it.
+#[derive(Clone, Copy)]
+enum Act {
+    Send(&'static [u8]),
+    // These bytes come, so many bytes, or none.
+    Hear(&'static [u8]),
+    HearSome(usize),
+    Quiet,
+    Harmed(u32),
+    Unseen(Option<Unseen>),
+    // The record of so many minutes after the first stamp falls due, and this becomes of it.
+    Falls(u8, Due),
+    // One dump began, with so many records.
+    Dumped(u64),
+    Idle(u8),
+    Finish,
+}
+
+use Act::{Dumped, Falls, Finish, Harmed, Hear, HearSome, Idle, Quiet, Send};
+
+// The stamp of so many minutes after the first.
+fn stamp_at(minute: u8) -> Option<Stamp> {
+    Stamp::from_words(33, u16::from(minute))
+}
+
+fn record_at(minute: u8) -> Option<Rec52> {
+    record_of(stamp_at(minute)?)
+}
+
+// What befalls a round, as the lines of a schedule have it.
+fn fates(alloc: Global, lines: &str) -> Option<Fates> {
+    let mut text = String::from_str(alloc, "round\n").ok()?;
+    text.push_str(lines).ok()?;
+    let schedule = Schedule::read(alloc, text.as_bytes(), five_minutes()).ok()?;
+    match schedule.steps() {
+        [Step::Round { fates, .. }] => fates.copy().ok(),
+        _ => None,
+    }
+}
 
 // A line to a new console.
 fn line(alloc: Global) -> Option<Sim> {
@@ -19,171 +61,177 @@ fn line(alloc: Global) -> Option<Sim> {
     Sim::new(alloc, console).ok()
 }
 
-// The record of so many minutes after the first stamp.
-fn record_at(minute: u8) -> Option<Rec52> {
-    record_of(Stamp::from_words(33, u16::from(minute))?)
+// So many of these bytes come.
+fn hear(rt: &impl Abort, sim: &mut Sim, buf: &mut [u8; ROOM], count: usize) {
+    assert_eq!(rt; sim.recv(buf), Recv::Got(count));
 }
 
-// So many waits, and then these bytes, and nothing behind them.
-fn expect(rt: &impl Abort, sim: &mut Sim, waits: u8, bytes: &[u8]) {
-    let mut buf = [0; 8];
-    for _ in 0..waits {
-        assert_eq!(rt; sim.recv(&mut buf), Recv::Quiet);
+fn perform(rt: &impl Abort, sim: &mut Sim, act: &Act) {
+    let mut buf = [0; ROOM];
+    match act {
+        Send(bytes) => {
+            assert!(rt; !bytes.is_empty());
+            assert_eq!(rt; sim.send(bytes), Sent::Done);
+        }
+        Hear(bytes) => {
+            hear(rt, sim, &mut buf, bytes.len());
+            assert!(rt; buf.starts_with(bytes));
+        }
+        HearSome(count) => hear(rt, sim, &mut buf, *count),
+        Quiet => assert_eq!(rt; sim.recv(&mut buf), Recv::Quiet),
+        Harmed(count) => assert_eq!(rt; sim.harmed(), *count),
+        Act::Unseen(unseen) => assert_eq!(rt; sim.unseen(), *unseen),
+        Falls(minute, due) => {
+            let record = record_at(*minute).expect(rt, "a record");
+            assert_eq!(rt; sim.due(record), *due);
+        }
+        Dumped(puts) => {
+            assert_eq!(rt; sim.dumps().len(), 1);
+            assert_eq!(rt; sim.dumps().first().map(|dump| dump.puts), Some(*puts));
+        }
+        Idle(ticks) => assert_eq!(rt; sim.idle(*ticks), Sent::Done),
+        Finish => sim.finish(),
     }
-    if !bytes.is_empty() {
-        assert_eq!(rt; sim.recv(&mut buf), Recv::Got(bytes.len()));
-        assert_eq!(rt; buf[..bytes.len()], *bytes);
-    }
-    assert_eq!(rt; sim.recv(&mut buf), Recv::Quiet, "nothing more");
 }
+
+// A round over a new line, of which the lines of a schedule say what befalls it.
+fn play(rt: &impl Abort, alloc: Global, lines: &str, acts: &[Act]) -> Result<Sim, Fail> {
+    let mut sim = line(alloc).ok_or("no line")?;
+    sim.start(fates(alloc, lines).ok_or("no fates")?);
+    for step in acts {
+        perform(rt, &mut sim, step);
+    }
+    Ok(sim)
+}
+
+// The host's first message is named.
+const FIRST: Option<Unseen> = Some(Unseen {
+    from_host: true,
+    number: 1,
+});
+
+const WOKEN: &[u8] = b"\n\r";
 
 #[test]
-fn a_reply_comes_late_and_damaged(rt: HostRuntime) -> Result<(), Fail> {
-    let mut sim = line(rt.alloc()).expect(&rt, "a line");
-    let mut fates = Fates::new(rt.alloc());
-    fates.late(1, 2, 0)?;
-    fates.reply(2, Fate::Cut(1))?;
-    fates.reply(3, Fate::Lost)?;
-    fates.host(4, Fate::Lost)?;
-    sim.start(fates);
-    assert_eq!(rt; sim.send(b"\n"), Sent::Done);
-    expect(&rt, &mut sim, 2, b"\n\r");
-    assert_eq!(rt; sim.harmed(), 0);
-    assert_eq!(rt; sim.send(b"\n"), Sent::Done);
-    expect(&rt, &mut sim, 0, b"\n");
-    assert_eq!(rt; sim.harmed(), 1);
-    assert_eq!(rt; sim.send(b"\n"), Sent::Done);
-    expect(&rt, &mut sim, 0, b"");
-    assert_eq!(rt; sim.send(b"\n"), Sent::Done);
-    expect(&rt, &mut sim, 0, b"");
-    assert_eq!(rt; sim.harmed(), 3);
-    assert_eq!(rt; sim.unseen(), None);
-    sim.finish();
-    assert_eq!(rt; sim.send(b"\n"), Sent::Done);
-    expect(&rt, &mut sim, 0, b"\n\r");
-    Ok(())
-}
-
-#[test]
-fn a_damaged_command_that_is_obeyed_is_unseen(rt: HostRuntime) -> Result<(), Fail> {
-    let mut sim = line(rt.alloc()).expect(&rt, "a line");
-    let mut fates = Fates::new(rt.alloc());
-    fates.host(1, Fate::Dropped { place: 0, count: 1 })?;
-    sim.start(fates);
-    assert_eq!(rt; sim.send(b"XTEST\n"), Sent::Done);
-    assert_eq!(rt;
-        sim.unseen(),
-        Some(Unseen {
-            from_host: true,
-            number: 1,
-        })
-    );
-    expect(&rt, &mut sim, 0, b"\n\rTEST\n\r");
+fn replies_come_late_and_damaged(rt: HostRuntime) -> Result<(), Fail> {
+    let cases: [(&str, &[Act]); 5] = [
+        // A reply is late, cut, and lost, and then the message is; behind the round comes what was sent.
+        (
+            "reply 1 late 2 0\nreply 2 cut 1\nreply 3 lost\nhost 4 lost\n",
+            &[
+                Send(b"\n"),
+                Quiet,
+                Quiet,
+                Hear(WOKEN),
+                Quiet,
+                Harmed(0),
+                Send(b"\n"),
+                Hear(b"\n"),
+                Quiet,
+                Harmed(1),
+                Send(b"\n"),
+                Quiet,
+                Send(b"\n"),
+                Quiet,
+                Harmed(3),
+                Act::Unseen(None),
+                Finish,
+                Send(b"\n"),
+                Hear(WOKEN),
+                Quiet,
+            ],
+        ),
+        // A damaged command is obeyed.
+        (
+            "host 1 drop 0 1\n",
+            &[
+                Send(b"XTEST\n"),
+                Act::Unseen(FIRST),
+                Hear(b"\n\rTEST\n\r"),
+                Quiet,
+            ],
+        ),
+        // So is this one, and its answer passes for whole too: the message is named.
+        (
+            "host 1 drop 0 1\nreply 1 flip 0 0C\n",
+            &[Send(b"XTEST\n"), Harmed(2), Act::Unseen(FIRST)],
+        ),
+        // What lies beyond the end of a reply harms nothing.
+        (
+            "reply 1 cut 3\nreply 2 flip 2 FF\nreply 3 late 1 0\nreply 3 cut 1\n",
+            &[
+                Send(b"\n"),
+                Hear(WOKEN),
+                Quiet,
+                Send(b"\n"),
+                Hear(WOKEN),
+                Quiet,
+                Harmed(0),
+                Send(b"\n"),
+                Quiet,
+                Hear(b"\n"),
+                Quiet,
+                Harmed(1),
+            ],
+        ),
+        // A page waits twice before its byte 200.
+        (
+            "reply 4 late 2 200\n",
+            &[
+                Falls(5, Due::Put),
+                Send(b"\n"),
+                Hear(WOKEN),
+                Send(b"DMPAFT\n"),
+                Hear(&[6]),
+                Send(&[0; 6]),
+                HearSome(7),
+                Send(&[6]),
+                HearSome(200),
+                Quiet,
+                Quiet,
+                HearSome(67),
+            ],
+        ),
+    ];
+    for (lines, acts) in cases {
+        play(&rt, rt.alloc(), lines, acts)?;
+    }
     Ok(())
 }
 
 #[test]
 fn records_fall_due_with_their_message(rt: HostRuntime) -> Result<(), Fail> {
-    let mut sim = line(rt.alloc()).expect(&rt, "a line");
-    assert_eq!(rt; sim.due(record_at(5).expect(&rt, "a record")), Due::Put);
-    let mut fates = Fates::new(rt.alloc());
-    fates.mid(1, record_at(10).expect(&rt, "a record"))?;
-    fates.mid(9, record_at(15).expect(&rt, "a record"))?;
-    sim.start(fates);
-    assert_eq!(rt; sim.send(b"DMPAFT\n"), Sent::Done);
-    expect(&rt, &mut sim, 0, &[6]);
-    assert_eq!(rt; sim.send(&[0; 6]), Sent::Done);
-    assert_eq!(rt; sim.dumps().len(), 1);
-    assert_eq!(rt; sim.dumps().first().map(|dump| dump.puts), Some(2));
-    sim.finish();
-    assert_eq!(rt;
-        sim.due(record_at(15).expect(&rt, "a record")),
-        Due::NotRising(record_at(15).expect(&rt, "a record").stamp())
-    );
-    assert_eq!(rt; sim.idle(40), Sent::Done);
-    assert_eq!(rt;
-        sim.talk().first().copied(),
-        Some(TalkItem::Said {
-            byte: b'D',
-            ends: false
-        })
-    );
+    let newest = stamp_at(15).ok_or("no stamp")?;
+    let acts = [
+        Falls(5, Due::Put),
+        Send(b"DMPAFT\n"),
+        Hear(&[6]),
+        Quiet,
+        Send(&[0; 6]),
+        Dumped(2),
+        Finish,
+        Falls(15, Due::NotRising(newest)),
+        Idle(40),
+    ];
+    let lines = "mid 1 2000-01-01 00:10\nmid 9 2000-01-01 00:15\n";
+    let sim = play(&rt, rt.alloc(), lines, &acts)?;
+    let first = TalkItem::Said {
+        byte: b'D',
+        ends: false,
+    };
+    assert_eq!(rt; sim.talk().first().copied(), Some(first));
     Ok(())
 }
 
-// One byte at a place comes with the bits of a mask turned.
-fn flipped(place: u32, mask: u8) -> Fate {
-    let mut masks = ArrayVec::new();
-    masks.push(mask);
-    Fate::Flipped { place, masks }
-}
-
 #[test]
-fn what_lies_beyond_the_end_harms_nothing(rt: HostRuntime) -> Result<(), Fail> {
-    let mut sim = line(rt.alloc()).expect(&rt, "a line");
-    let mut fates = Fates::new(rt.alloc());
-    fates.reply(1, Fate::Cut(3))?;
-    fates.reply(2, flipped(2, 0xFF))?;
-    fates.late(3, 1, 0)?;
-    fates.reply(3, Fate::Cut(1))?;
-    sim.start(fates.copy()?);
-    for _ in 0..2 {
-        assert_eq!(rt; sim.send(b"\n"), Sent::Done);
-        expect(&rt, &mut sim, 0, b"\n\r");
+fn a_console_sleeps_from_the_32nd_tick_on(rt: HostRuntime) -> Result<(), Fail> {
+    let cases: [(&str, &[Act]); 3] = [
+        ("", &[Idle(31), Send(b"\n"), Hear(WOKEN), Quiet]),
+        ("", &[Idle(32), Send(b"\n"), Quiet]),
+        ("", &[Idle(33), Send(b"\n"), Quiet]),
+    ];
+    for (lines, acts) in cases {
+        play(&rt, rt.alloc(), lines, acts)?;
     }
-    assert_eq!(rt; sim.harmed(), 0);
-    assert_eq!(rt; sim.send(b"\n"), Sent::Done);
-    expect(&rt, &mut sim, 1, b"\n");
-    assert_eq!(rt; sim.harmed(), 1);
     Ok(())
-}
-
-#[test]
-fn a_page_waits_twice_before_its_byte_200(rt: HostRuntime) -> Result<(), Fail> {
-    let mut sim = line(rt.alloc()).expect(&rt, "a line");
-    assert_eq!(rt; sim.due(record_at(5).expect(&rt, "a record")), Due::Put);
-    let mut fates = Fates::new(rt.alloc());
-    fates.late(4, 2, 200)?;
-    sim.start(fates);
-    let mut buf = [0; 300];
-    for message in [b"\n".as_slice(), b"DMPAFT\n", &[0; 6]] {
-        assert_eq!(rt; sim.send(message), Sent::Done);
-        assert_ne!(rt; sim.recv(&mut buf), Recv::Quiet);
-    }
-    assert_eq!(rt; sim.send(&[6]), Sent::Done);
-    assert_eq!(rt; sim.recv(&mut buf), Recv::Got(200));
-    assert_eq!(rt; sim.recv(&mut buf), Recv::Quiet);
-    assert_eq!(rt; sim.recv(&mut buf), Recv::Quiet);
-    assert_eq!(rt; sim.recv(&mut buf), Recv::Got(67));
-    Ok(())
-}
-
-#[test]
-fn a_message_is_named_before_its_reply(rt: HostRuntime) -> Result<(), Fail> {
-    let mut sim = line(rt.alloc()).expect(&rt, "a line");
-    let mut fates = Fates::new(rt.alloc());
-    fates.host(1, Fate::Dropped { place: 0, count: 1 })?;
-    fates.reply(1, flipped(0, 0x0C))?;
-    sim.start(fates);
-    assert_eq!(rt; sim.send(b"XTEST\n"), Sent::Done);
-    assert_eq!(rt; sim.harmed(), 2);
-    assert_eq!(rt;
-        sim.unseen(),
-        Some(Unseen {
-            from_host: true,
-            number: 1,
-        })
-    );
-    Ok(())
-}
-
-#[test]
-fn a_console_sleeps_from_the_32nd_tick_on(rt: HostRuntime) {
-    let ticks: [(u8, &[u8]); 3] = [(31, b"\n\r"), (32, b""), (33, b"")];
-    for (count, reply) in ticks {
-        let mut sim = line(rt.alloc()).expect(&rt, "a line");
-        assert_eq!(rt; sim.idle(count), Sent::Done);
-        assert_eq!(rt; sim.send(b"\n"), Sent::Done);
-        expect(&rt, &mut sim, 0, reply);
-    }
 }
