@@ -320,7 +320,9 @@ def report(whole, old, new, behind):
     _, count, last = whole.ends[-1]
     say(f'{old} is ' + ('not damaged' if whole.damage is None else f'damaged at {whole.damage}'))
     say(f'{new} has its first {count} rows' + (f', the last of {last.stamp:%Y-%m-%d %H:%M}' if last else ''))
-    if whole.damage or behind:
+    if behind and whole.damage is None:
+        say(f'{behind} rows behind them are dropped, and printed. The next round with {new} adds what the console still has of them')
+    elif whole.damage or behind:
         say(f'{behind} rows behind them can be read. They are printed, and may be wrong: {new} has none of them')
         say(f'the other rows behind them are missing. The next round with {new} adds what the console still has:')
         say(f'the records later than the last row, out of its last {CONSOLE_RECORDS:,}')

@@ -165,6 +165,11 @@ def asked(address, request):
         return line.makefile('rb').readline()
 
 
+def ended(program, *words):
+    """A run of the tool that has to end by itself."""
+    return subprocess.run(words_of(program, *words), cwd=program.folder, capture_output=True, text=True, timeout=2 * LONGEST, check=False)
+
+
 def files_that_are_refused(program):
     """Files that the program refuses end the tool with the program's line and status, and so does an address that is taken."""
     write_console(program)
@@ -173,16 +178,14 @@ def files_that_are_refused(program):
               (['console', 'roof.toml', 'nothing', '127.0.0.1:1'], 8, 'again: read fault\n'),
               (['serve', 'nothing', '127.0.0.1:1'], 7, 'again: disk fault\n'))
     for words, status, line in trials:
-        ran = subprocess.run(words_of(program, *words), cwd=program.folder, capture_output=True, text=True, check=False)
+        ran = ended(program, *words)
         hold(' '.join(words), (ran.returncode, ran.stdout, ran.stderr), (status, '', line))
     with socket.create_server(('127.0.0.1', 0)) as taken:
         address = '127.0.0.1:%d' % taken.getsockname()[1]
-        ran = subprocess.run(words_of(program, 'console', 'roof.toml', 'some.schedule', address), cwd=program.folder,
-                             capture_output=True, text=True, check=False)
+        ran = ended(program, 'console', 'roof.toml', 'some.schedule', address)
         hold('an address that is taken', (ran.returncode, ran.stderr), (LINK_FAULT, f'again: {address}: Address already in use\n'))
     for words in (['console', 'roof.toml', 'some.schedule'], ['serve', 'a', 'nowhere'], ['task', 'a:1'], []):
-        ran = subprocess.run(words_of(program, *words), cwd=program.folder, capture_output=True, check=False)
-        hold(' '.join(words), ran.returncode, USAGE)
+        hold(' '.join(words), ended(program, *words).returncode, USAGE)
 
 
 CASES = (console_for_setup, console_for_a_class, console_for_other_programs, archive_for_many, files_that_are_refused)

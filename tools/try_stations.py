@@ -9,9 +9,13 @@ line is 'N passed, M failed', and the status is 1 if any failed.
 import glob
 import os
 import re
+import socket
+import struct
 import subprocess
 import sys
 import tempfile
+import time
+from contextlib import contextmanager
 from datetime import date, datetime, timedelta
 from pathlib import Path
 
@@ -23,7 +27,7 @@ from model.records import NAMES
 from model.rows import Row, row_line
 from model.stamps import stamp_of_texts
 from stand_in import write_archive
-from trying import LeftOut, hold, try_all
+from trying import LONGEST, NAP, SLEEPER, LeftOut, Missed, hold, try_all
 from zones import zone_named
 
 TOOLS = Path(__file__).resolve().parent
@@ -32,6 +36,7 @@ FAR_ZONE = 'America/New_York'  # of this machine, so that its own zone is never 
 GOOD, TROUBLE, USAGE = 0, 1, 2
 ZONE_OF_A_COMMAND = re.compile(r"""(?:--zone |-zone |TZ=)["']?((?:[A-Z][A-Za-z]*/|<)[A-Za-z0-9<>+/:_-]+)""")
 LEAST_ZONES = 10
+PACKET_SECONDS = '8'  # in which a console sends at least one
 
 ROOF = """\
 ADDRESS=127.0.0.1:1
@@ -262,6 +267,43 @@ def zone_of_a_page(program):
     hold('its age', bool(re.search(r'\b[345] minutes old', page)), True)
 
 
+@contextmanager
+def console(program):
+    """A modelled console that sends live packets; gives its address."""
+    with socket.socket() as door:
+        door.bind(('127.0.0.1', 0))
+        port = door.getsockname()[1]
+    with subprocess.Popen([TOOLS / 'fake_console.py', str(port)], cwd=program.folder) as process:
+        try:
+            began = SLEEPER.now()
+            while f':{port:04X} 00000000:0000 0A' not in Path('/proc/net/tcp').read_text(encoding='ascii'):
+                if process.poll() is not None or began.is_over(LONGEST):
+                    raise Missed('the console does not listen')
+                time.sleep(NAP)
+            yield f'127.0.0.1:{port}'
+        finally:
+            process.terminate()
+
+
+def packets_of_a_station(program):
+    """Packets are taken of the station's console, and their moments are by its zone."""
+    with console(program) as address:
+        write_environment(program, f'ADDRESS={address}\nTZ=<+0530>-5:30\n')
+        began = datetime.utcnow()
+        words = [TOOLS / 'packets.py', '--settings', 'etc', '--station', 'roof', PACKET_SECONDS, 'live.packets']
+        ran = subprocess.run(words, cwd=program.folder, capture_output=True, text=True, env=os.environ | {'TZ': FAR_ZONE}, check=False)
+    if ran.stdout.startswith('packets taken 0,'):
+        raise Missed('no packet came')
+    hold(f'packets: {ran.stderr}', ran.returncode, GOOD)
+    day, clock, second = struct.unpack_from('<HHB', program.read('live.packets'))
+    moment = datetime(2000 + day // 512, day // 32 % 16, day % 32, clock // 100, clock % 100, second)
+    behind = moment - began - timedelta(hours=5, minutes=30)
+    hold(f'a packet of {moment}, {behind} behind', timedelta(seconds=-1) <= behind <= timedelta(minutes=5), True)
+    write_environment(program, 'TZ=UTC\n')
+    ran = subprocess.run(words, cwd=program.folder, capture_output=True, text=True, check=False)
+    hold('a station without an address', (ran.returncode, 'an address, some seconds' in ran.stderr), (1, True))
+
+
 def zones_of_the_manual(_):
     """Each zone that a document or a tool's own words name in a command is one without summer time."""
     top, found = TOOLS.parent, 0
@@ -317,6 +359,7 @@ def rows_up_to_a_stamp(program):
             hold('no archive', (program.folder / 'new').exists(), False)
             continue
         hold(f'until {stamp}: {trouble}', (status, printed), (GOOD, ''.join(row_line(row) + '\n' for row in rows[kept:])))
+        hold('what is dropped', f'salvage: {len(rows) - kept} rows behind them are dropped, and printed.' in trouble, kept < len(rows))
         shown = program.run('report new rows 1999-12-31 2127-12-31').printed
         hold(f'the rows until {stamp}', shown, ''.join(row_line(row) + '\n' for row in rows[:kept]))
         hold('the archive', program.read('new'), batches_of(rows[:kept], sizes[:ends.index(kept)]))
@@ -327,7 +370,7 @@ def rows_up_to_a_stamp(program):
 
 
 CASES = (forms_of_settings, settings_out_of_form, rain_of_a_table, rain_of_a_page, rain_of_a_chart, rain_of_a_database,
-         zone_of_an_export, zone_of_a_page, zones_of_the_manual, settings_without_a_bucket, words_of_a_station, rows_up_to_a_stamp)
+         zone_of_an_export, zone_of_a_page, packets_of_a_station, zones_of_the_manual, settings_without_a_bucket, words_of_a_station, rows_up_to_a_stamp)
 
 if __name__ == '__main__':
     sys.exit(try_all(sys.argv, __doc__, CASES, 4))
