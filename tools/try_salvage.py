@@ -25,6 +25,7 @@ import time
 from unittest import mock
 
 sys.dont_write_bytecode = True
+import archive_slots
 import salvage
 from model import archive, outcomes, rows, stamps
 
@@ -67,7 +68,7 @@ def made_rows(share_of_limited=0.3):
     stamp, made = stamps.stamp_of_parts(*FIRST_STAMP), []
     for number in range(sum(ROWS_OF_BATCHES)):
         stamp += MINUTES_BEFORE.get(number, PERIOD)
-        values = [None] * len(salvage.NAMES)
+        values = [None] * len(archive_slots.NAMES)
         for place in USUAL_FIELDS:
             values[place] = draw.choice((0, draw.randint(-500, 500), draw.randint(0, 30_000)))
         limited = frozenset({LIMITED_FIELD} if draw.random() < share_of_limited else ())
@@ -79,14 +80,14 @@ def rows_by_one(days, fields):
     """Rows at these stamps with values of these fields."""
     draw = random.Random(2)
     return [rows.Row(stamps.stamp_of_parts(2024, 7, *parts), PERIOD,
-                     tuple(draw.randint(-500, 500) if place in fields else None for place in range(len(salvage.NAMES))))
+                     tuple(draw.randint(-500, 500) if place in fields else None for place in range(len(archive_slots.NAMES))))
             for parts in days]
 
 
 def rows_of_period(period, count):
     """So many rows, a period apart, with two values each."""
     first = stamps.stamp_of_parts(*FIRST_STAMP[:3], 22, 0)
-    empty = (None,) * (len(salvage.NAMES) - 2)
+    empty = (None,) * (len(archive_slots.NAMES) - 2)
     return [rows.Row(first + number * period, period, (number % 97 - 30, number % 89, *empty)) for number in range(count)]
 
 

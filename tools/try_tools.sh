@@ -315,7 +315,7 @@ expect 'another address' 1 '*! etc/roof.env has ADDRESS=here:1 in place of ADDRE
 rm -r etc
 memory 2D=07 2B=30
 expect 'a period and a bucket that are none' 1 '*! Its period is 7 minutes, *! Its rain bucket is of a size *' set_up
-expect 'settings without a period' 1 0 grep -c period etc/roof.toml
+expect 'settings without a period' 1 0 grep -c '^period' etc/roof.toml
 rm -r etc
 memory 12=00 16=01 14=d8 15=ff
 expect 'summer time by itself, and a zone of its own' 1 \
