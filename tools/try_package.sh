@@ -290,6 +290,7 @@ echo 'ROUNDS=1' >>"$root/etc/jofitrana/roof.env"
 expect 'a stay of one round by its unit' 0 $'round ok attempts 1 pages 0 * rows 48\nstayed 1' unit jofitrana-stay
 expect 'a stay beside a round that holds the archive' 7 'disk fault' \
     flock "$root/var/lib/jofitrana/roof.archive" chroot "$root" "$tools/run_unit.py" /usr/lib/systemd/system/jofitrana-stay@.service roof
+echo 'CHECK=--stuck 99,99' >>"$root/etc/jofitrana/roof.env" # this console's records are all alike
 expect 'a check by its unit' 0 'JOFITRANA OK *' unit jofitrana-check
 expect 'a look at its console by its unit' 0 $'time *\nJOFITRANA OK *' unit jofitrana-clock
 expect 'whose note it is' 0 jofitrana in_root stat -c %U /var/lib/jofitrana/roof.console
