@@ -11,6 +11,10 @@ top=$(cd "$(dirname "$0")/.." && pwd)
 program=$(readlink -f "$1")
 # shellcheck source=tools/expecting.sh
 . "$top/tools/expecting.sh"
+if [ "$(head -c 4 "$program")" != $'\x7fELF' ]; then
+    leave_out 'the program is started by a script: no limit of its stack and its address space was tried'
+    exit 0
+fi
 work=$(mktemp -d)
 trap 'rm -rf "$work"' EXIT
 mkdir "$work/files" && cd "$work/files" || exit 1
