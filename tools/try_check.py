@@ -198,6 +198,8 @@ def silent_fields():
     hold_line('an anemometer that is out', checked(broken), 'WARNING', 'windSpeed has had no value', lacks=['windDir'])
     away = Made(20, 30).without(NOW - 3 * DAY, NOW - 10 * MINUTE).setting(1, outTemp=None)
     hold_line('one row without behind a gap', checked(away), 'CRITICAL', 'gap', lacks=['outTemp'])
+    away.rows[-2][2]['outTemp'] = None
+    hold_line('rows without on both sides of a gap', checked(away), 'CRITICAL', 'gap', lacks=['outTemp'])
 
 
 # Hours for which values stand, the values, the status, and whether it is named.
