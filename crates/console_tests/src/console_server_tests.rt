@@ -1,10 +1,9 @@
 use crate::new_console;
-use console_model::{Console, Due};
 use console_server::{ServeEnd, Served, make_ready, serve};
 use loop_packet::LoopPacket;
-use schedule_file::{Schedule, Step};
+use schedule_file::Schedule;
 use serial_link::{ScriptItem, ScriptLink, TalkItem};
-use station_base::{Period, Stamp};
+use station_base::Period;
 use std::alloc::Global;
 use std::test::Fail;
 
@@ -35,38 +34,40 @@ fn said(alloc: Global, talk: &[TalkItem]) -> Result<(Vec<u8>, u32), Fail> {
     Ok((bytes, messages))
 }
 
-#[test]
-fn an_empty_line_is_answered_line_feed_and_carriage_return(rt: HostRuntime) -> Result<(), Fail> {
-    let five = Period::from_minutes(5).expect(&rt, "a period");
-    let mut console = new_console(rt.alloc(), five, LoopPacket::blank())?;
-    let mut link = plays(rt.alloc(), b"\n.")?;
+// What a serving came to: its end, how many bytes it heard, and what it said.
+#[derive(Drop)]
+struct Outcome {
+    end: ServeEnd,
+    count: Served,
+    bytes: Vec<u8>,
+    messages: u32,
+}
+
+// Serves a new console, for which so much of a schedule comes before, over a link that plays a script.
+fn serving(alloc: Global, before: &[u8], script: &[u8], turns: u32) -> Result<Outcome, Fail> {
+    let five = Period::from_minutes(5).ok_or("no period")?;
+    let schedule = Schedule::read(alloc, before, five)
+        .ok()
+        .ok_or("no schedule")?;
+    let mut console = new_console(alloc, five, LoopPacket::blank())?;
+    make_ready(&mut console, schedule.steps(), five);
+    let mut link = plays(alloc, script)?;
     let mut count = Served { heard: 0, said: 0 };
-    assert_eq!(rt;
-        serve(&mut console, &mut link, 2, &mut count),
-        ServeEnd::Done
-    );
-    assert_eq!(rt; count, Served { heard: 1, said: 2 });
-    let talk = [
-        TalkItem::Heard(b'\n'),
-        TalkItem::Said {
-            byte: b'\n',
-            ends: false,
-        },
-        TalkItem::Said {
-            byte: b'\r',
-            ends: true,
-        },
-        TalkItem::Quiet,
-    ];
-    assert_eq!(rt; link.talk(), talk.as_slice());
-    Ok(())
+    let end = serve(&mut console, &mut link, turns, &mut count);
+    let (bytes, messages) = said(alloc, link.talk())?;
+    Ok(Outcome {
+        end,
+        count,
+        bytes,
+        messages,
+    })
 }
 
 #[test]
 fn commands_are_answered_by_the_table_of_the_console(rt: HostRuntime) -> Result<(), Fail> {
-    let five = Period::from_minutes(5).expect(&rt, "a period");
     // What comes, the turns, what is said, and in how many messages.
-    let rows: [(&[u8], u32, &[u8], u32); 7] = [
+    let rows: [(&[u8], u32, &[u8], u32); 8] = [
+        (b"\n.", 2, b"\n\r", 1),
         (b"TEST\n", 1, b"\n\rTEST\n\r", 1),
         (b"WRD\x12M\n", 1, b"\x06\x10", 1),
         (b"VER\n", 1, b"\x21", 1),
@@ -76,111 +77,52 @@ fn commands_are_answered_by_the_table_of_the_console(rt: HostRuntime) -> Result<
         (b"DMPAFT\nA...", 4, b"\x06\x21", 2),
     ];
     for (script, turns, bytes, messages) in rows {
-        let mut console = new_console(rt.alloc(), five, LoopPacket::blank())?;
-        let mut link = plays(rt.alloc(), script)?;
-        let mut count = Served { heard: 0, said: 0 };
-        assert_eq!(rt;
-            serve(&mut console, &mut link, turns, &mut count),
-            ServeEnd::Done
+        let outcome = serving(rt.alloc(), b"", script, turns)?;
+        assert!(rt; outcome.end == ServeEnd::Done, "{script:?}");
+        assert!(rt; outcome.bytes.as_slice() == bytes, "{script:?}");
+        assert!(rt;
+            (outcome.messages, outcome.count.said) == (messages, bytes.len() as u64),
+            "{script:?}"
         );
-        let (got, ends) = said(rt.alloc(), link.talk())?;
-        assert!(rt; got.as_slice() == bytes);
-        assert_eq!(rt; ends, messages);
-        assert_eq!(rt; count.said, bytes.len() as u64);
     }
     Ok(())
 }
 
 #[test]
 fn a_piece_has_256_bytes_at_most(rt: HostRuntime) -> Result<(), Fail> {
-    let five = Period::from_minutes(5).expect(&rt, "a period");
-    // Turns, and how many of 300 line feeds are heard.
-    let rows = [(1, 256), (2, 300)];
-    for (turns, heard) in rows {
-        let mut console = new_console(rt.alloc(), five, LoopPacket::blank())?;
-        let mut link = plays(rt.alloc(), &[b'\n'; 300])?;
-        let mut count = Served { heard: 0, said: 0 };
-        assert_eq!(rt;
-            serve(&mut console, &mut link, turns, &mut count),
-            ServeEnd::Done
-        );
-        assert_eq!(rt; count.heard, heard);
-        assert_eq!(rt; count.said, heard.saturating_mul(2));
+    // Turns, how many of 300 line feeds are heard, and how many bytes are said.
+    for (turns, heard, said) in [(1, 256, 512), (2, 300, 600)] {
+        let outcome = serving(rt.alloc(), b"", &[b'\n'; 300], turns)?;
+        assert!(rt; outcome.end == ServeEnd::Done);
+        assert_eq!(rt; outcome.count, Served { heard, said });
     }
     Ok(())
 }
 
 #[test]
 fn a_link_that_fails_ends_the_serving(rt: HostRuntime) -> Result<(), Fail> {
-    let five = Period::from_minutes(5).expect(&rt, "a period");
     // What comes, and how many bytes are said before the link fails.
     let rows: [(&[u8], usize); 4] = [(b"!", 0), (b"", 0), (b"\n~", 0), (b".TEST\n.!", 8)];
     for (script, bytes) in rows {
-        let mut console = new_console(rt.alloc(), five, LoopPacket::blank())?;
-        let mut link = plays(rt.alloc(), script)?;
-        let mut count = Served { heard: 0, said: 0 };
-        assert_eq!(rt;
-            serve(&mut console, &mut link, 9, &mut count),
-            ServeEnd::LinkFault
-        );
-        assert_eq!(rt; said(rt.alloc(), link.talk())?.0.len(), bytes);
-    }
-    Ok(())
-}
-
-#[test]
-fn records_before_the_first_round_fall_due(rt: HostRuntime) -> Result<(), Fail> {
-    let five = Period::from_minutes(5).expect(&rt, "a period");
-    // A schedule, and the newest stamp at its first round.
-    let rows: [(&[u8], &[u8]); 4] = [
-        (
-            b"due 2024-07-01 00:05\nround\ndue 2024-07-01 00:10\n",
-            b"2024-07-01 00:05",
-        ),
-        (
-            b"due 2024-07-01 00:05\nround\nmid 1 2024-07-01 00:10\n",
-            b"2024-07-01 00:05",
-        ),
-        (
-            b"run 2024-07-01 00:05 3\nopen\nstop 1 0\ndue 2024-07-01 00:30\n",
-            b"2024-07-01 00:30",
-        ),
-        (b"run 2024-07-01 00:00 288\n", b"2024-07-01 23:55"),
-    ];
-    for (text, newest) in rows {
-        let schedule = Schedule::read(rt.alloc(), text, five).expect(&rt, "a schedule");
-        let mut console = new_console(rt.alloc(), five, LoopPacket::blank())?;
-        make_ready(&mut console, schedule.steps(), five);
-        let Some(Step::Due(rec) | Step::Run { first: rec, .. }) = schedule.steps().first() else {
-            panic!(rt; "a record");
-        };
-        let stamp = Stamp::from_text(newest).expect(&rt, "a stamp");
-        assert_eq!(rt; console.due(*rec), Due::NotRising(stamp));
+        let outcome = serving(rt.alloc(), b"", script, 9)?;
+        assert!(rt; outcome.end == ServeEnd::LinkFault, "{script:?}");
+        assert_eq!(rt; outcome.bytes.len(), bytes, "{script:?}");
     }
     Ok(())
 }
 
 #[test]
 fn a_console_left_alone_for_32_ticks_sleeps(rt: HostRuntime) -> Result<(), Fail> {
-    let five = Period::from_minutes(5).expect(&rt, "a period");
     // The ticks before the first round, and what is said to two line feeds.
     let rows: [(&[u8], &[u8]); 3] = [
         (b"idle 31\nround\nidle 40\n", b"\n\r\n\r"),
         (b"idle 32\nround\n", b"\n\r"),
         (b"idle 20\nopen\nidle 12\n", b"\n\r"),
     ];
-    for (text, bytes) in rows {
-        let schedule = Schedule::read(rt.alloc(), text, five).expect(&rt, "a schedule");
-        let mut console = new_console(rt.alloc(), five, LoopPacket::blank())?;
-        make_ready(&mut console, schedule.steps(), five);
-        let mut link = plays(rt.alloc(), b"\n\n")?;
-        let mut count = Served { heard: 0, said: 0 };
-        assert_eq!(rt;
-            serve(&mut console, &mut link, 1, &mut count),
-            ServeEnd::Done
-        );
-        let (got, _) = said(rt.alloc(), link.talk())?;
-        assert!(rt; got.as_slice() == bytes);
+    for (before, bytes) in rows {
+        let outcome = serving(rt.alloc(), before, b"\n\n", 1)?;
+        assert!(rt; outcome.end == ServeEnd::Done, "{before:?}");
+        assert!(rt; outcome.bytes.as_slice() == bytes, "{before:?}");
     }
     Ok(())
 }
