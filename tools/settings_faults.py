@@ -87,7 +87,8 @@ def trouble_at(settings, refusal):
         return path, f"'least' of {match[1]} is above its 'greatest'"
     if match := FAULT_OF_CHANGE.fullmatch(refusal):
         wanted = 'a later stamp than the change before it' if match[1] == 'change order' else 'a stamp as "2024-07-01 00:10"'
-        return ['change', int(match[2])], f"'from' of this change is not {wanted}"
+        path = ['change', int(match[2])]
+        return [*path, 'from'] if at_path(settings, [*path, 'from']) else path, f"'from' of this change is not {wanted}"
     if refusal == 'settings bad period':
         return ['period'], "'period' is none that a console can keep"
     return [], refusal

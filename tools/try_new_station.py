@@ -30,14 +30,16 @@ GOOD, TROUBLE, USAGE = 0, 1, 2
 NAP = 0.05
 MEMORY_BYTES, FIRST_PLACE, SUMMER_BY_HAND, SETUP_BITS, PERIOD = 29, 0x11, 0x12, 0x2B, 0x2D
 
-# A program that answers the tasks of setup by files, and leaves all else to the program itself.
+# A program that answers setup as a console without records does, and leaves all else to the program itself.
 ANSWERING = """\
 #!/bin/sh
-[ "$1" = task ] || exec {} "$@"
-case $3 in
-    kind) echo 'kind 16' ;;
-    time) date -u '+time %F %T' ;;
-    eeprom) cat memory ;;
+case "$1 $3" in
+    'task kind') echo 'kind 16' ;;
+    'task time') date -u '+time %F %T' ;;
+    'task eeprom') cat memory ;;
+    'station '*) ;;
+    'report rows') ;;
+    *) exec {} "$@" ;;
 esac
 """
 SYSTEMCTL = '#!/bin/sh\necho "$*" >>noted\n'
