@@ -233,6 +233,8 @@ def periods():
     hold_line('of the console alone', checked(Made().every(10, since)), 'CRITICAL',
               f'rows come every 10 minutes since {since:%Y-%m-%d %H:%M} and claim 5', 'lacks 0 rows', lacks=['gap'])
     hold_line('for an hour', checked(Made().every(10, NOW - HOUR)), 'WARNING', 'every 10 minutes', 'lacks 0 rows')
+    asked = checked(Made().every(10, NOW - HOUR), '--console', 'there:1', answers=answers_of(NOW, '0a'))
+    hold_line('of the console, which is asked', asked, 'CRITICAL', 'a record every 10 minutes')
     hold_line('of both', checked(Made().every(10, since, 10)), 'OK', 'rows are of 10 minutes since', 'were of 5 before',
               'lacks 0 rows', lacks=['gap'])
     shorter = Made(9, 5)
