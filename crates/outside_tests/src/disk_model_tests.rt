@@ -1,4 +1,5 @@
-use disk_model::{Disk, Disked, Length, MemDisk, Stopping};
+use crate::calls::{attaches, length, reads, syncs, writes};
+use disk_model::{Disk, Length, MemDisk, Stopping};
 use std::alloc::Global;
 use std::process::Abort;
 use std::test::Fail;
@@ -7,33 +8,50 @@ const SYNCED: &[u8] = b"abcdefgh";
 
 const LONGEST: usize = 16;
 
-// Syncs the first bytes, stops within the last of these writes, restarts, and compares what is left.
-fn leaves(
+// A disk on which the first bytes are synced.
+fn synced(rt: &impl Abort, alloc: Global) -> Result<MemDisk, Fail> {
+    let mut disk = MemDisk::new(alloc, LONGEST, 4, 32)?;
+    assert!(rt; writes(rt, &mut disk, 0, SYNCED) && syncs(rt, &mut disk));
+    Ok(disk)
+}
+
+// Such a disk that stopped within the last of these writes, and was restarted.
+fn restarted(
     rt: &impl Abort,
     alloc: Global,
-    writes: &[(u64, &[u8])],
+    pieces: &[(u64, &[u8])],
     pick: u64,
-    left: &[u8],
-) -> Result<(), Fail> {
-    let mut disk = Stopping::new(MemDisk::new(alloc, LONGEST, 4, 32)?);
-    assert!(rt; disk.write_at(0, SYNCED) == Disked::Done);
-    assert!(rt; disk.sync() == Disked::Done);
-    assert!(rt; !disk.stopped() && !writes.is_empty());
-    disk.arm(writes.len() as u64, pick);
-    for &(at, bytes) in writes {
-        assert!(rt; disk.moment() < 10 && !bytes.is_empty());
-        let _answer = disk.write_at(at, bytes);
+) -> Result<Stopping<MemDisk>, Fail> {
+    let mut disk = Stopping::new(synced(rt, alloc)?);
+    assert!(rt; !disk.stopped() && !pieces.is_empty());
+    disk.arm(pieces.len() as u64, pick);
+    for &(at, bytes) in pieces {
+        let _done = writes(rt, &mut disk, at, bytes);
     }
     assert!(rt; disk.stopped());
     disk.restart();
-    assert!(rt;
-        disk.length() == Length::Known(left.len() as u64),
-        "length at {pick}"
-    );
+    Ok(disk)
+}
+
+// Whether a disk has just these bytes.
+fn holds(disk: &mut impl Disk, left: &[u8]) -> bool {
     let mut bytes = [0; LONGEST];
-    assert!(rt; left.len() <= LONGEST);
-    assert!(rt; disk.read(0, &mut bytes[..left.len()]) == Disked::Done);
-    assert_eq!(rt; &bytes[..left.len()], left, "bytes at {pick}");
+    left.len() <= LONGEST
+        && disk.length() == Length::Known(left.len() as u64)
+        && reads(disk, 0, &mut bytes[..left.len()])
+        && &bytes[..left.len()] == left
+}
+
+// A stop within the last of these writes leaves these bytes.
+fn leaves(
+    rt: &impl Abort,
+    alloc: Global,
+    pieces: &[(u64, &[u8])],
+    pick: u64,
+    left: &[u8],
+) -> Result<(), Fail> {
+    let mut disk = restarted(rt, alloc, pieces, pick)?;
+    assert!(rt; holds(&mut disk, left), "at {pick}");
     Ok(())
 }
 
@@ -86,29 +104,31 @@ fn a_restart_takes_the_picked_image(rt: HostRuntime) -> Result<(), Fail> {
     Ok(())
 }
 
+// A disk on which the first bytes are written, and this call from then on fails.
+fn failing(rt: &impl Abort, alloc: Global, call: u64) -> Result<MemDisk, Fail> {
+    let mut disk = MemDisk::new(alloc, LONGEST, 4, 32)?;
+    assert!(rt; writes(rt, &mut disk, 0, SYNCED) && call >= 1);
+    disk.fail_at(call);
+    Ok(disk)
+}
+
 #[test]
 fn each_call_fails_in_turn(rt: HostRuntime) -> Result<(), Fail> {
-    for failing in 1..6 {
-        let mut disk = MemDisk::new(rt.alloc(), LONGEST, 4, 32)?;
-        assert!(rt; disk.write_at(0, SYNCED) == Disked::Done);
-        disk.fail_at(failing);
-        let mut bytes = [0; 4];
+    for call in 1..6 {
+        let mut disk = failing(&rt, rt.alloc(), call)?;
         let done = [
-            disk.attach("archive", true) == Disked::Done,
-            disk.length() == Length::Known(8),
-            disk.read(4, &mut bytes) == Disked::Done,
-            disk.write_at(8, b"i") == Disked::Done,
-            disk.sync() == Disked::Done,
+            attaches(&mut disk, "archive", true),
+            length(&mut disk) == Length::Known(8),
+            reads(&mut disk, 4, &mut [0; 4]),
+            writes(&rt, &mut disk, 8, b"i"),
+            syncs(&rt, &mut disk),
         ];
         for (i, was_done) in done.iter().enumerate() {
-            assert_eq!(rt;
-                *was_done,
-                i as u64 + 1 != failing,
-                "call {i} where {failing} fails"
-            );
+            assert_eq!(rt; *was_done, i as u64 + 1 != call, "call {i} if {call} fails");
         }
         assert_eq!(rt; disk.moment(), 3, "a change that fails is begun");
-        assert!(rt; disk.length() == Length::Known(if failing == 4 { 8 } else { 9 }));
+        let left = Length::Known(if call == 4 { 8 } else { 9 });
+        assert!(rt; length(&mut disk) == left, "if {call} fails");
     }
     Ok(())
 }

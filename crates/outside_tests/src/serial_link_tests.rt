@@ -1,26 +1,35 @@
-use serial_link::{Connected, Link, Recv, ScriptItem, ScriptLink, Sent, Side, TalkItem};
+use crate::calls::{calls, hears, sends};
+use serial_link::{Connected, Recv, ScriptItem, ScriptLink, Sent, TalkItem};
+use std::alloc::Global;
 use std::test::Fail;
+
+// A link that plays these items.
+fn plays(alloc: Global, items: &[ScriptItem]) -> Result<ScriptLink, Fail> {
+    Ok(ScriptLink::new(alloc, Vec::from_slice(alloc, items)?)?)
+}
 
 #[test]
 fn plays_its_script_in_order(rt: HostRuntime) -> Result<(), Fail> {
     use ScriptItem::{Bytes, Fail as Fails, Quiet, SendFails};
     let items = [SendFails, Bytes(10), Bytes(13), Bytes(6), Quiet, Fails];
-    let mut link = ScriptLink::new(rt.alloc(), Vec::from_array(rt.alloc(), items)?)?;
-    let mut buf = [0; 2];
-    assert_eq!(rt; link.connect(Side::Call, "console"), Connected::Failed);
-    assert_eq!(rt; link.connect(Side::Call, "console"), Connected::Done);
-    assert_eq!(rt; link.send(b"A\n"), Sent::Done);
-    assert_eq!(rt; link.recv(&mut buf), Recv::Got(2));
-    assert_eq!(rt; buf, [10, 13]);
-    assert_eq!(rt; link.recv(&mut buf), Recv::Got(1));
-    assert_eq!(rt; buf[0], 6);
-    assert_eq!(rt; link.recv(&mut buf), Recv::Quiet);
-    assert_eq!(rt; link.recv(&mut buf), Recv::Failed);
-    assert_eq!(rt;
-        link.recv(&mut buf),
-        Recv::Failed,
-        "the script is exhausted"
-    );
+    let mut link = plays(rt.alloc(), &items)?;
+    for answer in [Connected::Failed, Connected::Done] {
+        assert_eq!(rt; calls(&mut link), answer);
+    }
+    assert_eq!(rt; sends(&rt, &mut link, b"A\n"), Sent::Done);
+    // What is heard, up to the end of the script and past it.
+    let pieces: [(Recv, &[u8]); 5] = [
+        (Recv::Got(2), &[10, 13]),
+        (Recv::Got(1), &[6]),
+        (Recv::Quiet, &[]),
+        (Recv::Failed, &[]),
+        (Recv::Failed, &[]),
+    ];
+    for (answer, bytes) in pieces {
+        let mut buf = [0; 2];
+        assert_eq!(rt; hears(&rt, &mut link, &mut buf), answer);
+        assert!(rt; buf.starts_with(bytes));
+    }
     let talk = [
         TalkItem::Said {
             byte: b'A',
