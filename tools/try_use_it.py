@@ -1,6 +1,6 @@
 #!/usr/bin/python3
 """Runs the commands of README's 'Use it' in their order, each as it stands there, over a modelled console. Behind them come those of
-USING that name a station.
+USING that name a station, and those that bring a station to a new computer.
 
     tools/try_use_it.py PROGRAM
 
@@ -37,6 +37,8 @@ NAP = 0.05
 SHORTER = {' 86400 ': ' 5 '}  # seconds of live packets
 OF_A_STATION = re.compile(r'(sudo )?jofitrana-\w+ .*--station ')
 LEAST_OF_USING = 6
+OBSERVER = '/home/observer'  # whose folder it is
+LEAVE = '(the computer is left)'
 
 SUDO = '#!/bin/sh\nexec "$@"\n'
 SYSTEMCTL = f"""\
@@ -78,7 +80,18 @@ def commands():
     readme, using = ((TOOLS.parent / name).read_text(encoding='utf-8') for name in ('README.md', 'docs/USING.md'))
     of_stations = [line for line in commands_in(using) if OF_A_STATION.match(line)]
     hold(f'{len(of_stations)} commands of USING are enough', len(of_stations) >= LEAST_OF_USING, True)
-    return [*commands_in(readme.split('## Use it\n')[1].split('\n## ')[0]), 'cd /home/observer', *of_stations]
+    moving = commands_in(using.split('### A new computer\n')[1].split('\n### ')[0])
+    first = next(place for place, line in enumerate(moving) if line.startswith('sudo install'))
+    return [*commands_in(readme.split('## Use it\n')[1].split('\n## ')[0]), f'cd {OBSERVER}', *of_stations,
+            *moving[:first], LEAVE, *moving[first:], 'sudo systemctl start jofitrana@roof']
+
+
+def leave(root):
+    """Takes the station's settings to the observer's folder, and all else of it away, as on a new computer."""
+    for file in (root / 'etc/jofitrana').glob('roof.*'):
+        shutil.copy(file, root / OBSERVER[1:])
+    for gone in ('etc/jofitrana', 'var/lib/jofitrana'):
+        shutil.rmtree(root / gone)
 
 
 def make_root(folder, program):
@@ -92,13 +105,13 @@ def make_root(folder, program):
     run('mount', '-t', 'overlay', 'none', '-o', f'lowerdir=/,upperdir={over}/upper,workdir={over}/work', root)
     run('mount', '--rbind', '/proc', root / 'proc')
     run('mount', '--rbind', '/dev', root / 'dev')
-    for gone in ('etc/jofitrana', 'var/lib/jofitrana', 'var/cache/jofitrana', 'home/observer'):
+    for gone in ('etc/jofitrana', 'var/lib/jofitrana', 'var/cache/jofitrana', OBSERVER[1:]):
         shutil.rmtree(root / gone, ignore_errors=True)
     (root / 'noting').mkdir()
     for name, text in (('sudo', SUDO), ('systemctl', SYSTEMCTL)):
         (root / 'noting' / name).write_text(text)
         (root / 'noting' / name).chmod(0o755)
-    (root / 'home/observer').mkdir(parents=True)
+    (root / OBSERVER[1:]).mkdir(parents=True)
     run(TOOLS / 'install.sh', 'install', '--prefix', root / 'usr', '--program', program)
     subprocess.run(['chroot', root, 'useradd', '--system', '--no-create-home', 'jofitrana'], capture_output=True, check=False)
     return root
@@ -111,7 +124,7 @@ def run(*words):
 
 def words_of(root, command, folder):
     """The words that run a command of the shell in the root, in a folder."""
-    return ['chroot', root, 'env', f'PATH={PATH}', 'HOME=/home/observer', 'TZ=UTC', 'bash', '-c', f'cd {folder} && {command}']
+    return ['chroot', root, 'env', f'PATH={PATH}', f'HOME={OBSERVER}', 'TZ=UTC', 'bash', '-c', f'cd {folder} && {command}']
 
 
 def is_there(place):
@@ -187,8 +200,11 @@ def console_words():
 def try_all(root):
     """Tries all commands; gives how many passed and failed."""
     passed = failed = 0
-    folder = '/home/observer'
+    folder = OBSERVER
     for command in commands():
+        if command == LEAVE:
+            leave(root)
+            continue
         if command.startswith('cd '):
             folder = command.removeprefix('cd ')
             continue
