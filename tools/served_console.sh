@@ -37,7 +37,7 @@ prepare() {
 tidy() {
     local number
     for number in "${started[@]}"; do kill "$number" 2>/dev/null; done
-    wait
+    for number in "${started[@]}"; do wait "$number" 2>/dev/null; done  # a port is held until this script ends
     rm -rf "$folder"
 }
 
