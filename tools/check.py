@@ -243,15 +243,16 @@ def summer_finding(subject):
     return Finding('summer time', status, f'{twice.text()} will come twice as summer time ends, and its second time will be lost')
 
 
-def console_findings(subject, last, chosen):
+def console_findings(subject, steps, last, chosen):
     """The findings of the console, if it is to be asked, or else of the note of an earlier check."""
     claimed = last.interval // MINUTE
     if subject.address is None:
         noted = consoles.remembered(subject.archive.name) if subject.is_station else None
         if not noted or not consoles.still_holds(noted, subject.now, last.stamp):
             return []
-        return [consoles.clock_finding(noted, chosen.clock, f'showed at {noted.now:%Y-%m-%d %H:%M}'),
-                consoles.period_finding(noted.period, subject.settings, claimed)]
+        clock = consoles.clock_finding(noted, chosen.clock, f'showed at {noted.now:%Y-%m-%d %H:%M}')
+        has_period = bool(steps) and steps[-1].minutes == noted.period
+        return [clock, consoles.period_finding(noted.period, subject.settings, claimed) if has_period else None]
     asked, period, troubles = consoles.ask_console(chosen.program, subject.address, subject.now, last.stamp)
     if asked and subject.is_station:
         with suppress(PermissionError):  # a user who may just read gets the line all the same
@@ -293,7 +294,7 @@ def found_in(chosen):
     findings = [age, Finding('lacking', lacks.beyond(lacking), f'the day up to it lacks {lacking} rows'),
                 ahead_finding(subject, old, chosen, minutes), gap_finding(steps, subject, chosen),
                 rows_period_finding(steps, clock), *field_findings(rows, re.findall(r'(\w+)=limit', lines[-1]), chosen),
-                *console_findings(subject, last, chosen), summer_finding(subject)]
+                *console_findings(subject, steps, last, chosen), summer_finding(subject)]
     return Found(one_of_kind(findings), f'age={old * 60}s lacking={lacking}')
 
 

@@ -42,18 +42,13 @@ class Clock:
         return round((self.seconds(stamp) - self.seconds(before)) / MINUTE_SECONDS)
 
 
-def has_other_period(minutes, steps):
-    """Whether steps of so many minutes are a period that their rows do not claim."""
-    return len(steps) >= ALIKE and minutes in PERIODS and steps[-1].claimed() != minutes
-
-
 def steps_of(rows, clock):
     """The steps from each row to the next."""
     plain = [Step(before, row, clock.minutes(before.stamp, row.stamp)) for before, row in pairwise(rows)]
     steps = []
-    for minutes, alike in groupby(plain, lambda step: step.minutes):
+    for (minutes, claimed), alike in groupby(plain, lambda step: (step.minutes, step.claimed())):
         alike = list(alike)
-        is_other = has_other_period(minutes, alike)
+        is_other = len(alike) >= ALIKE and minutes in PERIODS and claimed != minutes
         steps += [step._replace(is_other_period=is_other) for step in alike]
     return steps
 

@@ -232,6 +232,9 @@ def periods():
     since = NOW - 10 * HOUR
     hold_line('of the console alone', checked(Made().every(10, since)), 'CRITICAL',
               f'rows come every 10 minutes since {since:%Y-%m-%d %H:%M} and claim 5', 'lacks 0 rows', lacks=['gap'])
+    later = Made().every(10, since)
+    later.rows = [(stamp, 10 if stamp > NOW - 5 * HOUR else minutes, values) for stamp, minutes, values in later.rows]
+    hold_line('of the settings later', checked(later), 'OK', 'rows are of 10 minutes since', 'lacks 0 rows', lacks=['gap', 'every'])
     hold_line('for an hour', checked(Made().every(10, NOW - HOUR)), 'WARNING', 'every 10 minutes', 'lacks 0 rows')
     asked = checked(Made().every(10, NOW - HOUR), '--console', 'there:1', answers=answers_of(NOW, '0a'))
     hold_line('of the console, which is asked', asked, 'CRITICAL', 'a record every 10 minutes')
@@ -317,6 +320,10 @@ def noted_consoles():
         hold_line('set right since', checked(Made(9, 5, later), *station, now=later), 'OK', lacks=['console'])
         hold_line('asked again', checked(Made(), *station, '--console', answers=answers_of(NOW)), 'OK')
         hold_line('good since', checked(Made(), *station), 'OK', lacks=['console'])
+        Path(folder, 'roof.toml').write_text('period = 10\n')
+        hold_line('a period of the settings alone', checked(Made(), *station), 'CRITICAL', 'a record every 5 minutes')
+        changed = Made().every(10, NOW - 5 * HOUR, 10)
+        hold_line('a period that was changed since', checked(changed, *station), 'OK', lacks=['a record every'])
         Path(folder, 'roof.console').write_text('{')
         hold_line('half a note', checked(Made(), *station), 'OK', lacks=['console'])
         hold('what is left', sorted(os.listdir(folder)), ['roof.archive', 'roof.console', 'roof.env', 'roof.toml'])
