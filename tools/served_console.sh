@@ -70,6 +70,7 @@ listens() {
 hold_port() {
     local holder
     exec {holder}< <(python3 -I "$scripts/held_port.py")
+    started+=($!)
     read -r port <&"$holder"
 }
 
