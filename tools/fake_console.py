@@ -9,6 +9,7 @@ a run may lie before those of the run before, as of a clock that was set back. A
 nothing. One that is `sending` sends a live packet every two seconds, and one that is `flooding` sends without a pause.
 """
 import argparse
+import binascii
 import socket
 import struct
 from datetime import datetime, timedelta
@@ -26,12 +27,7 @@ STAMP_BYTES, TIME_BYTES, CHECK_BYTES = 4, 6, 2
 
 def sealed(body):
     """The bytes with their check behind them."""
-    check = 0
-    for byte in body:
-        check ^= byte << 8
-        for _ in range(8):
-            check = (check << 1 ^ 0x1021 if check & 0x8000 else check << 1) & 0xFFFF
-    return body + struct.pack('>H', check)
+    return body + struct.pack('>H', binascii.crc_hqx(body, 0))
 
 
 def words_of(stamp):
@@ -77,6 +73,18 @@ class Console:
         period = timedelta(minutes=self.memory[PERIOD_PLACE])
         self.stamps = [first + count * period for first, many in chosen.run for count in range(many)]
 
+    def shown(self):
+        """What its clock shows."""
+        return datetime.now() + self.ahead
+
+    def show(self, stamp):
+        """Sets its clock."""
+        self.ahead = stamp - datetime.now()
+
+    def newer(self, after):
+        """The records with words above these."""
+        return [record(stamp) for stamp in self.stamps if words_of(stamp) > after]
+
     def serve(self, caller):
         """Answers a caller until it is gone."""
         if self.mood == 'flooding':
@@ -104,7 +112,7 @@ class Console:
         elif word == b'WRD\x12\x4d':
             caller.sendall(ACK + bytes([self.kind]))
         elif word == b'GETTIME':
-            now = datetime.now() + self.ahead
+            now = self.shown()
             caller.sendall(ACK + sealed(bytes([now.second, now.minute, now.hour, now.day, now.month, now.year - 1900])))
         elif word == b'SETTIME':
             self.set_clock(caller)
@@ -143,7 +151,7 @@ class Console:
         frame = self.frame(caller, TIME_BYTES)
         if frame:
             second, minute, hour, day, month, year = frame
-            self.ahead = datetime(1900 + year, month, day, hour, minute, second) - datetime.now()
+            self.show(datetime(1900 + year, month, day, hour, minute, second))
 
     def dump(self, caller):
         """Sends the records that are later than the stamp that the caller says."""
@@ -151,7 +159,7 @@ class Console:
         if frame is None:
             return
         after = struct.unpack('<HH', frame)
-        pages = pages_of([record(stamp) for stamp in self.stamps if words_of(stamp) > after])
+        pages = pages_of(self.newer(after))
         caller.sendall(sealed(struct.pack('<HH', len(pages), 0)))
         for page in [*pages, None]:
             heard = caller.recv(1)
