@@ -4,7 +4,7 @@
     tools/year/try_year.py PROGRAM
 
 Each event is a line of a table: what happened, the rows that were lost, and what the observer was told. The last line is
-'N passed, M failed', and the status is 1 if any failed. It takes some ten minutes, most of which are waits of rounds.
+'N passed, M failed', and the status is 1 if any failed. It takes long, since each of some hundred rounds waits four seconds.
 """
 import signal
 import subprocess
