@@ -21,11 +21,12 @@ sys.dont_write_bytecode = True  # nothing is left beside an installed script
 import chosen_rows
 import rows as row_lines
 import stations
+from page_texts import english_texts
 from svg_text import shortened
 from units import AS_IT_IS, METRIC
 
 try:
-    from matplotlib import dates
+    from matplotlib import dates, ticker
     from matplotlib.figure import Figure
 except ImportError:
     sys.exit('chart: matplotlib is missing; on Debian: apt install python3-matplotlib')
@@ -35,10 +36,24 @@ DOTS_AN_INCH = 80
 # Inches beside the panels, above and below them and between them, for a line of title, and for the numbers of a panel.
 LEFT, RIGHT, TOP, BOTTOM, BETWEEN, TITLE, BESIDE = 1.05, 0.2, 0.6, 0.5, 0.3, 0.2, 0.65
 UNSIGNED = dict.fromkeys(('Creator', 'Date', 'Format', 'Type'))  # a picture of the same rows is the same then
-PANELS = ('temperature', 'humidity', 'pressure', 'wind', 'rain')
+# The panels with the fields that they show: those of weather, inside, and those of growers.
+WEATHER = {'temperature': ('outTemp', 'lowOutTemp', 'highOutTemp'), 'humidity': ('outHumidity',), 'pressure': ('barometer',),
+           'wind': ('windSpeed', 'windGust'), 'rain': ('rain',)}
+INSIDE = {'indoors': ('inTemp',), 'indoor_humidity': ('inHumidity',)}
+GROWING = {'sun': ('radiation',), 'uv': ('UV',), 'evaporation': ('ET',),
+           'soil': ('soilTemp1', 'soilTemp2', 'soilTemp3', 'soilTemp4'),
+           'moisture': ('soilMoist1', 'soilMoist2', 'soilMoist3', 'soilMoist4'), 'leaf': ('leafTemp1', 'leafTemp2'),
+           'wetness': ('leafWet1', 'leafWet2')}
+PANEL_FIELDS = WEATHER | INSIDE | GROWING
+PANELS = tuple(WEATHER)  # that are drawn if none are named
+LINE_COLOURS = {'humidity': 'tab:green', 'pressure': 'tab:purple', 'indoors': 'tab:orange', 'indoor_humidity': 'tab:olive',
+                'sun': 'goldenrod', 'uv': 'tab:purple'}
+PROBE_COLOURS = ('peru', 'tab:blue', 'tab:orange', 'tab:green')  # of the first, second, third and fourth
+BAR_COLOURS = {'rain': 'tab:blue', 'evaporation': 'tab:green'}
 HOUR, DAY = timedelta(hours=1), timedelta(days=1)
 HOURLY = timedelta(days=2)  # beyond this each hour has one bar of rain, and before each row has one
 DAILY = timedelta(days=60)  # beyond this each day has one
+WIND_STEPS = 120  # of the winds of a span of more than two days, each with its mean and its strongest gust
 NO_RAIN_INCHES = 0.1  # that the panel is high if no rain fell
 
 
@@ -71,19 +86,56 @@ def is_lone(values, place):
     return all(math.isnan(value) for value in beside)
 
 
-class Picture:
-    """The panels of a picture of rows, in the units of the observer's choice. It shows the time of the rows, or a span that
-    ends with the last of them."""
+class Ticks(dates.ConciseDateFormatter):
+    """The ticks of time, with the months of a language."""
 
-    def __init__(self, rows, units, title='', panels=PANELS, span=None, size=SIZE):
-        self.rows, self.units = rows, units
+    def __init__(self, locator, texts):
+        super().__init__(locator)
+        self.texts = texts
+
+    def format_ticks(self, values):
+        labels = [self.texts.short_months(label) for label in super().format_ticks(values)]
+        self.offset_string = self.texts.short_months(self.offset_string)
+        return labels
+
+
+class Numbers(ticker.ScalarFormatter):
+    """The ticks of values, with the decimal mark of a language."""
+
+    def __init__(self, texts):
+        super().__init__(useOffset=False)
+        self.texts = texts
+
+    def __call__(self, value, place=None):
+        return self.texts.digits(super().__call__(value, place))
+
+
+def wind_of(rows, begin, end):
+    """The mean wind and the strongest gust of rows within some time, as one row."""
+    winds = [row.values['windSpeed'] for row in rows if 'windSpeed' in row.values]
+    gusts = [row.values['windGust'] for row in rows if 'windGust' in row.values]
+    values = {'windSpeed': sum(winds) / len(winds)} if winds else {}
+    return row_lines.Row(begin + (end - begin) / 2, end - begin, values | ({'windGust': max(gusts)} if gusts else {}))
+
+
+class Picture:
+    """The panels of a picture of rows, in the units and the words of the observer's choice. It shows the time of the rows, or a
+    span that ends with the last of them."""
+
+    def __init__(self, rows, units, title='', panels=PANELS, span=None, size=SIZE, texts=None):
+        self.rows, self.units, self.texts = rows, units, texts or english_texts()
+        self.words = self.texts['charts']
         self.title, self.panels, self.size = title, panels, size
-        self.gapped = with_gaps(rows)
-        self.stamps = [row.stamp for row in self.gapped]
         self.end = rows[-1].stamp
         self.begin = self.end - span if span else rows[0].stamp - rows[0].interval
-        dot = (self.end - self.begin) / ((size[0] - LEFT - RIGHT) * DOTS_AN_INCH)
-        self.columns = [(stamp - self.begin) // dot for stamp in self.stamps]
+        self.dot = (self.end - self.begin) / ((size[0] - LEFT - RIGHT) * DOTS_AN_INCH)
+        self.take(rows)
+
+    def take(self, rows):
+        """Has the lines be those of some rows."""
+        self.gapped = with_gaps(rows)
+        self.stamps = [row.stamp for row in self.gapped]
+        self.columns = [(stamp - self.begin) // self.dot for stamp in self.stamps]
 
     def series(self, name):
         """The values of a field, no number where there is none."""
@@ -108,63 +160,90 @@ class Picture:
         lone = [place for place in range(len(values)) if is_lone(values, place)]
         axes.plot([stamps[place] for place in lone], [values[place] for place in lone], '.', color=colour, markersize=3)
 
-    def temperature(self, axes):
-        """The outside temperature, between the extremes of each row."""
-        low, high = self.series('lowOutTemp'), self.series('highOutTemp')
+    def band(self, axes, low_name, high_name, colour, legend):
+        """Draws the space between two fields."""
+        low, high = self.series(low_name), self.series(high_name)
         places = sorted({*self.seen(low), *self.seen(high)})
         stamps, low, high = ([one[place] for place in places] for one in (self.stamps, low, high))
-        axes.fill_between(stamps, low, high, color='tab:red', alpha=0.3, linewidth=0, label='lowest to highest')
-        self.line(axes, 'outTemp', 'tab:red', 'outside')
-        self.label(axes, 'Temperature', 'outTemp')
+        axes.fill_between(stamps, low, high, color=colour, alpha=0.3, linewidth=0, label=legend)
 
-    def humidity(self, axes):
-        """The outside humidity."""
-        self.line(axes, 'outHumidity', 'tab:green')
-        self.label(axes, 'Humidity', 'outHumidity')
-
-    def pressure(self, axes):
-        """The pressure, as the barometer of the row has it."""
-        self.line(axes, 'barometer', 'tab:purple')
-        self.label(axes, 'Pressure', 'barometer')
+    def temperature(self, axes):
+        """The outside temperature, between the extremes of each row."""
+        self.band(axes, 'lowOutTemp', 'highOutTemp', 'tab:red', self.words['lowest_to_highest'])
+        self.line(axes, 'outTemp', 'tab:red', self.words['outside'])
 
     def wind(self, axes):
-        """The mean wind and the strongest gust of each row."""
-        self.line(axes, 'windGust', 'chocolate', 'gust')
-        self.line(axes, 'windSpeed', 'tab:blue', 'wind')
-        self.label(axes, 'Wind', 'windSpeed')
+        """The mean wind and the strongest gust of each row; of more than two days, of each step of time, as a band and a line."""
+        if self.end - self.begin <= HOURLY:
+            self.line(axes, 'windGust', 'chocolate', self.words['gust'])
+            self.line(axes, 'windSpeed', 'tab:blue', self.words['mean_wind'])
+            return
+        rows = self.rows
+        self.take(self.wind_steps())
+        self.band(axes, 'windSpeed', 'windGust', 'chocolate', self.words['up_to_gust'])
+        self.line(axes, 'windSpeed', 'tab:blue', self.words['mean_wind'])
+        self.take(rows)
 
-    def rain_bars(self):
-        """The rain by when it began to fall, with the time in which it fell, and the words for that time."""
+    def wind_steps(self):
+        """The winds of the rows by steps of time; of rows that are longer than a step, the rows themselves."""
+        step = (self.end - self.begin) / WIND_STEPS
+        if self.rows[-1].interval >= step:
+            return self.rows
+        steps = groupby(self.rows, lambda row: (row.stamp - self.begin - row.interval) // step)
+        return [wind_of(list(rows), self.begin + number * step, self.begin + (number + 1) * step) for number, rows in steps]
+
+    def bars_of(self, name):
+        """The sums of a field by when their time began, each with that time, and the words for it."""
         convert = self.units['inch'][1]
-        span = self.end - self.begin
+        span, interval = self.end - self.begin, self.rows[-1].interval
+        ending = '_day' if span > DAILY or interval >= DAY else '_hour' if span > HOURLY and interval <= HOUR else ''
         fallen = {}
-        for row in (row for row in self.rows if 'rain' in row.values):
+        for row in (row for row in self.rows if name in row.values):
             begin, width = row.stamp - row.interval, row.interval
-            if span > DAILY:
+            if ending == '_day':
                 begin, width = begin.replace(hour=0, minute=0), DAY
-            elif span > HOURLY and width < HOUR:
+            elif ending and width < HOUR:
                 begin, width = begin.replace(minute=0), HOUR
             before = fallen.get(begin, (0, width))[0]
-            fallen[begin] = (before + convert(row.values['rain']), width)
-        return fallen, 'Rain a day' if span > DAILY else 'Rain an hour' if span > HOURLY else 'Rain'
+            fallen[begin] = (before + convert(row.values[name]), width)
+        return fallen, ending
 
-    def rain(self, axes):
-        """The rain as bars, each as wide as the time in which it fell."""
-        fallen, text = self.rain_bars()
+    def bars(self, axes, panel):
+        """Draws the sums of a field as bars, each as wide as its time."""
+        name, = PANEL_FIELDS[panel]
+        fallen, ending = self.bars_of(name)
         bars = [(begin, begin + width, height) for begin, (height, width) in fallen.items() if height]
         stamps = [stamp for begin, end, _ in bars for stamp in (begin, begin, end, end)]
         heights = [one for _, _, height in bars for one in (0, height, height, 0)]
-        axes.fill_between(stamps, heights, color='tab:blue', linewidth=0)
+        axes.fill_between(stamps, heights, color=BAR_COLOURS[panel], linewidth=0)
         axes.set_ylim(0, None if bars else self.units['inch'][1](NO_RAIN_INCHES))
-        self.label(axes, text, 'rain')
+        return self.words[panel + ending]
+
+    def draw(self, axes, panel):
+        """Draws a panel, and names it with the sign of its unit."""
+        label, names = self.words[panel], PANEL_FIELDS[panel]
+        if panel in BAR_COLOURS:
+            label = self.bars(axes, panel)
+        elif panel in LINE_COLOURS:
+            self.line(axes, names[0], LINE_COLOURS[panel])
+        elif panel in GROWING:
+            for number, (name, colour) in enumerate(zip(names, PROBE_COLOURS), 1):
+                if any(name in row.values for row in self.rows):
+                    self.line(axes, name, colour, str(number))
+        else:
+            getattr(self, panel)(axes)
+        self.label(axes, label, names[0])
 
     def finish(self, axes):
         """Gives a panel its grid and, where it has several lines, their names."""
         axes.yaxis.set_label_coords(-BESIDE / (self.size[0] - LEFT - RIGHT), 0.5)
+        axes.xaxis.set_label_coords(0.5, 0)  # a place for each text that there is not, or matplotlib looks for one
+        axes.set_title('', y=1)
+        axes.yaxis.set_major_formatter(Numbers(self.texts))
         axes.grid(True, alpha=0.3)
         axes.set_axisbelow(True)
         if axes.get_legend_handles_labels()[0]:
-            axes.legend(loc='lower right', bbox_to_anchor=(1, 1), borderaxespad=0, frameon=False, fontsize='small', ncol=2)
+            axes.legend(loc='lower right', bbox_to_anchor=(1, 1), borderaxespad=0, frameon=False, fontsize='small', ncol=4)
 
     def room(self):
         """Where the panels stand, as parts of the picture."""
@@ -177,13 +256,15 @@ class Picture:
         figure = Figure(figsize=self.size)
         all_axes = figure.subplots(len(self.panels), sharex=True, squeeze=False, gridspec_kw=self.room()).flat
         for panel, axes in zip(self.panels, all_axes):
-            getattr(self, panel)(axes)
+            self.draw(axes, panel)
             self.finish(axes)
         locator = dates.AutoDateLocator()
-        all_axes[-1].xaxis.set_major_locator(locator)
-        all_axes[-1].xaxis.set_major_formatter(dates.ConciseDateFormatter(locator))
+        ticks = locator.tick_values(*dates.num2date(dates.date2num([self.begin, self.end])))
+        all_axes[-1].xaxis.set_major_locator(ticker.FixedLocator(ticks))  # found once, and not again for each panel
+        all_axes[-1].xaxis.set_major_formatter(Ticks(locator, self.texts))
         all_axes[-1].set_xlim(self.begin, self.end)
-        span = f'{self.rows[0].stamp:%Y-%m-%d %H:%M} to {self.rows[-1].stamp:%Y-%m-%d %H:%M}'
+        first, last = (f'{row.stamp:%Y-%m-%d %H:%M}' for row in (self.rows[0], self.rows[-1]))
+        span = self.words['from_to_span'].format(first=first, last=last)
         figure.suptitle(f'{self.title}\n{span}' if self.title else span, parse_math=False)
         return figure
 
@@ -221,8 +302,8 @@ def panels_named(text):
     """The panels of a list of names with commas."""
     names = text.split(',')
     for name in names:
-        if name not in PANELS:
-            raise argparse.ArgumentTypeError(f"there is no panel '{name}', but {', '.join(PANELS)}")
+        if name not in PANEL_FIELDS:
+            raise argparse.ArgumentTypeError(f"there is no panel '{name}', but {', '.join(PANEL_FIELDS)}")
     return names
 
 

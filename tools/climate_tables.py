@@ -6,6 +6,7 @@ from io import StringIO
 from typing import NamedTuple
 
 import rows as row_lines
+from page_texts import Texts
 from reports import ClimateYear
 from units import MINUS, MISSING, Units
 
@@ -27,6 +28,7 @@ class Table(NamedTuple):
     heads: list
     lines: list
     total: Line
+    texts: Texts
 
     def csv(self):
         """The table as CSV, a number that is missing as nothing."""
@@ -34,7 +36,7 @@ class Table(NamedTuple):
         writer = csv.writer(text, lineterminator='\n')
         writer.writerow([f'{name} ({unit})' if unit else name for name, unit in self.heads])
         for line in [*self.lines, self.total]:
-            writer.writerow([cell.replace(MINUS, '-').replace(MISSING, '') for cell in line.cells])
+            writer.writerow([self.texts.pointed(cell).replace(MINUS, '-').replace(MISSING, '') for cell in line.cells])
         return text.getvalue()
 
 
@@ -114,18 +116,19 @@ def rain_text(units, fields):
 
 
 def heads(units, first, when):
-    """The names and units of the columns behind the first ones."""
-    degrees = units.sign('outTemp')
-    return [*first, ('Mean', degrees), ('High', degrees), (f'High {when}', ''), ('Low', degrees), (f'Low {when}', ''),
-            ('Heating', f'{degrees}·d'), ('Cooling', f'{degrees}·d'), ('Rain', units.sign('rain')),
-            ('Wind', units.sign('windSpeed')), ('Gust', units.sign('windGust')), (f'Gust {when}', '')]
+    """The names and units of the columns behind the first ones. `when` is the ending of the titles of times."""
+    words, degrees = units.texts['climate'], units.sign('outTemp')
+    return [*first, (words['mean'], degrees), (words['high'], degrees), (words[f'high_{when}'], ''), (words['low'], degrees),
+            (words[f'low_{when}'], ''), (words['heating'], f'{degrees}·d'), (words['cooling'], f'{degrees}·d'),
+            (words['rain'], units.sign('rain')), (words['wind'], units.sign('windSpeed')),
+            (words['gust'], units.sign('windGust')), (words[f'gust_{when}'], '')]
 
 
 def day_line(rows, day):
     """The line of a day."""
     title = day.isoformat()
     fields = rows.days.get(title, {})
-    hours = f'{covered_seconds(fields) / HOUR_SECONDS:.1f}'
+    hours = rows.units.texts.digits(f'{covered_seconds(fields) / HOUR_SECONDS:.1f}')
     return Line([str(day.day), hours, mean_text(rows.units, fields, 'outTemp'), *extreme_cells(rows.units, fields, time_of),
                  *degree_cells(rows.units, rows.climate.days.get(title)), rain_text(rows.units, fields),
                  *wind_cells(rows.units, fields, time_of)], lacks_rows(fields))
@@ -150,14 +153,22 @@ def span_cells(units, climate, fields):
             rain_text(units, fields), *wind_cells(units, fields, day_of)]
 
 
+def caption_of(rows, begin, title):
+    """The title of a month or a year. It says from when on there are rows, if that is later."""
+    return rows.units.texts.since(title, rows.first) if begin < rows.first else title
+
+
 def month_table(rows, month):
     """The table of a month by its days."""
     lines = [day_line(rows, day) for day in days_of(rows, month)]
     title = f'{rows.year}-{month:02}'
     hours = sum(covered_seconds(rows.days.get(day.isoformat(), {})) for day in days_of(rows, month)) / HOUR_SECONDS
-    total = ['Month', f'{hours:.1f}', *span_cells(rows.units, rows.climate.months.get(title), fields_of_month(rows, month))]
-    return Table(f'climate-{title}', f'{date(rows.year, month, 1):%B %Y}',
-                 heads(rows.units, [('Day', ''), ('Hours', 'h')], 'at'), lines, Line(total, False))
+    texts, units = rows.units.texts, rows.units
+    words = texts['climate']
+    total = [words['month'], texts.digits(f'{hours:.1f}'),
+             *span_cells(units, rows.climate.months.get(title), fields_of_month(rows, month))]
+    return Table(f'climate-{title}', caption_of(rows, date(rows.year, month, 1), texts.month(date(rows.year, month, 1))),
+                 heads(units, [(words['day'], ''), (words['hours'], 'h')], 'at'), lines, Line(total, False), texts)
 
 
 def merged(summaries):
@@ -198,11 +209,13 @@ def year_table(rows):
         days, climate = days_of(rows, month), rows.climate.months.get(f'{rows.year}-{month:02}')
         all_days += days
         cells = span_cells(rows.units, climate, fields_of_month(rows, month))
-        lines.append(Line([f'{date(rows.year, month, 1):%B}', *count_cells(rows, climate, days), *cells], False))
-    total = ['Year', *count_cells(rows, rows.climate.year, all_days),
+        lines.append(Line([rows.units.texts.months[month - 1], *count_cells(rows, climate, days), *cells], False))
+    words = rows.units.texts['climate']
+    total = [words['year'], *count_cells(rows, rows.climate.year, all_days),
              *span_cells(rows.units, rows.climate.year, fields_of_year(rows))]
-    return Table(f'climate-{rows.year}', str(rows.year),
-                 heads(rows.units, [('Month', ''), ('Lacking', 'days'), ('Wet', 'days')], 'on'), lines, Line(total, False))
+    first = [(words['month'], ''), (words['lacking'], words['days']), (words['wet'], words['days'])]
+    return Table(f'climate-{rows.year}', caption_of(rows, date(rows.year, 1, 1), str(rows.year)),
+                 heads(rows.units, first, 'on'), lines, Line(total, False), rows.units.texts)
 
 
 def tables_of(rows):

@@ -5,19 +5,19 @@
     jofitrana-page --metric --name 'Roof, Bern' roof.archive /var/www/html/roof
 
 With `--station` the archive, the units, the name, the rain bucket and the zone of the console's clock are the station's, and
-FOLDER is NAME.page beside its archive if no other one is named. FOLDER gets index.html, its charts, and a page of climate tables for each year with each table as CSV beside it. A page asks
-no other host and has no script. Each file is replaced as a whole, and a new chart has a new name, so a reader of the folder
-never sees half a page. With `--also OLD`, once or more, it has the rows of archives that were put aside too. Times are the
-console's. Without `--station` this machine's clock has to show them, so set TZ if it does not.
-Statuses: 0, 1 if a report is refused or cut or the folder cannot be written, 2 if the words are out of form.
+FOLDER is NAME.page beside its archive if no other one is named. FOLDER gets index.html, its charts, the last row as data in
+last.json, and a page of climate tables for each year with each table as CSV beside it. A page asks no other host and has no
+script. Each file is replaced as a whole, and a new chart has a new name, so a reader of the folder never sees half a page. What
+did not change is not made anew. A list of its own files stands in FOLDER: others are neither replaced, without `--replace`, nor
+taken away. With `--also OLD`, once or more, it has the rows of archives that were put aside too. Times are the console's.
+Without `--station` this machine's clock has to show them, so set TZ if it does not.
+Statuses: 0, 1 if a report is refused or cut, or the folder cannot be written or has a file of others in the way, 2 if the words
+are out of form.
 """
 import argparse
 import hashlib
-import json
 import os
 import sys
-import tempfile
-import time
 from datetime import date, datetime, timedelta
 from pathlib import Path
 
@@ -28,60 +28,24 @@ try:
 except ImportError:
     sys.exit('page: jinja2 is missing; on Debian: apt install python3-jinja2')
 
+import page_charts
 import page_now
+import page_texts
 import rows as row_lines
 import stations
 import summer_time
 from climate_tables import YearOfRows, tables_of
 from even_rain import even_rain
 from joined import joined
+from page_folder import INDEX, Folder, Foreign
 from reports import Archive, Refused
 from units import Units
 
 TEMPLATES = Path(os.path.realpath(__file__)).parent / 'page'
 UNNAMED = 'Weather station'
-NOTE = '.made.json'  # what each year's tables were made of
-MODE = 0o644
-OLD_SECONDS = 3600  # as long a chart of an earlier page is kept, for who has that page open
+DATA = 'last.json'
 DAY, MONTH = timedelta(days=1), timedelta(days=31)
-YEAR_DAYS = page_now.SPANS['Year']
-
-
-class Folder:
-    """The folder of a page."""
-
-    def __init__(self, name):
-        self.path = Path(name)
-        self.path.mkdir(mode=0o755, parents=True, exist_ok=True)
-
-    def write(self, name, text):
-        """Replaces a file as a whole."""
-        with tempfile.NamedTemporaryFile('w', encoding='utf-8', dir=self.path, prefix='.new-', delete=False) as file:
-            try:
-                file.write(text)
-                file.flush()
-                os.fchmod(file.fileno(), MODE)
-                os.replace(file.name, self.path / name)
-            except BaseException:
-                os.unlink(file.name)
-                raise
-
-    def note(self):
-        """The note of what was made."""
-        try:
-            return dict(json.loads((self.path / NOTE).read_text(encoding='utf-8')))
-        except (OSError, ValueError, TypeError):
-            return {}
-
-    def has(self, name):
-        """Whether a file is there."""
-        return (self.path / name).exists()
-
-    def clear(self, kept):
-        """Takes away charts of earlier pages, and what a run that was killed left."""
-        for file in [*self.path.glob('*-*.svg'), *self.path.glob('.new-*')]:
-            if file.name not in kept and time.time() - file.stat().st_mtime > OLD_SECONDS:
-                file.unlink(missing_ok=True)
+YEAR_DAYS = page_charts.SPANS['Year']
 
 
 def days_within(year, first, last):
@@ -90,48 +54,50 @@ def days_within(year, first, last):
 
 
 class Page:
-    """The page of an archive."""
+    """The page of an archive. A zone is that of the console's clock, and none is this machine's."""
 
-    def __init__(self, archive, folder, units, name, zone=None):
-        self.archive, self.folder, self.units, self.name, self.zone = archive, folder, units, name, zone
+    def __init__(self, archive, folder, units, name, has_inside=False, zone=None):
+        self.archive, self.folder, self.units, self.name = archive, folder, units, name
+        self.has_inside, self.zone = has_inside, zone
         self.templates = jinja2.Environment(loader=jinja2.FileSystemLoader(TEMPLATES), autoescape=True, trim_blocks=True,
                                             lstrip_blocks=True, undefined=jinja2.StrictUndefined)
 
     def render(self, template, **words):
         """The text of a template."""
-        return self.templates.get_template(template).render(name=self.name, **words)
+        return self.templates.get_template(template).render(name=self.name, texts=self.units.texts, **words)
 
     def digest(self, days, months):
         """What the tables of a year are made of, in few digits: of these days and the summaries of its months."""
         source = ''.join(file.read_text(encoding='utf-8') for file in sorted(TEMPLATES.glob('*.html')))
-        made_of = self.name, self.units.sign('outTemp'), self.units.counted_in, days, months, source
+        made_of = (self.name, self.units.sign('outTemp'), self.units.counted_in, days, months, source, self.units.texts.source)
         return hashlib.sha256(repr(made_of).encode()).hexdigest()
 
-    def write_year(self, year, days_of_archive, months):
-        """Writes the tables of a year. Gives whether the program has them."""
+    def files_of_year(self, year, days_of_archive, months):
+        """The files of the tables of a year, or none if the program does not have them."""
         climate = self.archive.climate(year)
         if climate is None:
-            return False
+            return None
         days = self.archive.days(date(year, 1, 1), date(year, 12, 31))
         tables = tables_of(YearOfRows(year, days, months, climate, *days_of_archive, self.units))
-        for table in tables:
-            self.folder.write(f'{table.name}.csv', table.csv())
-        self.folder.write(f'climate-{year}.html', self.render('climate.html', year=year, tables=tables, base=self.units.base()))
-        return True
+        page = self.render('climate.html', year=year, tables=tables, base=self.units.base())
+        return {f'{table.name}.csv': table.csv() for table in tables} | {f'climate-{year}.html': page}
 
-    def write_years(self, days_of_archive, months):
-        """Writes the tables of each year whose rows have changed. Gives the years, the last one first."""
-        note, years = self.folder.note(), sorted({int(title[:4]) for title in months}, reverse=True)
+    def files_of_years(self, days_of_archive, months):
+        """The files of each year whose rows have changed, and by year what its tables were made of and which files they are."""
+        years, texts, made = sorted({int(title[:4]) for title in months}, reverse=True), {}, {}
         for year in years:
             of_year = {title: fields for title, fields in months.items() if title.startswith(f'{year}-')}
             digest = self.digest(days_within(year, *days_of_archive), of_year)
-            if note.get(str(year)) == digest and self.folder.has(f'climate-{year}.html'):
+            before = self.folder.note['made'].get(str(year))
+            if before and before[0] == digest and self.folder.has(before[1]):
+                made[str(year)] = before
                 continue
-            if not self.write_year(year, days_of_archive, months):
-                return []
-            note[str(year)] = digest
-        self.folder.write(NOTE, json.dumps(note))
-        return years
+            files = self.files_of_year(year, days_of_archive, months)
+            if files is None:
+                return {}, {}
+            texts |= files
+            made[str(year)] = digest, list(files)
+        return texts, made
 
     def first_day(self, months):
         """The first day of the archive that has rows."""
@@ -143,27 +109,35 @@ class Page:
         first = date.fromisoformat(next(reversed(months)) + '-01')
         return date.fromisoformat(next(reversed(self.archive.days(first, first + MONTH))))
 
-    def write_index(self, made, now, charts, years):
-        """Writes the page itself, behind the charts that it names, and takes away those of earlier pages."""
-        for chart in charts:
-            self.folder.write(chart.file, chart.svg)
-        twice = summer_time.next_twice(self.zone, made) if self.zone else None
-        self.folder.write('index.html', self.render('index.html', now=now, made=made, charts=charts, years=years, twice=twice))
-        self.folder.clear({chart.file for chart in charts})
+    def write_files(self, texts, charts, made_of, **words):
+        """Writes the page behind the files that it names. `made_of` says of years and charts what they were made of."""
+        drawn = {one.file: one.svg for one in sum(charts, []) if one.svg is not None}
+        years = [key for key in made_of if key.isdigit()]
+        index = self.render('index.html', charts=charts, years=years, **words)
+        kept = [one.file for one in sum(charts, [])] + [name for year in years for name in made_of[year][1]]
+        self.folder.write(texts | drawn | {INDEX: index}, kept, made_of)
+
+    def twice_from(self, made):
+        """The next hour that comes twice as summer time ends, if the console's clock keeps it."""
+        zone = self.zone or summer_time.zone_of_machine()
+        return summer_time.next_twice(zone, made) if zone else None
 
     def write(self, made):
         """Writes the page as of a moment."""
         months = self.archive.months()
         if not months:
-            self.write_index(made, None, [], [])
+            self.write_files({}, [[], []], {}, made=made, now=None, twice=self.twice_from(made))
             return
-        last = self.last_day(months)
-        lines = self.archive.lines_of_rows(last - page_now.MOST_DAYS_OF_ROWS * DAY, last)
+        first, last = self.first_day(months), self.last_day(months)
+        lines = self.archive.lines_of_rows(last - page_charts.MOST_DAYS_OF_ROWS * DAY, last)
         rows = row_lines.rows_of_lines(lines, self.units.buckets)
         days = self.archive.days(last - (YEAR_DAYS - 1) * DAY, last)
-        now = page_now.now_of(rows, days, months, self.units, made)
-        years = self.write_years((self.first_day(months), last), months)
-        self.write_index(made, now, page_now.charts_of(rows, days, self.units), years)
+        now = page_now.now_of(page_now.Seen(rows, days, months, first), self.units, made, self.has_inside)
+        texts, of_years = self.files_of_years((first, last), months)
+        texts[DATA] = page_now.data_of(rows[-1], self.units, self.name, self.zone)
+        charts = page_charts.Charts(self.folder, self.units, self.has_inside, (last - first).days + 1)
+        pictures = charts.all(rows, days)
+        self.write_files(texts, pictures, charts.made | of_years, made=made, now=now, twice=self.twice_from(made))
 
 
 def chosen_words():
@@ -174,6 +148,9 @@ def chosen_words():
     words.add_argument('--metric', action='store_true', help='degrees Celsius, hPa, m/s and mm')
     words.add_argument('--bucket', choices=row_lines.BUCKETS, help='a click of the rain bucket')
     words.add_argument('--name', help='the name of the station')
+    words.add_argument('--language', choices=page_texts.LANGUAGES, default=page_texts.ENGLISH, help='the language of the page')
+    words.add_argument('--inside', action='store_true', help='show what is measured inside, too')
+    words.add_argument('--replace', action='store_true', help='replace a page that is in the folder and not of this tool')
     words.add_argument('--also', action='append', default=[], metavar='OLD', help='an older archive of the station, put aside')
     words.add_argument('--program', default='jofitrana', help='the program, if it is another one')
     stations.add_station_option(words)
@@ -201,11 +178,11 @@ def main():
         archive, folder = files_of(chosen.names, station)
         archives = joined([Archive(chosen.program, name) for name in (archive, *chosen.also)])
         name = chosen.name or (station.title if station else UNNAMED)
-        units = Units(stations.is_metric(station, chosen.metric), buckets)
-        zone = station.zone if station and station.zone else summer_time.zone_of_machine()
-        page = Page(even_rain(archives, buckets), Folder(folder), units, name, zone)
-        page.write(station.now() if station else datetime.now())
-    except (Refused, stations.StationFault, row_lines.NotRows, OSError) as trouble:
+        units = Units(stations.is_metric(station, chosen.metric), buckets, chosen.language)
+        with Folder(folder, chosen.replace) as place:
+            page = Page(even_rain(archives, buckets), place, units, name, chosen.inside, station and station.zone)
+            page.write(station.now() if station else datetime.now())
+    except (Refused, Foreign, stations.StationFault, row_lines.NotRows, OSError) as trouble:
         sys.exit(f'page: {trouble}')
 
 

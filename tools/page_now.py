@@ -1,41 +1,34 @@
-"""What a station's page shows of the last row and its day, and its charts."""
-import hashlib
-from datetime import date, datetime, time, timedelta
+"""What a station's page shows of the last row and its day, in words and as data."""
+import json
+from datetime import date, datetime, timedelta, timezone
 from typing import NamedTuple
 
-import chart
-import matplotlib
+import derived
 import rows as row_lines
-import svg_text
 from climate_tables import greatest, least
-from units import direction
 
 DAY, MINUTE = timedelta(days=1), timedelta(minutes=1)
 TREND = timedelta(hours=3)
-SPANS = {'Day': 1, 'Week': 7, 'Month': 31, 'Year': 365}  # days up to the last row
-MOST_DAYS_OF_ROWS = SPANS['Month']  # a longer span is drawn by days
-SIZE = (5.4, 7.2)  # inches, so that its letters can be read on a telephone
-PIXELS_AN_INCH = 96  # of a page
-LOOK = {
-    'svg.fonttype': 'none', 'svg.hashsalt': 'jofitrana', 'font.family': 'sans-serif', 'font.sans-serif': ['DejaVu Sans'],
-    'path.simplify_threshold': 0.5, 'xtick.bottom': False, 'ytick.left': False,
-} | dict.fromkeys(('text.color', 'axes.labelcolor', 'axes.edgecolor', 'xtick.color', 'ytick.color'), svg_text.INK)
+PERIODS_TO_OLD = 3  # a row that is older than so many of its periods is marked
+UNITS_OF_DATA = {'degree_compass': '°', 'count': ''}
 
-# The lines of the last row: a title, its field, and the fields of the day's extremes.
-LINES = (
-    ('Temperature', 'outTemp', ('lowOutTemp', 'outTemp'), ('highOutTemp', 'outTemp')),
-    ('Humidity', 'outHumidity', ('outHumidity',), ('outHumidity',)),
-    ('Pressure', 'barometer', ('barometer',), ('barometer',)),
-    ('Wind', 'windSpeed', ('windSpeed',), ('windSpeed',)),
-    ('Gust', 'windGust', ('windGust',), ('windGust',)),
-    ('Radiation', 'radiation', ('radiation',), ('highRadiation', 'radiation')),
-    ('UV index', 'UV', ('UV',), ('highUV', 'UV')),
+# The lines of the last row: a field, and the fields of the day's extremes. The first ones are shown without a value too.
+ALWAYS = (
+    ('outTemp', ('lowOutTemp', 'outTemp'), ('highOutTemp', 'outTemp')),
+    ('outHumidity', ('outHumidity',), ('outHumidity',)),
+    ('barometer', ('barometer',), ('barometer',)),
+    ('windSpeed', ('windSpeed',), ('windSpeed',)),
+    ('windGust', ('windGust',), ('windGust',)),
 )
-ALWAYS = 5  # of these are shown without a value too
-
-# What the words for a chart tell of its rows: the least or greatest value of a field.
-TOLD = (('temperature', 'lowOutTemp', 'highOutTemp', 'outTemp'), ('humidity', 'outHumidity', 'outHumidity', 'outHumidity'),
-        ('pressure', 'barometer', 'barometer', 'barometer'))
+WITH_VALUES = (
+    ('highRainRate', ('highRainRate',), ('highRainRate',)),
+    ('radiation', ('radiation',), ('highRadiation', 'radiation')),
+    ('UV', ('UV',), ('highUV', 'UV')),
+)
+INSIDE = (('inTemp', ('inTemp',), ('inTemp',)), ('inHumidity', ('inHumidity',), ('inHumidity',)))
+PROBES = {'soilTemp': 4, 'soilMoist': 4, 'leafTemp': 2, 'leafWet': 2}  # how many there may be of each
+GROWING = tuple((f'{name}{number}', (f'{name}{number}',), (f'{name}{number}',))
+                for name, count in PROBES.items() for number in range(1, count + 1))
 
 
 class NowLine(NamedTuple):
@@ -51,34 +44,45 @@ class NowLine(NamedTuple):
     high_at: str
 
 
+class Sums(NamedTuple):
+    """What fell or rose in the day, the month and the year."""
+    caption: str
+    lines: list
+
+
 class Now(NamedTuple):
     """What is shown of the last row."""
     stamp: datetime
     age: str
+    due: datetime | None  # when a later row was due, if the row is old
     day: date
     lines: list
-    rain: list
-    rain_sign: str
+    growing: list
+    has_derived: bool
+    sums: list
 
 
-class Chart(NamedTuple):
-    """A chart: what it is of, the name and text of its file, its size on a page, and what it shows in words."""
-    title: str
-    file: str
-    svg: str
-    width: int
-    height: int
-    words: str
+class Seen(NamedTuple):
+    """What the page knows: the rows of some days, the summaries of days and months, and the archive's first day."""
+    rows: list
+    days: dict
+    months: dict
+    first_day: date
 
 
-def age_text(stamp, made):
+def age_text(stamp, made, texts):
     """How old a row is, in words."""
-    minutes = (made - stamp) // MINUTE
+    words, minutes = texts['page'], (made - stamp) // MINUTE
     if minutes < 0:
-        return f'{-minutes} minutes ahead of this machine’s clock'
+        return words['minutes_ahead'].format(count=-minutes)
     if minutes < 2 * DAY // MINUTE:
-        return f'{minutes} minutes old'
-    return f'{(made - stamp).days} days old'
+        return words['minutes_old'].format(count=minutes)
+    return words['days_old'].format(count=(made - stamp).days)
+
+
+def is_old(row, made):
+    """Whether a row is older than three of its periods."""
+    return made - row.stamp > PERIODS_TO_OLD * row.interval
 
 
 def row_before(rows, span):
@@ -87,9 +91,11 @@ def row_before(rows, span):
     return next((row for row in reversed(rows) if row.stamp == wanted), None)
 
 
-def wind_words(values, name):
+def wind_words(values, name, units):
     """Where the wind of a row comes from, beside its speed."""
-    return f'from {direction(values["windDir"])}' if name == 'windSpeed' and values.get(name) and 'windDir' in values else ''
+    if name != 'windSpeed' or not values.get(name) or 'windDir' not in values:
+        return ''
+    return units.texts['page']['from'].format(direction=units.direction(values['windDir']))
 
 
 def time_text(stamp):
@@ -97,88 +103,94 @@ def time_text(stamp):
     return f'{stamp:%H:%M}' if stamp else ''
 
 
+def title_of(name, units):
+    """The title of a line: one of several probes has its number."""
+    lines = units.texts['lines']
+    return lines[name] if name in lines else lines[name[:-1]].format(number=name[-1])
+
+
 def now_line(rows, fields, units, words):
     """A line of the last row."""
-    title, name, lowest, highest = words
+    name, lowest, highest = words
     values, before = rows[-1].values, row_before(rows, TREND)
     low, low_at = least(fields, *lowest)
     high, high_at = greatest(fields, *highest)
-    return NowLine(title, units.sign(name), units.text(name, values.get(name)), wind_words(values, name),
+    return NowLine(title_of(name, units), units.sign(name), units.text(name, values.get(name)), wind_words(values, name, units),
                    units.change(name, values.get(name), before and before.values.get(name)),
                    units.counted(name, low), time_text(low_at), units.counted(name, high), time_text(high_at))
 
 
-def rain_of(fields):
-    """The clicks of a day or a month, if its rain is known."""
-    return fields['rain'].sum if 'rain' in fields else None
+def derived_line(name, rows, day, units):
+    """The line of a value that the page works out, if any row of the day has it."""
+    found = [(derived.derived_of(name, row.values), row.stamp) for row in rows if row_lines.day_of(row.stamp) == day]
+    there = [(value, stamp) for value, stamp in found if value is not None]
+    if not there:
+        return None
+    low, low_at = min(there, key=lambda pair: pair[0])
+    high, high_at = max(there, key=lambda pair: pair[0])
+    value, before = found[-1][0], row_before(rows, TREND)
+    return NowLine(title_of(name, units), units.sign('outTemp'), units.text('outTemp', value), '',
+                   units.change('outTemp', value, before and derived.derived_of(name, before.values)),
+                   units.text('outTemp', low), time_text(low_at), units.text('outTemp', high), time_text(high_at))
 
 
-def now_of(rows, days, months, units, made):
+def sum_of(fields, name):
+    """The sum of a field, if it has values."""
+    return fields[name].sum if name in fields else None
+
+
+def sums_of(name, caption, seen, day, units):
+    """The sums of a field by day, month and year; the titles say from when on there are rows."""
+    texts, months = units.texts, seen.months
+    of_year = [sum_of(fields, name) for title, fields in months.items() if title.startswith(f'{day.year}-')]
+    year = sum(one for one in of_year if one is not None) if any(one is not None for one in of_year) else None
+    spans = ((day.replace(day=1), texts.months[day.month - 1],
+              sum_of(months.get(f'{day:%Y-%m}', {}), name)), (date(day.year, 1, 1), str(day.year), year))
+    lines = [(texts.day(day), units.counted(name, sum_of(seen.days.get(day.isoformat(), {}), name)))]
+    lines += [(texts.since(title, seen.first_day) if first < seen.first_day else title, units.counted(name, amount))
+              for first, title, amount in spans]
+    return Sums(texts['page'][caption].format(unit=units.sign(name)), lines)
+
+
+def has_evaporation(seen):
+    """Whether anything evaporated: a console without the sensor reports 0."""
+    return any(sum_of(fields, 'ET') for fields in seen.months.values())
+
+
+def now_of(seen, units, made, has_inside=False):
     """What is shown of the last row, by the summaries of its day and of the months."""
-    day = row_lines.day_of(rows[-1].stamp)
-    fields = days.get(day.isoformat(), {})
-    lines = [now_line(rows, fields, units, words) for place, words in enumerate(LINES) if place < ALWAYS or words[1] in fields]
-    of_year = [rain_of(fields) for title, fields in months.items() if title.startswith(f'{day.year}-')]
-    year = sum(clicks for clicks in of_year if clicks is not None) if any(clicks is not None for clicks in of_year) else None
-    rain = [(f'{day:%-d %B}', rain_of(fields)), (f'{day:%B}', rain_of(months.get(f'{day:%Y-%m}', {}))), (f'{day.year}', year)]
-    return Now(rows[-1].stamp, age_text(rows[-1].stamp, made), day, lines,
-               [(title, units.counted('rain', clicks)) for title, clicks in rain], units.sign('rain'))
+    rows, last = seen.rows, seen.rows[-1]
+    day = row_lines.day_of(last.stamp)
+    fields = seen.days.get(day.isoformat(), {})
+    chosen = [*ALWAYS, *(words for words in (*WITH_VALUES, *(INSIDE if has_inside else ())) if words[0] in fields)]
+    worked_out = list(filter(None, (derived_line(name, rows, day, units) for name in derived.DERIVED)))
+    sums = [sums_of('rain', 'rain_in', seen, day, units)]
+    if has_evaporation(seen):
+        sums.append(sums_of('ET', 'evaporation_in', seen, day, units))
+    return Now(last.stamp, age_text(last.stamp, made, units.texts), last.stamp + last.interval if is_old(last, made) else None, day,
+               [now_line(rows, fields, units, words) for words in chosen] + worked_out,
+               [now_line(rows, fields, units, words) for words in GROWING if words[0] in fields], bool(worked_out), sums)
 
 
-def row_of_day(day, fields, units):
-    """A day as one row: the means of its values, its extremes and its sums."""
-    values = {name: units.value(name, summary.mean()) for name, summary in fields.items()}
-    low, high = least(fields, 'lowOutTemp', 'outTemp')[0], greatest(fields, 'highOutTemp', 'outTemp')[0]
-    gust = greatest(fields, 'windGust')[0]
-    counted = {'lowOutTemp': low, 'highOutTemp': high, 'windGust': gust, 'rain': rain_of(fields)}
-    values |= {name: units.value(name, number) for name, number in counted.items() if number is not None}
-    return row_lines.Row(datetime.combine(date.fromisoformat(day) + DAY, time()), DAY, values)
+def utc_text(stamp, zone):
+    """A moment in UTC, by what the console's clock shows."""
+    moment = stamp.replace(tzinfo=zone) if zone else stamp
+    return f'{moment.astimezone(timezone.utc):%Y-%m-%dT%H:%M:%SZ}'
 
 
-def extreme(rows, choose, *names):
-    """The least or the greatest value of the first of these fields that has any."""
-    for name in names:
-        values = [row.values[name] for row in rows if name in row.values]
-        if values:
-            return choose(values)
-    return None
+def field_of_data(name, value, units):
+    """A field of the last row as data: a number with its unit."""
+    unit = row_lines.unit_of(name)
+    if unit in UNITS_OF_DATA:
+        return {'value': value, 'unit': UNITS_OF_DATA[unit]}
+    return {'value': units.number(name, value), 'unit': units.sign(name)}
 
 
-def words_of(rows, units):
-    """What a chart of rows shows, for who cannot see it."""
-    told = []
-    for title, low_name, high_name, name in TOLD:
-        low, high = extreme(rows, min, low_name, name), extreme(rows, max, high_name, name)
-        if low is not None:
-            told.append(f'{title} from {units.text(name, low)} to {units.with_sign(name, high)}')
-    gust = extreme(rows, max, 'windGust', 'windSpeed')
-    if gust is not None:
-        told.append(f'wind up to {units.with_sign("windGust", gust)}')
-    rain = [row.values['rain'] for row in rows if 'rain' in row.values]
-    if rain:
-        told.append(f'{units.with_sign("rain", sum(rain))} of rain')
-    return ', '.join(told) or 'no value'
-
-
-def chart_of(title, rows, units):
-    """The chart of the rows of a span. Its name changes with what it shows, so a reader has the one that the page means."""
-    with matplotlib.rc_context(LOOK):
-        picture = chart.Picture(rows, units.shown, span=SPANS[title] * DAY, size=SIZE)
-        svg = svg_text.for_reader(picture.svg(transparent=True))
-    name = f'{title.lower()}-{hashlib.sha256(svg.encode()).hexdigest()[:12]}.svg'
-    width, height = (round(PIXELS_AN_INCH * inches) for inches in SIZE)
-    words = f'{title} up to {rows[-1].stamp:%Y-%m-%d %H:%M}: {words_of(rows, units)}.'
-    return Chart(title, name, svg, width, height, words)
-
-
-def rows_of_span(title, rows, days, units):
-    """The rows of a span: those of the archive, or for a long one its days."""
-    if SPANS[title] > MOST_DAYS_OF_ROWS:
-        return [row_of_day(day, fields, units) for day, fields in days.items()]
-    begin = rows[-1].stamp - SPANS[title] * DAY
-    return [row for row in rows if row.stamp > begin]
-
-
-def charts_of(rows, days, units):
-    """The charts of all spans."""
-    return [chart_of(title, rows_of_span(title, rows, days, units), units) for title in SPANS]
+def data_of(row, units, station, zone):
+    """The last row as data, for programs: its time in UTC, and each field with its unit."""
+    fields = {name: field_of_data(name, value, units) for name, value in row.values.items()}
+    worked_out = {name: derived.derived_of(name, row.values) for name in derived.DERIVED}
+    fields |= {name: field_of_data('outTemp', value, units) | {'derived': True}
+               for name, value in worked_out.items() if value is not None}
+    return json.dumps({'station': station, 'time': utc_text(row.stamp, zone), 'minutes': row.interval // MINUTE,
+                       'fields': fields}, ensure_ascii=False, indent=1) + '\n'

@@ -77,7 +77,7 @@ def matched(pattern, line):
 
 def stamp_of(text):
     """The stamp of a text."""
-    return datetime.strptime(text, '%Y-%m-%d %H:%M')
+    return datetime.fromisoformat(text)
 
 
 def summaries(lines):

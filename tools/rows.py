@@ -91,7 +91,7 @@ def counted_row(line):
             raise NotRows(f"there is no field '{name}'")
     try:
         numbers = {name: int(number) for name, number in values.items() if number != 'limit'}
-        return Row(datetime.strptime(match[1], '%Y-%m-%d %H:%M'), timedelta(minutes=int(match[2])), numbers)
+        return Row(datetime.fromisoformat(match[1]), timedelta(minutes=int(match[2])), numbers)
     except ValueError as fault:
         raise NotRows(f'{fault}: {line[:80]}') from None
 

@@ -250,9 +250,10 @@ def bars_of_rain(_):
                                 ('2024-07-04 11:15', 'Rain an hour', {begin: '0.120', '2024-07-01 11:00': '0.020'}),
                                 ('2024-09-04 11:15', 'Rain a day', {'2024-07-01 00:00': '0.140'})):
         rows = row_lines.read_rows([*lines, f'row {last} 5 rain=0\n'], row_lines.Buckets())
-        bars, text = chart.Picture(rows, units.AS_IT_IS).rain_bars()
+        picture = chart.Picture(rows, units.AS_IT_IS)
+        bars, ending = picture.bars_of('rain')
         heights = {f'{stamp:%Y-%m-%d %H:%M}': f'{height:.3f}' for stamp, (height, _) in bars.items()}
-        hold(f'the title up to {last}', text, title)
+        hold(f'the title up to {last}', picture.words[f'rain{ending}'], title)
         hold(f'the bars up to {last}', {stamp: heights.get(stamp) for stamp in wanted}, wanted)
 
 

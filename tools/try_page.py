@@ -33,8 +33,10 @@ from trying import Differs, Missed, hold, leave_out, need, try_all
 
 try:
     import page
+    import page_charts
     import page_now
     import rows as row_lines
+    from page_texts import Texts
     from reports import summaries
     from units import Units
     from zones import zone_named
@@ -46,9 +48,9 @@ TOOLS = Path(__file__).resolve().parent
 PERIOD = 5
 ARCHIVE, FOLDER = 'archive', 'folder'
 PICTURE_BYTES = 150_000  # of the first view
-YEAR_SECONDS = 8  # of a processor: some 4 on a quiet machine, and up to 6 if each processor is shared
+YEAR_SECONDS = 5  # of a processor
 YEAR_ROWS = 365 * 288
-WIDTHS = (360, 1280)
+WIDTHS = (375, 768, 1280)
 HEIGHT = 2400
 LONGEST = 60  # seconds that Chromium may take
 LEAST_CONTRAST = 4.5  # of small letters, by the guidelines for the web's content
@@ -149,18 +151,21 @@ def seen(program, name='index.html'):
     return Seen((program.folder / FOLDER / name).read_text(encoding='utf-8'))
 
 
-def page_of(program, rows, *words, name='Roof', has_climate=True):
+def page_of(program, rows, *words, name='Roof', has_climate=True, language='en'):
     """The page of some rows, which is not made yet, for parts that are made alone since they take less time."""
     write_archive(program.folder / ARCHIVE, rows, has_climate)
     archive = page.Archive(TOOLS / 'stand_in.py', program.folder / ARCHIVE)
-    return page.Page(archive, page.Folder(program.folder / FOLDER), Units('--metric' in words, row_lines.Buckets()), name)
+    with page.Folder(program.folder / FOLDER) as folder:  # no other run has it here
+        return page.Page(archive, folder, Units('--metric' in words, row_lines.Buckets(), language), name)
 
 
 def make_tables(program, rows, *words, **options):
-    """Makes the tables alone of some rows; gives the page and the years that have tables."""
+    """Makes the tables alone of some rows; gives the page and what they were made of."""
     one = page_of(program, rows, *words, **options)
     months = one.archive.months()
-    return one, one.write_years((one.first_day(months), one.last_day(months)), months)
+    texts, made = one.files_of_years((one.first_day(months), one.last_day(months)), months)
+    one.folder.write(texts, [name for _, names in made.values() for name in names], made)
+    return one, made
 
 
 def values_read(rows):
@@ -168,17 +173,18 @@ def values_read(rows):
     return [row_lines.row_of(row_line(row), row_lines.Buckets()) for row in rows]
 
 
-def now_of(rows):
+def now_of(rows, units=None, **options):
     """What is shown of the last of some rows, as it fell due."""
-    days = summaries(report_lines(rows, 'days', FIRST_DAY, LAST_DAY))
-    return page_now.now_of(values_read(rows), days, {}, Units(False, row_lines.Buckets()), values_read(rows)[-1].stamp)
+    days, read = summaries(report_lines(rows, 'days', FIRST_DAY, LAST_DAY)), values_read(rows)
+    seen_rows = page_now.Seen(read, days, {}, row_lines.day_of(read[0].stamp))
+    return page_now.now_of(seen_rows, units or Units(False, row_lines.Buckets()), read[-1].stamp, **options)
 
 
 def make_small(program, rows, **options):
     """Makes a page of some rows with one chart; gives what is in it."""
-    one, years = make_tables(program, rows, **options)
-    chart = page_now.chart_of('Day', values_read(rows), one.units)
-    one.write_index(values_read(rows)[-1].stamp, now_of(rows), [chart], years)
+    one, made_of = make_tables(program, rows, **options)
+    chart = page_charts.chart_of('Day', values_read(rows), one.units)
+    one.write_files({}, [[chart], []], made_of, made=values_read(rows)[-1].stamp, now=now_of(rows, one.units))
     return seen(program)
 
 
@@ -195,10 +201,10 @@ def last_row_and_its_day(program):
     hold('pressure', shown.row('Pressure inHg'), ['29.929', '−0.036', '29.929 05:55', '29.999 00:05'])
     hold('wind', shown.row('Wind mph'), ['10 from E', '+0', '10 00:05', '10 00:05'])
     hold('gust', shown.row('Gust mph'), ['20', '+0', '20 00:05', '21 00:15'])
-    hold('rain', [shown.row(title) for title in ('1 July', 'July', '2024')], [['0.01'], ['0.01'], ['0.03']])
+    hold('rain', [shown.row(title) for title in ('1 July', 'July', '2024, since 30 June')], [['0.01'], ['0.01'], ['0.03']])
     shown = make(program, worked_rows(), '--metric', '--bucket', '0.2mm')
     hold('temperature', shown.row('Temperature °C'), ['19.5', '+2.0', '15.5 00:05', '19.7 05:55'])
-    hold('rain', [shown.row(title) for title in ('1 July', 'July', '2024')], [['0.2'], ['0.2'], ['0.6']])
+    hold('rain', [shown.row(title) for title in ('1 July', 'July', '2024, since 30 June')], [['0.2'], ['0.2'], ['0.6']])
 
 
 def climate_tables(program):
@@ -257,7 +263,7 @@ def single_row(program):
     shown = make(program, [row_at('2024-07-01 00:05', outTemp=-5)])
     hold('temperature', shown.row('Temperature °F'), ['−0.5', '–', '−0.5 00:05', '−0.5 00:05'])
     hold('wind', shown.row('Wind mph'), ['–', '–', '–', '–'])
-    hold('rain', shown.row('2024'), ['–'])
+    hold('rain', shown.row('2024, since 1 July'), ['–'])
     hold('pictures', len(shown.all('img', 'src')), 4)
 
 
@@ -284,10 +290,10 @@ def age_of_the_last_row(program):
     hold('the making', made(program, env=os.environ | {'TZ': '<+03>-3'}), (0, ''))
     if not re.search(', 1[45] minutes old', seen(program).text):
         raise Differs(seen(program).text)
-    then = datetime(2024, 7, 1, 12)
-    hold('a row of the future', page_now.age_text(then, then - timedelta(minutes=30)),
+    then, english = datetime(2024, 7, 1, 12), Texts('en')
+    hold('a row of the future', page_now.age_text(then, then - timedelta(minutes=30), english),
          '30 minutes ahead of this machine’s clock')
-    hold('an old row', page_now.age_text(then, then + timedelta(minutes=5000)), '3 days old')
+    hold('an old row', page_now.age_text(then, then + timedelta(minutes=5000), english), '3 days old')
 
 
 def hour_that_comes_twice(program):
@@ -307,7 +313,7 @@ def gaps_of_charts(_):
 
     made_rows = rows_from('2024-07-01 00:05', 2016, values_of)
     kept = [row for number, row in enumerate(made_rows) if not 900 < number < 1000]
-    week = page_now.chart_of('Week', values_read(kept), Units(False, row_lines.Buckets()))
+    week = page_charts.chart_of('Week', values_read(kept), Units(False, row_lines.Buckets()))
     hold('stretches', max(path.count('M') for path in re.findall(r' d="([^"]*)"', week.svg)), 8)
 
 
@@ -429,13 +435,17 @@ def read_until(folder, done, troubles):
 def reader_of_a_page(program):
     """Who reads the folder while pages are made never sees half a page, nor one without its pictures."""
     one, now, folder = page_of(program, worked_rows()), now_of(worked_rows()), program.folder / FOLDER
-    charts = [page_now.Chart('Day', f'day-{number}.svg', LONG_PICTURE, 1, 1, 'none') for number in range(ROUNDS)]
+    charts = [page_charts.Chart('Day', f'day-{number}.svg', 1, 1, 'none', LONG_PICTURE) for number in range(ROUNDS)]
+
+    def write(chart):
+        one.write_files({}, [[chart], []], {}, made=now.stamp, now=now)
+
     done, troubles = threading.Event(), []
-    one.write_index(now.stamp, now, charts[:1], [])
+    write(charts[0])
     reader = threading.Thread(target=read_until, args=(folder, done, troubles))
     reader.start()
     for chart in charts:
-        one.write_index(now.stamp, now, [chart], [])
+        write(chart)
     done.set()
     reader.join()
     hold('what was seen', troubles, [])
@@ -443,7 +453,7 @@ def reader_of_a_page(program):
     hold('charts that may be open', len(list(folder.glob('*.svg'))), ROUNDS)
     for file in folder.glob('*.svg'):
         os.utime(file, (0, 0))
-    one.write_index(now.stamp, now, charts[-1:], [])
+    write(charts[-1])
     hold('old charts', [file.name for file in folder.glob('*.svg')], [charts[-1].file])
 
 

@@ -23,7 +23,8 @@ from reports import Archive, Refused, summaries
 from stand_in import write_archive
 from trying import Differs, hold, try_all
 from try_fields import band_of, hold_nested, lines_of, texts
-from try_page import ARCHIVE, FOLDER, TOOLS, Units, made, make, page, page_now, row_at, row_lines, rows_from, seen, table
+from try_page import (ARCHIVE, FOLDER, TOOLS, Units, made, make, page, page_charts, page_now, row_at, row_lines, rows_from,
+                      seen, table)
 
 OLD, WHOLE = 'old', 'whole'
 # Where rows of nine a day are parted: some days in both archives, none, parts of one day, all but few, and all.
@@ -42,6 +43,16 @@ LOWEST = {False: ('−5.8 04:45', '0 04:15', '0.000 04:15', '0 04:15', '0 04:15'
           True: ('−21.0 04:45', '0 04:15', '0.0 04:15', '0.0 04:15', '0.0 04:15', '0 04:15', '0.0 04:15')}
 HIGHEST = {False: ('65.5 04:05', '48 04:05', '29.921 04:05', '11 04:05', '23 04:05', '903 04:05', '8.1 04:05'),
            True: ('18.6 04:05', '48 04:05', '1013.2 04:05', '4.9 04:05', '10.3 04:05', '903 04:05', '8.1 04:05')}
+TITLES = ('Temperature', 'Humidity', 'Pressure', 'Wind', 'Gust', 'Rain rate', 'Radiation', 'UV index', 'Dew point*')
+OTHER_TITLES = ('Rain rate', 'Dew point*')
+RATES = {('0.01in', False): ('0.30', 'in/h'), ('0.2mm', False): ('0.24', 'in/h'), ('0.1mm', False): ('0.12', 'in/h'),
+         ('0.01in', True): ('7.6', 'mm/h'), ('0.2mm', True): ('6.0', 'mm/h'), ('0.1mm', True): ('3.0', 'mm/h')}
+PROBES = ('Soil temperature 1', 'Soil temperature 2', 'Soil temperature 3', 'Soil temperature 4', 'Soil moisture 1',
+          'Soil moisture 2', 'Soil moisture 3', 'Soil moisture 4', 'Leaf temperature 1', 'Leaf temperature 2', 'Leaf wetness 1',
+          'Leaf wetness 2')
+GROWING = {is_metric: list(zip(PROBES, values)) for is_metric, values in (
+    (False, ('50.0', '54.0', '57.0', '52.0', '31', '32', '33', '200', '61.0', '59.0', '12', '15')),
+    (True, ('10.0', '12.2', '13.9', '11.1', '31', '32', '33', '200', '16.1', '15.0', '12', '15')))}
 RAIN = {('0.01in', False): '0.07', ('0.2mm', False): '0.06', ('0.1mm', False): '0.03',
         ('0.01in', True): '1.8', ('0.2mm', True): '1.4', ('0.1mm', True): '0.7'}
 
@@ -60,7 +71,7 @@ def days_of(rows):
 def now_of(rows, units):
     """What is shown of the last of some rows."""
     read = [row_lines.row_of(row_line(row), units.buckets) for row in rows]
-    return page_now.now_of(read, days_of(rows), {}, units, read[-1].stamp)
+    return page_now.now_of(page_now.Seen(read, days_of(rows), {}, read[0].stamp.date()), units, read[-1].stamp)
 
 
 def last_row_of_all_fields(_):
@@ -70,12 +81,17 @@ def last_row_of_all_fields(_):
         units = Units(is_metric, row_lines.Buckets(bucket))
         for number, values in enumerate(VALUES[is_metric]):
             now = now_of(rows[:number + 1], units)
-            hold('the titles', [line.title for line in now.lines], [line[0] for line in page_now.LINES])
-            hold('the signs', tuple(line.sign for line in now.lines), SIGNS[is_metric])
-            hold(f'the last of {number + 1} rows', tuple(line.value for line in now.lines), values)
-        hold('the lowest', tuple(f'{line.low} {line.low_at}' for line in now.lines), LOWEST[is_metric])
-        hold('the highest', tuple(f'{line.high} {line.high_at}' for line in now.lines), HIGHEST[is_metric])
-        hold(f'the rain of {bucket}', now.rain[0], ('3 February', rain))
+            hold('the titles', tuple(line.title for line in now.lines), TITLES)
+            lines = [line for line in now.lines if line.title not in OTHER_TITLES]
+            hold('the signs', tuple(line.sign for line in lines), SIGNS[is_metric])
+            hold(f'the last of {number + 1} rows', tuple(line.value for line in lines), values)
+        hold('the lowest', tuple(f'{line.low} {line.low_at}' for line in lines), LOWEST[is_metric])
+        hold('the highest', tuple(f'{line.high} {line.high_at}' for line in lines), HIGHEST[is_metric])
+        hold(f'the rain of {bucket}', now.sums[0].lines[0], ('3 February', rain))
+        rate = next(line for line in now_of(rows[:1], units).lines if line.title == 'Rain rate')
+        hold(f'the rate of {bucket}', (rate.value, rate.sign), RATES[bucket, is_metric])
+        growing = now_of(rows[:1], units).growing
+        hold('soil and leaf', [(line.title, line.value) for line in growing], GROWING[is_metric])
 
 
 def winds(_):
@@ -97,18 +113,19 @@ def chart_of_a_year(_):
     """The chart of a year has of each day the extremes of temperature, the mean of it and of the wind, the greatest gust, and
     the sum of the rain."""
     rows, units = two_days(), Units(False, row_lines.Buckets())
-    days = page_now.rows_of_span('Year', [], days_of(rows), units)
+    days = page_charts.rows_of_span('Year', [], days_of(rows), units)
     hold('the days', [(f'{day.stamp:%Y-%m-%d %H:%M}', day.interval) for day in days],
          [('2024-07-02 00:00', timedelta(days=1)), ('2024-07-03 00:00', timedelta(days=1))])
     wanted = {'lowOutTemp': (48, 69), 'highOutTemp': (64, 71), 'outTemp': (55, 70), 'windSpeed': (6, 2), 'windGust': (31, 3),
               'rain': (0.03, 0), 'UV': (3, 5), 'radiation': (500, 700)}
     field_values.hold_values('a day', {name: tuple(day.values[name] for day in days) for name in wanted}, wanted)
-    axes = page_now.chart.Picture(days, units.shown, span=timedelta(days=365)).figure().axes
+    axes = page_charts.chart.Picture(days, units.shown, span=timedelta(days=365)).figure().axes
     hold('its temperature', lines_of(axes[0]), {'outside': texts((55, 70))})
     hold('its extremes', [texts(pair) for pair in band_of(axes[0])], [texts((48, 64)), texts((69, 71))])
-    hold('its wind', lines_of(axes[3]), {'gust': texts((31, 3)), 'wind': texts((6, 2))})
+    hold('its wind, by steps of three days', lines_of(axes[3]), {'wind': texts((4,))})
+    hold('its gust', [texts(pair) for pair in band_of(axes[3])], [texts((4, 31))])
     hold('its rain', texts(band_of(axes[4])[0]), texts((0, 0.03)))
-    hold('its words', page_now.words_of(days, units), 'temperature from 48.0 to 71.0 °F, wind up to 31 mph, 0.03 in of rain')
+    hold('its words', page_charts.words_of(days, units), 'temperature from 48.0 to 71.0 °F, wind up to 31 mph, 0.03 in of rain')
 
 
 def tables_that_are_made_anew(program):
@@ -116,8 +133,10 @@ def tables_that_are_made_anew(program):
     def total(bucket, name):
         write_archive(program.folder / ARCHIVE, two_days())
         archive = Archive(TOOLS / 'stand_in.py', program.folder / ARCHIVE)
-        one = page.Page(archive, page.Folder(program.folder / FOLDER), Units(True, row_lines.Buckets(bucket)), name)
-        one.write_years((date(2024, 7, 1), date(2024, 7, 2)), archive.months())
+        with page.Folder(program.folder / FOLDER) as folder:
+            one = page.Page(archive, folder, Units(True, row_lines.Buckets(bucket)), name)
+            texts_of_files, made_of = one.files_of_years((date(2024, 7, 1), date(2024, 7, 2)), archive.months())
+            folder.write(texts_of_files, [file for _, files in made_of.values() for file in files], made_of)
         return table(program, 'climate-2024')[-1].split(',')[10]
 
     hold('the rain', total('0.01in', 'Roof'), '0.8')
@@ -215,7 +234,7 @@ def page_of_two_archives(program):
     write_archive(program.folder / ARCHIVE, rows[60:])
     write_archive(program.folder / OLD, rows[:65])
     hold('a page of both', made(program, '--also', OLD), (0, ''))
-    hold('its tables', seen(program).all('a', 'href'), ['climate-2025.html', 'climate-2024.html'])
+    hold('its tables', seen(program).all('a', 'href'), ['climate-2025.html', 'climate-2024.html', 'last.json'])
     hold('its rows', seen(program).rows, whole.rows)
     hold('its pictures', seen(program).all('img', 'src'), whole.all('img', 'src'))
     hold('its climate', seen(program, 'climate-2024.html').rows, climate)

@@ -65,6 +65,7 @@ begin again "$tools/try_again.py" "$program"
 begin use_it "$tools/try_use_it.py" "$program"
 begin page "$tools/try_page.py" "$program"
 begin values "$tools/try_page_values.py" "$program"
+begin views "$tools/try_page_views.py" "$program"
 begin weewx "$tools/try_weewx.py" "$program"
 begin sql "$tools/try_sql.py"
 mkdir shown path
@@ -92,7 +93,7 @@ import sys
 import chart
 import rows
 picture = chart.Picture(rows.read_rows(sys.stdin, rows.Buckets()), chart.AS_IT_IS)
-print(*picture.series('outTemp'), *(height for height, _ in picture.rain_bars()[0].values()))
+print(*picture.series('outTemp'), *(height for height, _ in picture.bars_of('rain')[0].values()))
 PYTHON
 
 # Of 50,000 rows a picture shows few, and among them the extremes, a value by itself, and the gaps beside it.
@@ -551,9 +552,11 @@ expect_end weewx 0 '*[1-9]* passed, 0 failed'
 if /usr/bin/python3 -c 'import jinja2, matplotlib' 2>/dev/null; then
     expect_end page 0 '*[1-9]* passed, 0 failed'
     expect_end values 0 '*[1-9]* passed, 0 failed'
+    expect_end views 0 '*[1-9]* passed, 0 failed'
 else
     expect_end page 0 '*is missing*'
     expect_end values 0 '*is missing*'
+    expect_end views 0 '*is missing*'
 fi
 if /usr/bin/python3 -c 'import psycopg2' 2>/dev/null && compgen -G '/usr/lib/postgresql/*/bin/initdb' >/dev/null; then
     expect_end sql 0 '*[1-9]* passed, 0 failed'

@@ -288,9 +288,11 @@ def gaps_and_mixed_intervals(program):
     """Rows of 5 and of 30 minutes stand in one archive, and a gap is a gap."""
     entries = [(FIRST, 1, 5, {'rain': 0.01}), (FIRST + 300, 1, 5, {'rain': 0}), (FIRST + 2_100, 1, 30, {'rain': 0.02}),
                (FIRST + 90_000, 1, 30, {}), (FIRST + 90_060, 1, 1, {'rain': 0.05})]
+    entries += [(FIRST + 100_020 + 60 * minutes, 1, minutes, {}) for minutes in (10, 15, 60, 120)]
     make_table(program, COLUMNS, entries)
     wanted = [f'row {stamp(FIRST)} 5 rain=1\n', f'row {stamp(FIRST + 300)} 5 rain=0\n', f'row {stamp(FIRST + 2_100)} 30 rain=2\n',
               f'row {stamp(FIRST + 90_000)} 30\n', f'row {stamp(FIRST + 90_060)} 1 rain=5\n']
+    wanted += [f'row {stamp(FIRST + 100_020 + 60 * minutes)} {minutes}\n' for minutes in (10, 15, 60, 120)]
     hold('the rows', rows(program)[:2], (0, wanted))
 
 

@@ -1,5 +1,6 @@
 """The units in which values are shown: as the fields have them, or metric ones."""
 import rows as row_lines
+from page_texts import ENGLISH, Texts
 
 # How the values of a unit are shown: with its sign, or by another unit with `--metric`.
 AS_IT_IS = {
@@ -10,31 +11,32 @@ AS_IT_IS = {
     'inch': ('in', lambda value: value),
     'watt_per_meter_squared': ('W/m²', lambda value: value),
     'uv_index': ('', lambda value: value),
+    'inch_per_hour': ('in/h', lambda value: value),
+    'centibar': ('cb', lambda value: value),
+    'count': ('0–15', lambda value: value),  # of leaf wetness
 }
 METRIC = AS_IT_IS | {
     'degree_F': ('°C', lambda value: (value - 32) / 1.8),
     'inHg': ('hPa', lambda value: value * 33.86389),
     'mile_per_hour': ('m/s', lambda value: value * 0.44704),
     'inch': ('mm', lambda value: value * 25.4),
+    'inch_per_hour': ('mm/h', lambda value: value * 25.4),
 }
-DIGITS = {'°F': 1, '°C': 1, '%': 0, 'inHg': 3, 'hPa': 1, 'mph': 0, 'm/s': 1, 'in': 2, 'mm': 1, 'W/m²': 0, '': 1}
+DIGITS = {'°F': 1, '°C': 1, '%': 0, 'inHg': 3, 'hPa': 1, 'mph': 0, 'm/s': 1, 'in': 2, 'mm': 1, 'in/h': 2, 'mm/h': 1,
+          'W/m²': 0, '': 1, 'cb': 0, '0–15': 0}
 MISSING = '–'
 MINUS = '−'
-COMPASS = ('N', 'NNE', 'NE', 'ENE', 'E', 'ESE', 'SE', 'SSE', 'S', 'SSW', 'SW', 'WSW', 'W', 'WNW', 'NW', 'NNW')
-DEGREES_A_CODE = 360 / len(COMPASS)
+CODES = 16
+DEGREES_A_CODE = 360 / CODES
 BASE_FAHRENHEIT = 65  # of degree days
 
 
-def direction(degrees):
-    """The name of a direction, which the console has as one of sixteen."""
-    return COMPASS[round(degrees / DEGREES_A_CODE) % len(COMPASS)]
-
-
 class Units:
-    """The units of an observer's choice, and what a click of the rain bucket is."""
+    """The units and the language of an observer's choice, and what a click of the rain bucket is."""
 
-    def __init__(self, metric, buckets):
+    def __init__(self, metric, buckets, language=ENGLISH):
         self.shown = METRIC if metric else AS_IT_IS
+        self.texts = Texts(language)
         self.buckets = buckets
         self.counted_in = row_lines.EVEN if buckets.changes else buckets.first  # the rain of summaries, as even_rain has it
 
@@ -51,7 +53,16 @@ class Units:
         if value is None:
             return MISSING
         sign, convert = self.shown[row_lines.unit_of(name)]
-        return f'{convert(value):z.{DIGITS[sign]}f}'.replace('-', MINUS)
+        return self.texts.digits(f'{convert(value):z.{DIGITS[sign]}f}').replace('-', MINUS)
+
+    def number(self, name, value):
+        """A value that is in the field's unit, as a number in the unit that is shown, as exact as it is shown."""
+        sign, convert = self.shown[row_lines.unit_of(name)]
+        return round(convert(value), DIGITS[sign]) + 0.0
+
+    def direction(self, degrees):
+        """The name of a direction, which the console has as one of sixteen."""
+        return self.texts.compass[round(degrees / DEGREES_A_CODE) % CODES]
 
     def counted(self, name, number):
         """The digits of a value that is counted as in summaries."""
@@ -62,7 +73,7 @@ class Units:
         if value is None or before is None:
             return MISSING
         sign, convert = self.shown[row_lines.unit_of(name)]
-        return f'{convert(value) - convert(before):+z.{DIGITS[sign]}f}'.replace('-', MINUS)
+        return self.texts.digits(f'{convert(value) - convert(before):+z.{DIGITS[sign]}f}').replace('-', MINUS)
 
     def with_sign(self, name, value):
         """A value and the sign of its unit."""
@@ -71,7 +82,7 @@ class Units:
     def degree_days(self, fahrenheit):
         """The digits of degree days, which are counted in degrees Fahrenheit."""
         sign, convert = self.shown['degree_F']
-        return f'{convert(fahrenheit) - convert(0):.{DIGITS[sign]}f}'
+        return self.texts.digits(f'{convert(fahrenheit) - convert(0):.{DIGITS[sign]}f}')
 
     def base(self):
         """The temperature from which degree days are counted."""
