@@ -109,11 +109,11 @@ class Page:
         first = date.fromisoformat(next(reversed(months)) + '-01')
         return date.fromisoformat(next(reversed(self.archive.days(first, first + MONTH))))
 
-    def write_files(self, texts, charts, made_of, **words):
+    def write_files(self, texts, charts, made_of, made, now):
         """Writes the page behind the files that it names. `made_of` says of years and charts what they were made of."""
         drawn = {one.file: one.svg for one in sum(charts, []) if one.svg is not None}
         years = [key for key in made_of if key.isdigit()]
-        index = self.render('index.html', charts=charts, years=years, **words)
+        index = self.render('index.html', charts=charts, years=years, made=made, now=now, twice=self.twice_from(made))
         kept = [one.file for one in sum(charts, [])] + [name for year in years for name in made_of[year][1]]
         self.folder.write(texts | drawn | {INDEX: index}, kept, made_of)
 
@@ -126,7 +126,7 @@ class Page:
         """Writes the page as of a moment."""
         months = self.archive.months()
         if not months:
-            self.write_files({}, [[], []], {}, made=made, now=None, twice=self.twice_from(made))
+            self.write_files({}, [[], []], {}, made=made, now=None)
             return
         first, last = self.first_day(months), self.last_day(months)
         lines = self.archive.lines_of_rows(last - page_charts.MOST_DAYS_OF_ROWS * DAY, last)
@@ -137,7 +137,7 @@ class Page:
         texts[DATA] = page_now.data_of(rows[-1], self.units, self.name, self.zone)
         charts = page_charts.Charts(self.folder, self.units, self.has_inside, (last - first).days + 1)
         pictures = charts.all(rows, days)
-        self.write_files(texts, pictures, charts.made | of_years, made=made, now=now, twice=self.twice_from(made))
+        self.write_files(texts, pictures, charts.made | of_years, made=made, now=now)
 
 
 def chosen_words():

@@ -301,7 +301,7 @@ def hour_that_comes_twice(program):
     for zone, day, wanted in (('Europe/Berlin', 30, True), ('Europe/Berlin', 32, False), ('<+01>-01', 30, False)):
         one = page_of(program, [])
         one.zone = zone_named(zone)
-        one.write_index(datetime(2024, 10, 27, 3) - timedelta(days=day), None, [], [])
+        one.write_files({}, [[], []], {}, made=datetime(2024, 10, 27, 3) - timedelta(days=day), now=None)
         text = '02:00 to 03:00 of 2024-10-27 will come twice as summer time ends. The second time will be lost.'
         hold(f'{zone}, {day} days before', text in seen(program).text, wanted)
 
