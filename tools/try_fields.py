@@ -140,7 +140,7 @@ def directions(_):
     """The sixteen codes of a direction go from north by east, as degrees and as names."""
     degrees = [row_lines.value_of('windDir', code, '0.01in') for code in range(16)]
     hold('the degrees', degrees, [22.5 * code for code in range(16)])
-    hold('their names', tuple(map(units.direction, degrees)), DIRECTIONS)
+    hold('their names', tuple(map(units.Units(False, row_lines.Buckets()).direction, degrees)), DIRECTIONS)
 
 
 def reports_that_are_cut(program):

@@ -184,7 +184,8 @@ def rain_of_a_page(program):
     page = program.read('index.html').decode()
     shown = re.sub(r'(<[^>]*>|\s)+', ' ', page)
     hold('its title', 'Roof, Bern' in shown, True)
-    hold('its rain', re.findall(r'(1 August|August|2025) ([0-9.]+) ', shown), [('1 August', '5.0'), ('August', '5.0'), ('2025', '30.1')])
+    hold('its rain', re.findall(r'(1 August|August|2025, since 31 May) ([0-9.]+) ', shown),
+         [('1 August', '5.0'), ('August', '5.0'), ('2025, since 31 May', '30.1')])
     hold('the rain of day, week, month and year', re.findall(r'([0-9.]+ \w+) of rain', page), ['15.0 mm'] * 3 + ['30.1 mm'])
 
 
@@ -202,7 +203,7 @@ from types import SimpleNamespace
 from datetime import date
 station = stations.read_station('roof', 'etc', 'var')
 chosen = SimpleNamespace(bucket=None, days=(date(2025, 5, 1), date(2025, 8, 31)), program=sys.argv[1])
-bars = chart.Picture(chosen_rows.rows_of(chosen, station), chart.METRIC).rain_bars()[0]
+bars = chart.Picture(chosen_rows.rows_of(chosen, station), chart.METRIC).bars_of('rain')[0]
 print(*(f'{height:.3f}' for height, _ in bars.values()))"""
     ran = subprocess.run(['/usr/bin/python3', '-c', script, STAND_IN], cwd=program.folder, capture_output=True, text=True,
                          env=os.environ | {'PYTHONPATH': str(TOOLS)}, check=False)
