@@ -129,12 +129,12 @@ def chart_of_a_year(_):
 
 
 def tables_that_are_made_anew(program):
-    """Tables are made anew for another size of the bucket, and for another name of the station."""
-    def total(bucket, name):
+    """Tables are made anew for another size of the bucket, another name of the station, and other units."""
+    def total(bucket, name, is_metric=True):
         write_archive(program.folder / ARCHIVE, two_days())
         archive = Archive(TOOLS / 'stand_in.py', program.folder / ARCHIVE)
         with page.Folder(program.folder / FOLDER) as folder:
-            one = page.Page(archive, folder, Units(True, row_lines.Buckets(bucket)), name)
+            one = page.Page(archive, folder, Units(is_metric, row_lines.Buckets(bucket)), name)
             texts_of_files, made_of = one.files_of_years((date(2024, 7, 1), date(2024, 7, 2)), archive.months())
             folder.write(texts_of_files, [file for _, files in made_of.values() for file in files], made_of)
         return table(program, 'climate-2024')[-1].split(',')[10]
@@ -146,6 +146,7 @@ def tables_that_are_made_anew(program):
     hold('the rain of another bucket', total('0.2mm', 'Roof'), '0.6')
     total('0.2mm', 'Barn')
     hold('another name', 'Climate of 2024, Barn' in seen(program, 'climate-2024.html').text, True)
+    hold('the rain in inches', total('0.2mm', 'Barn', is_metric=False), '0.02')  # three clicks are 0.6 mm
 
 
 def reports_that_are_cut(program):
