@@ -2,8 +2,8 @@
 
 Each is in the unit of the field's rows (docs/FORMATS.md). A value that limits remove is stored nowhere, so a limit has to be wider
 than every weather that was ever measured. The model is StdQC of WeeWX, whose limits are narrower. Sources: WeeWX, the file
-weewx.conf of version 5; WMO, its archive of weather extremes, and for rain its manual WMO-No. 1045; Davis, the specification sheets of the Vantage Pro2
-and its sensors, and the serial manual.
+weewx.conf of version 5; WMO, its archive of weather extremes, and for rain its manual WMO-No. 1045; Davis, the specification
+sheets of the Vantage Pro2 and its sensors, and the serial manual. The numbers are from memory, and were not looked up there.
 """
 from typing import NamedTuple
 
