@@ -1,3 +1,4 @@
 pub mod Ends
 pub mod Importing
+pub mod ImportsText
 pub mod Texts

@@ -1,8 +1,10 @@
+pub mod AllRowTexts
 pub mod AnswerLaws
 pub mod ShownAnswers
 pub mod CaughtUp
 pub mod ClimateLaws
 pub mod CopyLaws
+pub mod ImportLaws
 pub mod Listings
 pub mod PacketLines
 pub mod PageLaws

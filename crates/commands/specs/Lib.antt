@@ -1,7 +1,9 @@
+pub mod AllRows
 pub mod AnswerRun
 pub mod ClimateRun
 pub mod CopyRun
 pub mod GoodFile
+pub mod ImportRun
 pub mod Listing
 pub mod PageRun
 pub mod PageText

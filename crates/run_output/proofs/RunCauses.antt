@@ -40,6 +40,7 @@ at n =
     if n == 16 then ends.OldArchive else
     if n == 17 then ends.NotPrefix else
     if n == 18 then ends.BadEntry else
+    if n == 19 then ends.BadRows else
     ends.Done
 
 at_code : (status : Status) → at (code status) ≡ status

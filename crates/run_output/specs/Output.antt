@@ -67,6 +67,7 @@ code ends.TooLong = 15
 code ends.OldArchive = 16
 code ends.NotPrefix = 17
 code ends.BadEntry = 18
+code ends.BadRows = 19
 
 -- The run ended with this number, and the sink took the output that it stands for or a prefix of it.
 pub record RunEndsWith {S : Type 0} (outlet : Outlet S) (output : Output) (old new : S) (result : ℕ) : Type 0 where
