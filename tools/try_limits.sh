@@ -18,7 +18,7 @@ fi
 work=$(mktemp -d)
 trap 'rm -rf "$work"' EXIT
 mkdir "$work/files" && cd "$work/files" || exit 1
-cp "$top/examples/first.pages" "$top/examples/first.schedule" "$top/examples/settings.toml" .
+cp "$top/examples/first.pages" "$top/examples/first.rows" "$top/examples/first.schedule" "$top/examples/settings.toml" .
 printf 'run 2024-07-01 00:05 20\nround\n' >short.schedule
 zeros() {
     head -c "$1" /dev/zero
@@ -50,6 +50,7 @@ commands=(
     'fleet settings.toml 1 first.schedule short.schedule'
     'make 7 5000'
     'copy one.archive new.archive'
+    'import first.rows one.archive'
     "station settings.toml new.archive $nobody"
     "console settings.toml first.schedule $nowhere 1"
 )

@@ -95,6 +95,16 @@ expect 'a copy to a link to a file that is not there' 0 'copied 2'
 check cmp -s old.archive below/far.archive
 expect 'a copy is made where the link leads' 0 ''
 
+run import "$top/examples/first.rows" first.archive
+expect 'an import of the first hour' 0 'imported 12 passed 0 rows 12'
+run report first.archive rows 1999-12-31 2127-12-31
+expect 'a report of that hour is its text' 0 "$(cat "$top/examples/first.rows")"
+output=$("$program" import "$top/examples/first.rows" unread.archive 2>&1 >/dev/full)
+status=$?
+expect 'an output that is full in an import' 9 ''
+check cmp -s first.archive unread.archive
+expect 'its rows are there' 0 ''
+
 cp "$top/examples/settings.toml" "$top/examples/first.schedule" .
 run replay settings.toml first.schedule
 expect 'a schedule with a lost page and a stop' 0 "$(cat "$top/examples/first.replay")"
@@ -133,6 +143,9 @@ if command -v flock >/dev/null; then
     output=$(flock -o copy.archive "$program" copy old.archive copy.archive)
     status=$?
     expect 'a copy to an archive that another process holds' 7 'disk fault'
+    output=$(flock -o copy.archive "$program" import "$top/examples/first.rows" copy.archive)
+    status=$?
+    expect 'an import into an archive that another process holds' 7 'disk fault'
     output=$(flock -o old.archive "$program" station settings.toml old.archive 127.0.0.1:1)
     status=$?
     expect 'a round with an archive that another process holds' 7 'disk fault'

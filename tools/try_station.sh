@@ -208,7 +208,7 @@ a row' tree/station try replay examples/week.toml week.schedule none
 expect 'what it hands over' 0 "$work/tree/crates/station_program: try * --data 1-week.toml=$work/examples/week.toml \
 --data week.schedule=$work/week.schedule -- replay 1-week.toml week.schedule none" cat tried
 rm tried
-for command in station copy task install; do
+for command in station copy import task install; do
     expect "a try of $command" 64 'station: *; try takes replay, *' tree/station try "$command" a b
 done
 expect 'no try of them' 1 '' test -e tried

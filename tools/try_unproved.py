@@ -14,7 +14,7 @@ import subprocess
 import sys
 
 TOP = os.path.dirname(os.path.dirname(os.path.realpath(__file__)))
-NOT_TRIED = ('station', 'stay', 'copy', 'task', 'install', 'uninstall')
+NOT_TRIED = ('station', 'stay', 'copy', 'import', 'task', 'install', 'uninstall')
 TAKEN = ('.', '..', 'program', 'stdin', 'stdout', 'stderr')  # names in the folder that the program runs in
 
 STEPS = 1  # of the toolchain's interpreter, which few commands can run on
@@ -61,7 +61,7 @@ def tried(words):
 
 def main(words):
     if not words or words[0] in NOT_TRIED:
-        say('station, copy and task keep or send something, so they are for the proved program alone;'
+        say('station, stay, copy, import and task keep or send something, so they are for the proved program alone;'
             ' try takes replay, make, console, report, pages and soft')
         return NO_COMMAND
     say(f'unproved: this is the program before any proof. To prove it first: ./station {shlex.join(words)}')

@@ -65,6 +65,7 @@ PRINTED = {
     'jofitrana fleet': r'1 end rows .*2 end rows ',
     'jofitrana make': r'made 5000 records 85 rounds',
     'jofitrana soft': r'row \d{4}-\d\d-\d\d ',
+    'jofitrana import': 'imported 12 passed 0 rows 12',
 }
 STATUSES = {'jofitrana-check': (0, 1, 2)}  # the modelled console has no weather between 2024 and this day, and it stands still
 

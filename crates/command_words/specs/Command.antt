@@ -44,6 +44,7 @@ pub data CommandLine : Type 0 where
   serve : List ℕ → List ℕ → ℕ → CommandLine
   replay : List ℕ → List ℕ → CommandLine
   copy : List ℕ → List ℕ → CommandLine
+  import : List ℕ → List ℕ → CommandLine
   station : StationNames → CommandLine
   stay : StationNames → ℕ → ℕ → CommandLine
   console : ConsoleNames → CommandLine
@@ -95,6 +96,11 @@ abbrev pub copy_in : List (List ℕ) → Option CommandLine
 copy_in (from ∷ to ∷ []) = if bytes_eq from to then None else Some (copy from to)
 copy_in words = None
 
+-- `ROWS ARCHIVE`, two names that differ
+abbrev pub import_in : List (List ℕ) → Option CommandLine
+import_in (rows ∷ archive ∷ []) = if bytes_eq rows archive then None else Some (import rows archive)
+import_in words = None
+
 -- `SETTINGS ARCHIVE ADDRESS`
 abbrev pub station_in : List (List ℕ) → Option CommandLine
 station_in (settings ∷ archive ∷ address ∷ []) =
@@ -144,6 +150,7 @@ command_of_words (command ∷ words) =
     else if bytes_eq command (codes "serve") then serve_in words
     else if bytes_eq command (codes "replay") then replay_in words
     else if bytes_eq command (codes "copy") then copy_in words
+    else if bytes_eq command (codes "import") then import_in words
     else if bytes_eq command (codes "station") then station_in words
     else if bytes_eq command (codes "stay") then stay_in words
     else if bytes_eq command (codes "console") then console_in words
@@ -182,6 +189,7 @@ command_read (read.Climate archive year) = climate archive.now year
 command_read (read.Serve archive address turns) = serve archive.now address.now turns
 command_read (read.Replay settings schedule) = replay settings.now schedule.now
 command_read (read.Copy from to) = copy from.now to.now
+command_read (read.Import rows archive) = import rows.now archive.now
 command_read (read.Station words) = station (station_names words)
 command_read (read.Stay words rounds waits) = stay (station_names words) rounds waits
 command_read (read.Console words) = console (console_names words)

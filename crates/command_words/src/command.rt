@@ -91,6 +91,13 @@ pub enum Command<'a> {
         /// The name of the archive that is written.
         to: &'a str,
     },
+    /// `import ROWS ARCHIVE`: the rows of a text, added to an archive, which has another name.
+    Import {
+        /// The name of the file of the text.
+        rows: &'a str,
+        /// The name of the archive that is written.
+        archive: &'a str,
+    },
     /// `station SETTINGS ARCHIVE ADDRESS`: one round of catching up with a console.
     Station(StationWords<'a>),
     /// `stay SETTINGS ARCHIVE ADDRESS ROUNDS WAITS`: rounds of catching up with a console over one line.
@@ -134,6 +141,7 @@ impl<'a> Command<'a> {
             "serve" => read_serve(more),
             "replay" => read_replay(more),
             "copy" => read_copy(more),
+            "import" => read_import(more),
             "station" => read_station(more),
             "stay" => read_stay(more),
             "console" => read_console(more),
@@ -144,7 +152,7 @@ impl<'a> Command<'a> {
     }
 }
 
-ghost use Rattle.command_words.specs.Command.{climate_in, command_read, console_in, copy_in, fleet_in, command_line_of, make_in, pages_command_in, replay_in, report_in, serve_in, soft_in, station_in, stay_in, task_in, texts};
+ghost use Rattle.command_words.specs.Command.{climate_in, command_read, console_in, copy_in, fleet_in, command_line_of, import_in, make_in, pages_command_in, replay_in, report_in, serve_in, soft_in, station_in, stay_in, task_in, texts};
 ghost use Rattle.command_words.specs.Possible.{IsPossible};
 
 // `FILE`, or `SETTINGS FILE`.
@@ -247,6 +255,20 @@ fn read_copy<'a>(words: &[&'a str]) -> Option<Command<'a>>
         return None;
     }
     Some(Command::Copy { from, to })
+}
+
+// `ROWS ARCHIVE`, two names that differ.
+fn read_import<'a>(words: &[&'a str]) -> Option<Command<'a>>
+    ensures command { command_line_of result ≡ import_in (texts words.now) }
+    ensures possible { IfSome result (λ command. IsPossible (command_read command)) }
+{
+    let [rows, archive] = *words else {
+        return None;
+    };
+    if rows == archive {
+        return None;
+    }
+    Some(Command::Import { rows, archive })
 }
 
 // `SETTINGS ARCHIVE ADDRESS`.

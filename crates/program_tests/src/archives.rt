@@ -55,6 +55,10 @@ month 2024-07 windGust min 0 at 2024-07-01 00:05 max 0 at 2024-07-01 00:05 sum 0
 month 2024-07 ET min 0 at 2024-07-01 00:05 max 0 at 2024-07-01 00:05 sum 0 count 2 wsum 0 sumtime 600
 ";
 
+/// The lines of two rows.
+pub const TWO_LINES: &[u8] =
+    b"row 2024-07-01 00:05 5 outTemp=650\nrow 2024-07-01 00:10 5 outTemp=671\n";
+
 /// The bytes of the archive of the two rows.
 pub fn archive() -> [u8; LENGTH] {
     let mut bytes = [0; LENGTH];

@@ -1,4 +1,4 @@
-use crate::archives::{DAYS, LINE, MANY, MONTHS, READ, archive, long_archive, long_lines};
+use crate::archives::{DAYS, LINE, MANY, MONTHS, READ, TWO_LINES, archive, long_archive, long_lines};
 use crate::running::{Given, done, holding, plain};
 use crate::scripts::line;
 use disk_model::{Disk, Stopping};
@@ -7,6 +7,8 @@ use std::process::Abort;
 use std::test::Fail;
 
 const COPY: [&str; 3] = ["copy", "old", "new"];
+
+const IMPORT: [&str; 3] = ["import", "rows", "archive"];
 
 // The words that report the rows of the archives here.
 const REPORT: [&str; 5] = ["report", "a", "rows", "2024-07-01", "2024-07-01"];
@@ -40,7 +42,7 @@ fn cut_at(rt: &impl Abort, alloc: Global, trial: &Trial, call: u64) -> Result<Op
     } else {
         disk.fail_at(call);
     }
-    let files = [("settings", b"".as_slice())];
+    let files = [("settings", b"".as_slice()), ("rows", TWO_LINES)];
     let given = Given {
         files: &files,
         ..plain(trial.words)
@@ -94,7 +96,7 @@ fn each_call_that_fails_leaves_whole_lines_and_a_disk_fault(rt: HostRuntime) -> 
     let round = "round ok attempts 1 pages 1 skipped 0 acked 5 rows 5\n";
     let (two, many) = (archive(), long_archive());
     let lines = long_lines(alloc)?;
-    let rows: [(&[&str], &str, &[u8], bool, &str, usize, u64); 6] = [
+    let rows: [(&[&str], &str, &[u8], bool, &str, usize, u64); 7] = [
         // An attach and a read at least.
         (&days, "", &two, false, DAYS, 0, 2),
         (&months, "", &two, false, MONTHS, 0, 2),
@@ -103,6 +105,7 @@ fn each_call_that_fails_leaves_whole_lines_and_a_disk_fault(rt: HostRuntime) -> 
         (&COPY, "", &many, false, "copied 40\n", 0, 4),
         // An attach, three changes that make the file, and four of each of eight batches at least.
         (&COPY, "", &many, true, "copied 40\n", 0, 36),
+        (&IMPORT, "", &[], false, "imported 2 passed 0 rows 2\n", 0, 8),
         (&station, five, &[], false, round, 0, 8),
     ];
     for (words, script, old, is_of_second, lines, most, calls) in rows {

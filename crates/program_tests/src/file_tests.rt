@@ -11,7 +11,7 @@ fn a_file_that_cannot_be_read_ends_the_command(rt: HostRuntime) -> Result<(), Fa
         ("schedule", b"".as_slice()),
     ];
     // The words, and which reading fails.
-    let rows: [(&[&str], u64); 7] = [
+    let rows: [(&[&str], u64); 8] = [
         (&["pages", "schedule"], 1),
         (&["pages", "settings", "schedule"], 1),
         (&["pages", "settings", "schedule"], 2),
@@ -19,6 +19,7 @@ fn a_file_that_cannot_be_read_ends_the_command(rt: HostRuntime) -> Result<(), Fa
         (&["replay", "settings", "schedule"], 2),
         (&["console", "settings", "schedule", "here", "2"], 1),
         (&["console", "settings", "schedule", "here", "2"], 2),
+        (&["import", "schedule", "archive"], 1),
     ];
     for (words, call) in rows {
         let given = Given {

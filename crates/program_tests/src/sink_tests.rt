@@ -1,4 +1,4 @@
-use crate::archives::{DAYS, MONTHS, archive, long_archive, long_lines};
+use crate::archives::{DAYS, MONTHS, TWO_LINES, archive, long_archive, long_lines};
 use crate::running::{Given, done, holding, over, plain};
 use crate::scripts::{line, said};
 use std::alloc::Global;
@@ -66,11 +66,12 @@ fn a_sink_that_ends_within_a_line_takes_a_front(rt: HostRuntime) -> Result<(), F
         ("dump", dump.as_slice()),
         ("settings", b"".as_slice()),
         ("schedule", SCHEDULE),
+        ("rows", TWO_LINES),
     ];
     let days = ["report", "a", "days", "2024-07-01", "2024-07-01"];
     let months = ["report", "a", "months", "2024-07-01", "2024-07-01"];
     let report = ["report", "a", "rows", "2024-07-01", "2024-07-01"];
-    let rows: [(&[&str], &str, &[u8], &str); 7] = [
+    let rows: [(&[&str], &str, &[u8], &str); 8] = [
         (&["make", "1", "1"], "", &[], MADE),
         (&["task", "a", "kind"], "q15", &[], "task asleep\n"),
         (&["pages", "dump"], "", &[], "2024-07-01 00:01 -1\n"),
@@ -78,6 +79,7 @@ fn a_sink_that_ends_within_a_line_takes_a_front(rt: HostRuntime) -> Result<(), F
         (&days, "", &two, DAYS),
         (&months, "", &two, MONTHS),
         (&report, "", &many, &listed),
+        (&["import", "rows", "a"], "", &[], "imported 2 passed 0 rows 2\n"),
     ];
     for (words, script, bytes, lines) in rows {
         let given = Given {

@@ -1,10 +1,11 @@
 -- The faults by which a command ends have causes.
 use Rattle.std.proofs.Common.{[], ◌∷◌, refl}
-use Rattle.command_words.specs.Command.{CommandLine, pages, corrected_pages, soft, task, report, climate, serve, replay, copy, station, stay, console, fleet, make}
+use Rattle.command_words.specs.Command.{CommandLine, pages, corrected_pages, soft, task, report, climate, serve, replay, copy, import, station, stay, console, fleet, make}
 use Rattle.commands.specs.Style.{short}
 use Rattle.commands.proofs.AnswerLaws.{answers_over_causes}
 use Rattle.commands.proofs.ClimateLaws.{tells_climate_causes}
 use Rattle.commands.proofs.CopyLaws.{copies_on_causes}
+use Rattle.commands.proofs.ImportLaws.{imports_on_causes}
 use Rattle.commands.proofs.PageLaws.{prints_corrected_causes, prints_file_causes}
 use Rattle.commands.proofs.ReportLaws.{reports_on_causes}
 use Rattle.commands.proofs.SoftLaws.{prints_soft_causes}
@@ -31,6 +32,7 @@ performs_causes m (climate archive year) = among m (WriteFault ∷ []) _ refl (t
 performs_causes m (serve archive address turns) = answers_over_causes m archive address turns
 performs_causes m (replay settings schedule) = among m (WriteFault ∷ []) _ refl (replays_files_causes m settings schedule)
 performs_causes m (copy from to) = among m (WriteFault ∷ []) _ refl (copies_on_causes m from to)
+performs_causes m (import rows archive) = among m (WriteFault ∷ []) _ refl (imports_on_causes m rows archive)
 performs_causes m (station names) = among m (WriteFault ∷ []) _ refl (catches_up_causes m names)
 performs_causes m (stay names rounds waits) = among m (WriteFault ∷ []) _ refl (stays_over_causes m names rounds waits)
 performs_causes m (console names) = among m (WriteFault ∷ []) _ refl (serves_files_causes m names)

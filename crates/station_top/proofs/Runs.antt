@@ -4,7 +4,7 @@ use Rattle.std.specs.Prelude.{IfNone, IfSome}
 use Rattle.std.specs.declared.option.Option.{Option}
 use Rattle.std.specs.declared.result.Result.{Result}
 use Rattle.causes.specs.Cause.{Cause}
-use Rattle.command_words.specs.Command.{CommandLine, pages, corrected_pages, soft, task, report, climate, serve, replay, copy, station, stay, console, fleet, make}
+use Rattle.command_words.specs.Command.{CommandLine, pages, corrected_pages, soft, task, report, climate, serve, replay, copy, import, station, stay, console, fleet, make}
 use Rattle.commands.specs.StationRun.{ShowsCaughtUp}
 use Rattle.commands.specs.Style.{short}
 use Rattle.commands.specs.TaskRun.{ShowsDone}
@@ -12,6 +12,7 @@ use Rattle.commands.proofs.CaughtUp.{settled}
 use Rattle.commands.proofs.AnswerLaws.{answered_all, answers_over_complete}
 use Rattle.commands.proofs.ClimateLaws.{tells_climate_complete}
 use Rattle.commands.proofs.CopyLaws.{copies_on_complete}
+use Rattle.commands.proofs.ImportLaws.{import_ends, imports_on_complete}
 use Rattle.commands.proofs.PageLaws.{done_or_hindered, prints_corrected_complete, prints_file_complete}
 use Rattle.commands.proofs.ReportLaws.{reported, reports_on_complete}
 use Rattle.commands.proofs.SoftLaws.{prints_soft_complete}
@@ -123,6 +124,8 @@ module _ {F K L D : Type 0} (m : Meanings F K L D) (words : Option CommandLine) 
   promised (replay settings schedule) did = λ good.
       within replayed (inr (inr (inr (inl refl)))) (replays_files_complete m settings schedule old ran.mid ran.ended good did)
   promised (copy from to) did = λ good. within reported (inr (inr (inl refl))) (copies_on_complete m from to old ran.mid ran.ended good did)
+  promised (import rows archive) did = λ good grows. within import_ends (inr (inr (inr (inl refl))))
+      (imports_on_complete m rows archive old ran.mid ran.ended good grows did)
   promised (station names) did = λ accepted shown. within settled (inr (inr (inr (inr (inl refl))))) (catches_up_complete m names old ran.mid ran.ended
       accepted (subst (λ (l : L). ShowsCaughtUp m.traffic m.medium old.disk old.link l) link shown) did)
   promised (stay names rounds waits) did = λ accepted grows. within stay_ends (inr (inr (inr (inr (inr (inl refl))))))

@@ -6,12 +6,13 @@ use Rattle.causes.specs.Cause.{Cause}
 use Rattle.serial_link.specs.Traffic.{Traffic}
 use Rattle.station_io.specs.Sink.{Outlet}
 use Rattle.command_words.specs.declared.task.Task.{Task}
-use Rattle.command_words.specs.Command.{CommandLine, ConsoleNames, pages, corrected_pages, soft, task, report, climate, serve, replay, copy, station}
+use Rattle.command_words.specs.Command.{CommandLine, ConsoleNames, pages, corrected_pages, soft, task, report, climate, serve, replay, copy, import, station}
 use Rattle.command_words.specs.Command.{console, fleet, make, stay}
 use Rattle.commands.specs.AnswerRun.{answers_over}
 use Rattle.commands.specs.ClimateRun.{tells_climate}
 use Rattle.commands.specs.CopyRun.{TellArchives, copies_on}
 use Rattle.commands.specs.GoodFile.{IsGoodFile}
+use Rattle.commands.specs.ImportRun.{IsTextOfRows, imports_on}
 use Rattle.commands.specs.PageRun.{prints_corrected, prints_file}
 use Rattle.commands.specs.ReportRun.{TellsArchive, reports_on}
 use Rattle.commands.specs.SoftRun.{HasEntries, prints_soft}
@@ -52,6 +53,7 @@ performs m (climate archive year) = tells_climate m archive year
 performs m (serve archive address turns) = answers_over m archive address turns
 performs m (replay settings schedule) = replays_files m settings schedule
 performs m (copy from to) = copies_on m from to
+performs m (import rows archive) = imports_on m rows archive
 performs m (station names) = catches_up m names
 performs m (stay names rounds waits) = stays_over m names rounds waits
 performs m (console names) = serves_files m names
@@ -98,7 +100,7 @@ pub record ConsolePromises {F K L D : Type 0} (m : Meanings F K L D) (names : Co
 
 -- What a command comes to by good input, or by a talk that shows it: it is done, a schedule, or each one of a fleet, is replayed to its
 -- end or to a delivery that was unseen, and only such a fault of the outside or want of memory keeps the command from that. A stay may end
--- too with a dead line or a full archive.
+-- too with a dead line, and a stay or an import with a full archive.
 abbrev pub Promises : {F K L D : Type 0} → Meanings F K L D → CommandLine → Outside F K L D → Outside F K L D → ℕ → Type 0
 Promises m (pages file) old new result =
     IsSomeAnd (m.shelf.held old.files file) IsGoodFile → IsOneOf (0 ∷ 8 ∷ 9 ∷ 12 ∷ []) result
@@ -118,6 +120,9 @@ Promises m (replay settings schedule) old new result =
     HasGoodFiles m.shelf settings schedule old.files → IsOneOf (0 ∷ 5 ∷ 8 ∷ 9 ∷ 12 ∷ []) result
 Promises m (copy from to) old new result =
     TellArchives m.medium old.disk old.second → IsOneOf (0 ∷ 7 ∷ 9 ∷ 12 ∷ []) result
+Promises m (import rows archive) old new result =
+    IsSomeAnd (m.shelf.held old.files rows) IsTextOfRows
+    → MayGrow m.medium old.disk → IsOneOf (0 ∷ 7 ∷ 8 ∷ 9 ∷ 10 ∷ 12 ∷ []) result
 Promises m (station names) old new result =
     IsSomeAnd (m.shelf.held old.files names.settings) SettingsAreAccepted
     → ShowsCaughtUp m.traffic m.medium old.disk old.link new.link → IsOneOf (0 ∷ 6 ∷ 7 ∷ 8 ∷ 9 ∷ 12 ∷ []) result

@@ -11,7 +11,7 @@ ghost use Rattle.station_top.specs.Run.{IsUsage, Performs, Promises, may_be_hidd
 use command_words::Command;
 use commands::{
     answer_requests, call_for, catch_up, copy_files, corrected_pages, print_climate, print_file,
-    report, soft_rows, stay,
+    import_text, report, soft_rows, stay,
 };
 use disk_model::Disk;
 use model_commands::{make_run, replay_files, run_fleet, serve_files};
@@ -101,6 +101,7 @@ fn perform<F: Files, K: Sink, L: Link, D: Disk>(
             replay_files(alloc, settings, schedule, outside)
         }
         Some(Command::Copy { from, to }) => copy_files(alloc, from, to, outside),
+        Some(Command::Import { rows, archive }) => import_text(alloc, rows, archive, outside),
         Some(Command::Station(names)) => catch_up(alloc, &names, outside),
         Some(
             Command::Stay {

@@ -18,6 +18,9 @@ returns-in-Some-Replay g c = rw c.in-Some-Replay.is (rw c.in-Some-Replay.field-0
 pub returns-in-Some-Copy : goal.returns-in-Some-Copy
 returns-in-Some-Copy g c = rw c.in-Some-Copy.is (rw c.in-Some-Copy.field-0-is c.copy_files.ensures)
 
+pub returns-in-Some-Import : goal.returns-in-Some-Import
+returns-in-Some-Import g c = rw c.in-Some-Import.is (rw c.in-Some-Import.field-0-is c.import_text.ensures)
+
 pub returns-in-Some-Station : goal.returns-in-Some-Station
 returns-in-Some-Station g c = rw c.in-Some-Station.is (rw c.in-Some-Station.field-0-is c.catch_up.ensures)
 
