@@ -3,7 +3,7 @@
 
     tools/try_beside.py PROGRAM [READINGS]
 
-Each row comes by a copy from an archive that has one row more. Meanwhile the archive is read so many times, or 200 times if
+Each row comes by a copy from an archive that has one row more, or by an import of the text of all rows, in turn. Meanwhile the archive is read so many times, or 200 times if
 no number is given: by reports and by copies in turn. None may be refused. Each has to show the rows from the first one on, in
 order: at least those that were added before it began, and at most those whose adding had begun when it ended. A run may take
 longer while the machine runs others. The last line is 'N passed, M failed', and the status is 1 if any failed.
@@ -28,7 +28,7 @@ FIRST_ROWS = 500  # a recovery goes through so many batches, and rows are added 
 FIRST_STAMP = 12_000_000  # minutes from 2000-01-01
 PERIOD = 5  # minutes
 TENTHS = 1000  # outside temperatures that differ
-GROWING, ARCHIVE = "growing", "archive"
+GROWING, ARCHIVE, TEXT = "growing", "archive", "text"
 ALL_ROWS = "rows 1999-12-31 2127-12-31"
 
 
@@ -59,7 +59,12 @@ class Writer:
             file.seek(-len(CLOSED_GATE), os.SEEK_END)
             file.write(self.next_batch() + CLOSED_GATE)
         self.begun += 1
-        hold("an add", self.program.run(f"copy {GROWING} {ARCHIVE}"), Ended(0, f"copied {self.begun}\n"))
+        if self.begun % 2:
+            hold("an add", self.program.run(f"copy {GROWING} {ARCHIVE}"), Ended(0, f"copied {self.begun}\n"))
+        else:
+            self.program.write(TEXT, "".join(self.lines))
+            hold("an add of a text", self.program.run(f"import {TEXT} {ARCHIVE}"),
+                 Ended(0, f"imported 1 passed {self.added} rows {self.begun}\n"))
         self.added = self.begun
 
     def add_until(self, done):

@@ -32,16 +32,18 @@ CLOSINGS = ([INPUT], [OUTPUT], [ERRORS], [INPUT, OUTPUT, ERRORS])
 
 REPORT = "report old rows 2024-07-01 2024-07-01"
 COPY = "copy old new"
+IMPORT = "import rows taken"
 ROUND = f"station settings old {HERE}:1"  # nobody listens at port 1
 ENDS = {
     REPORT: Ended(0, "row 2024-07-01 00:05 5 outTemp=651\nrow 2024-07-01 00:10 5 outTemp=652\n"),
     COPY: Ended(0, "copied 2\n"),
+    IMPORT: Ended(0, "imported 2 passed 0 rows 2\n"),
     ROUND: Ended(6, "link fault\n"),
 }
 DISK_FAULT = Ended(7, "disk fault\n")
 WRITE_FAULT = Ended(9, "")
 
-# What a copy of one batch of two rows asks of the disk for the new archive: its making, and then the batch.
+# What a copy or an import of one batch of two rows asks of the disk for the new archive: its making, and then the batch.
 CALLS = ("fsync", "fdatasync", "flock", "pwrite64")
 COPY_ASKS = ["flock new LOCK_EX|LOCK_NB", "fsync .", "fdatasync new", "pwrite64 new 177 at 0", "fdatasync new",
              "pwrite64 new 352 at 177", "fdatasync new", "pwrite64 new 1 at 176", "fdatasync new"]
@@ -71,8 +73,9 @@ ROUNDS_AT_ONCE = 8
 
 
 def with_archive(program):
-    """Makes the archive, and the settings of a round."""
+    """Makes the archive, the text of its rows, and the settings of a round."""
     program.write("old", ARCHIVE)
+    program.write("rows", ENDS[REPORT].printed)
     program.write("settings", "period = 5\n")
 
 
@@ -106,10 +109,10 @@ def closing(streams):
 
 
 def asked_in_order(program, words, path="new", folder="."):
-    """Holds that a copy locks its archive, syncs the folder, and waits for the disk twice in each batch."""
+    """Holds that what is written to is locked, that its folder is synced, and two waits for the disk in each batch."""
     wanted = [ask.replace("new", path).replace("fsync .", f"fsync {folder}") for ask in COPY_ASKS]
     ended, trace = traced(program, words, "-e", "trace=" + ",".join(CALLS))
-    hold(words, ended, ENDS[COPY])
+    hold(words, ended, ENDS.get(words, ENDS[COPY]))
     calls = re.findall(r" (\w+)\(\d+<(.*?)>(?:, )?(.*)\) += ", trace)
     hold(f"{words} asked", [asked(*call, program.folder.resolve()) for call in calls], wanted)
 
@@ -123,6 +126,36 @@ def calls_in_order(program):
     hold("the mode of what it made", oct((program.folder / "new").stat().st_mode), MODE)
     program.write("new", b"")
     asked_in_order(program, COPY)
+
+
+def calls_of_import_in_order(program):
+    """So does an import, into a file that is made and into one that is there."""
+    with_archive(program)
+    asked_in_order(program, IMPORT, "taken")
+    program.write("taken", b"")
+    asked_in_order(program, IMPORT, "taken")
+
+
+def import_that_fails(program):
+    """Each call of an import that fails is a disk fault, and the same import made again has all rows."""
+    with_archive(program)
+    for place, call in enumerate(CALLED):
+        inject = f"inject={call}:error=EIO:when={CALLED[:place + 1].count(call)}"
+        ended, _ = traced(program, f"import rows new{place}", "-e", inject)
+        hold(f"an import with {inject}", ended, DISK_FAULT)
+        hold(f"an import after one with {inject}", program.run(f"import rows new{place}").status, 0)
+        hold(f"what is imported after {inject}", program.read(f"new{place}"), ARCHIVE)
+
+
+def import_that_is_killed(program):
+    """An import that was killed at any call goes on as it is made again, and then has all rows once."""
+    with_archive(program)
+    for place, call in enumerate(CALLED):
+        inject = f"inject={call}:signal=KILL:when={CALLED[:place + 1].count(call)}"
+        ended, _ = traced(program, f"import rows new{place}", "-e", inject)
+        hold(f"what an import printed with {inject}", ended.printed, "")
+        hold(f"an import after one with {inject}", program.run(f"import rows new{place}").status, 0)
+        hold(f"what is imported after {inject}", program.read(f"new{place}"), ARCHIVE)
 
 
 def calls_for_another_folder(program):
@@ -304,8 +337,9 @@ def closed_streams(program):
             hold(f"{words} without {streams}", program.run(words, preexec_fn=closing(streams)),
                  WRITE_FAULT if OUTPUT in streams else ended)
             hold(f"the archive behind {words} without {streams}", program.read("old"), ARCHIVE)
-        hold(f"what is copied without {streams}", program.read("new"), ARCHIVE)
-        os.remove(program.folder / "new")
+        for made in ("new", "taken"):
+            hold(f"what is in {made} without {streams}", program.read(made), ARCHIVE)
+            os.remove(program.folder / made)
 
 
 def held_streams(program):
@@ -317,8 +351,8 @@ def held_streams(program):
             hold(f"in place of {streams}", held, ["/dev/null"] * len(streams))
 
 
-CASES = (calls_in_order, calls_for_another_folder, call_that_fails, read_that_fails, making_that_is_killed, short_archives,
-         short_files, files_of_one_number, calls_in_part, no_plain_file,
+CASES = (calls_in_order, calls_of_import_in_order, calls_for_another_folder, call_that_fails, read_that_fails,
+         making_that_is_killed, import_that_fails, import_that_is_killed, short_archives, short_files, files_of_one_number, calls_in_part, no_plain_file,
          pipe_is_not_opened, file_that_was_replaced, archive_of_another, closed_streams, held_streams)
 
 if __name__ == "__main__":

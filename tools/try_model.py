@@ -22,6 +22,7 @@ sys.dont_write_bytecode = True  # nothing is left beside the model
 from model.cases import model_side, program_side
 from model.fleets import by_station
 from model.random_archives import random_climate_case, random_copy_case, random_report_case
+from model.random_imports import random_import_case
 from model.random_packets import random_soft_case
 from model.random_pages import random_pages_case
 from model.random_schedules import random_fleet_case, random_replay_case
@@ -29,7 +30,8 @@ from model.random_schedules import random_fleet_case, random_replay_case
 SECONDS = 20
 SEED = "1"
 KINDS = {"replay": random_replay_case, "report": random_report_case, "climate": random_climate_case,
-         "copy": random_copy_case, "fleet": random_fleet_case, "pages": random_pages_case, "soft": random_soft_case}
+         "copy": random_copy_case, "import": random_import_case, "fleet": random_fleet_case, "pages": random_pages_case,
+         "soft": random_soft_case}
 
 # What the model says of a kind, whatever else an outcome has.
 SAID = {"fleet": by_station}

@@ -6,11 +6,13 @@ from .archive import read_archive
 from .climate import FIRST_YEAR, LAST_YEAR, climate_lines
 from .copies import copy, may_be_written
 from .fleets import MOST_STATIONS, fleet_outcome
+from .imports import import_rows
 from .made import MOST_MADE, MOST_SEED, make
 from .outcomes import BAD_WORDS, DISK_FAULT, DONE, FILE_TOO_LONG, READ_FAULT, Refusal, outcome
 from .packets import soft_outcome
 from .pages import pages_outcome
 from .reports import KINDS, report_lines
+from .row_texts import rows_of_text
 from .run import Run
 from .schedule import read_schedule
 from .settings import read_settings
@@ -45,6 +47,8 @@ def answer_of(command, words, files):
         return climate(*words, files)
     if command == "copy" and len(words) == 2 and words[0] != words[1]:
         return copied(*words, files)
+    if command == "import" and len(words) == 2 and words[0] != words[1]:
+        return imported(*words, files)
     raise usage()
 
 
@@ -54,7 +58,7 @@ def usage():
 
 
 def content(name, files):
-    """The bytes of a file of settings, of a schedule, of pages or of packets."""
+    """The bytes of a file of settings, of a schedule, of pages, of packets or of row lines."""
     if name not in files:
         raise Refusal(READ_FAULT, "read fault")
     if len(files[name]) > LONGEST_FILE:
@@ -123,10 +127,23 @@ def climate(name, year_text, files):
     return outcome(DONE, climate_lines(read_archive(archive_content(name, files)).rows, int(year_text)))
 
 
-def copied(old, new, files):
-    """What a copy ends with; a new file that is not there is made."""
-    source, target = archive_content(old, files), files.get(new, b"")
-    if not may_be_written(target):
+def target_content(name, files):
+    """The bytes of an archive that is to be written, and is made if it is not there."""
+    image = files.get(name, b"")
+    if not may_be_written(image):
         raise Refusal(DISK_FAULT, "disk fault")
+    return image
+
+
+def copied(old, new, files):
+    """What a copy ends with."""
+    source, target = archive_content(old, files), target_content(new, files)
     result, files[new] = copy(source, target)
+    return result
+
+
+def imported(text_name, name, files):
+    """What an import ends with; the archive is opened once the text is accepted."""
+    rows = rows_of_text(content(text_name, files))
+    result, files[name] = import_rows(rows, target_content(name, files))
     return result

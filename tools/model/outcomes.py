@@ -16,6 +16,7 @@ FILE_TOO_LONG = 15
 OLD_ARCHIVE = 16
 NOT_A_PREFIX = 17
 BAD_ENTRY = 18
+BAD_ROWS = 19
 
 
 @dataclass(frozen=True)
