@@ -12,11 +12,13 @@ sys.path.insert(0, f'{TOP}/tools')
 
 import made_archive
 from model.packets import ENTRY_BYTES, MEMBERS, PACKET_BYTES, entry_bytes, packet_of
+from model.records import NAMES
 from model.stamps import stamp_of_parts
 
 SLOTS_OF_A_PAGE = 5
 ROWS_OF_A_BATCH = 5
 RECORDS_OF_A_ROUND = 100
+TOLD_FIELDS = 9  # of a row line: the lines of 104,857 rows are just below 16 MiB
 FIRST = datetime(2020, 1, 1)
 PACKET_SECONDS = 2  # from one packet to the next, as a console sends them
 SEED = 7
@@ -78,6 +80,21 @@ class Inputs:
     def archive(self, rows, batch_rows):
         """An archive of so many rows, in batches of so many."""
         return self.made(f'{rows}-by-{batch_rows}.archive', lambda path: made_archive.write(path, rows, batch_rows))
+
+    def row_lines(self, rows):
+        """The lines of so many rows, of which each has a value of the first fields."""
+        values_of_day = [' '.join(f'{name}={value}' for name, value in zip(NAMES[:TOLD_FIELDS], values))
+                         for values in made_archive.VALUES_OF]
+        return self.text(f'{rows}.rows', lambda: ''.join(
+            f'row {stamp_text(made_archive.MINUTES * n)} {made_archive.MINUTES} {values_of_day[n % len(values_of_day)]}\n'
+            for n in range(rows)))
+
+    def imported(self, program, rows, environment):
+        """An archive of these rows, as the program makes it of their lines."""
+        def make(path):
+            subprocess.run([program, 'import', self.row_lines(rows), path], check=True, stdout=subprocess.DEVNULL,
+                           env={**os.environ, **environment})
+        return self.made(f'{rows}-imported.archive', make)
 
     def table(self, rows):
         """A table of SQLite with as many rows of a stamp, an interval and 37 values."""

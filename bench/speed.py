@@ -18,7 +18,7 @@ from typing import NamedTuple
 
 sys.dont_write_bytecode = True  # nothing is left beside the scripts
 import runs
-from inputs import ROWS_OF_A_BATCH, TOP, Inputs
+from inputs import ROWS_OF_A_BATCH, TOLD_FIELDS, TOP, Inputs
 from runs import Way
 
 FOLDER = f'{TOP}/out/bench'
@@ -146,6 +146,17 @@ class Station:
         ways = [self.way('copy', old, new, environment=free, prepare=lambda: remove(new)), again]
         return Work('`copy`, no waits for the disk', 'row', rows, f'{rows:,} rows', ways)
 
+    def importing(self, share):
+        """A text imported into a new archive, with no waits for the disk, beside a copy of the archive that it gives."""
+        rows = ROWS // share
+        text, new = self.inputs.row_lines(rows), f'{self.inputs.folder}/imported'
+        free = {'LD_PRELOAD': self.inputs.unsynced()}
+        old = self.inputs.imported(self.program, rows, free)
+        copied = self.way('copy', old, new, environment=free, prepare=lambda: remove(new))._replace(name='`copy` of these rows')
+        ways = [self.way('import', text, new, environment=free, prepare=lambda: remove(new)), copied]
+        size = f'{rows:,} rows of {TOLD_FIELDS} values ({os.path.getsize(text) / MEBIBYTE:.1f} MiB)'
+        return Work('`import`, no waits for the disk', 'row', rows, size, ways)
+
     def adding(self, share):
         """Batches of five rows added, with two waits for the disk each, beside transactions of SQLite."""
         rows = FEW_ROWS // share
@@ -172,6 +183,7 @@ class Station:
             'replay': self.replay,
             'make': self.make,
             'copy': self.copy,
+            'import': self.importing,
             'add': self.adding,
         }
 
