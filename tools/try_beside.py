@@ -3,10 +3,11 @@
 
     tools/try_beside.py PROGRAM [READINGS]
 
-Each row comes by a copy from an archive that has one row more, or by an import of the text of all rows, in turn. Meanwhile the archive is read so many times, or 200 times if
-no number is given: by reports and by copies in turn. None may be refused. Each has to show the rows from the first one on, in
-order: at least those that were added before it began, and at most those whose adding had begun when it ended. A run may take
-longer while the machine runs others. The last line is 'N passed, M failed', and the status is 1 if any failed.
+Each row comes by a copy from an archive that has one row more, or by an import of the text of all rows, in turn. Meanwhile the
+archive is read so many times, or 200 times if no number is given: by reports and by copies in turn. None may be refused. Each has
+to show the rows from the first one on, in order: at least those that were added before it began, and at most those whose adding
+had begun when it ended. A run may take longer while the machine runs others. The last line is 'N passed, M failed', and the
+status is 1 if any failed.
 """
 import os
 import sys

@@ -33,6 +33,7 @@ CLOSINGS = ([INPUT], [OUTPUT], [ERRORS], [INPUT, OUTPUT, ERRORS])
 REPORT = "report old rows 2024-07-01 2024-07-01"
 COPY = "copy old new"
 IMPORT = "import rows taken"
+AGAIN = "import rows old"
 ROUND = f"station settings old {HERE}:1"  # nobody listens at port 1
 ENDS = {
     REPORT: Ended(0, "row 2024-07-01 00:05 5 outTemp=651\nrow 2024-07-01 00:10 5 outTemp=652\n"),
@@ -140,11 +141,13 @@ def import_that_fails(program):
     """Each call of an import that fails is a disk fault, and the same import made again has all rows."""
     with_archive(program)
     for place, call in enumerate(CALLED):
-        inject = f"inject={call}:error=EIO:when={CALLED[:place + 1].count(call)}"
-        ended, _ = traced(program, f"import rows new{place}", "-e", inject)
-        hold(f"an import with {inject}", ended, DISK_FAULT)
-        hold(f"an import after one with {inject}", program.run(f"import rows new{place}").status, 0)
-        hold(f"what is imported after {inject}", program.read(f"new{place}"), ARCHIVE)
+        for error in ERRORS[call]:
+            inject = f"inject={call}:error={error}:when={CALLED[:place + 1].count(call)}"
+            name = f"new{place}{error}"
+            ended, _ = traced(program, f"import rows {name}", "-e", inject)
+            hold(f"an import with {inject}", ended, DISK_FAULT)
+            hold(f"an import after one with {inject}", program.run(f"import rows {name}").status, 0)
+            hold(f"what is imported after {inject}", program.read(name), ARCHIVE)
 
 
 def import_that_is_killed(program):
@@ -187,7 +190,7 @@ def read_that_fails(program):
     """Each read of an archive that fails is a disk fault."""
     with_archive(program)
     of_archives = (*[word for name in ("old", "new") for word in ("-P", str(program.folder.resolve() / name))], "-e")
-    for words in (REPORT, COPY):
+    for words in (REPORT, COPY, AGAIN):
         _, trace = traced(program, words, *of_archives, f"trace={READS}")
         hold(f"{words} reads", READS in trace, True)
         for place in range(trace.count(READS)):
@@ -352,8 +355,8 @@ def held_streams(program):
 
 
 CASES = (calls_in_order, calls_of_import_in_order, calls_for_another_folder, call_that_fails, read_that_fails,
-         making_that_is_killed, import_that_fails, import_that_is_killed, short_archives, short_files, files_of_one_number, calls_in_part, no_plain_file,
-         pipe_is_not_opened, file_that_was_replaced, archive_of_another, closed_streams, held_streams)
+         making_that_is_killed, import_that_fails, import_that_is_killed, short_archives, short_files, files_of_one_number,
+         calls_in_part, no_plain_file, pipe_is_not_opened, file_that_was_replaced, archive_of_another, closed_streams, held_streams)
 
 if __name__ == "__main__":
     sys.exit(try_all(sys.argv, __doc__, CASES, 1))

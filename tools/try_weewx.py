@@ -25,7 +25,7 @@ from model.archive import CLOSED_GATE, THIS_VERSION, head_slot, sealed_batch, sl
 from model.records import FIELDS, KINDS
 from model.rows import Row, row_line
 from model.stamps import stamp_of_texts
-from trying import Differs, hold, leave_out, try_all
+from trying import Differs, hold, try_all
 
 TOOLS = Path(__file__).resolve().parent
 WHOLE = '--whole'
@@ -585,11 +585,7 @@ def archives_of_the_program(program):
     status, back, _ = rows(program)
     hold('the way back', back, [f'{row_line(row)}\n' for row in made])
     program.write('back.rows', ''.join(back))
-    taken_in = program.run('import back.rows new.archive')
-    if taken_in.printed == 'usage\n':
-        leave_out('the program has no command import: it was given no rows of WeeWX')
-        return
-    hold('what is taken', taken_in, (0, 'imported 39 passed 0 rows 39\n'))
+    hold('what is taken', program.run('import back.rows new.archive'), (0, 'imported 39 passed 0 rows 39\n'))
 
 
 CASES = (there_and_back, many_rows, columns_of_weewx, all_fields_there, all_fields_back, metric_values_of_weewx,

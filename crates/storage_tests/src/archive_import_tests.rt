@@ -1,6 +1,6 @@
 use crate::archives::{CHANGES, LONGEST, open};
 use archive_import::{ImportEnd, Imported, import_rows};
-use disk_model::{Disk, MemDisk};
+use disk_model::{Disk, MemDisk, Stopping};
 use row_text::{count_rows, read_row};
 use std::alloc::Global;
 use std::process::Abort;
@@ -21,11 +21,11 @@ row 2024-07-02 00:21 1 rain=0
 const TWO_LINES: usize = 86;
 
 // Imports a text of rows.
-fn import(
+fn import<D: Disk>(
     rt: &impl Abort,
     alloc: Global,
     text: &[u8],
-    to: &mut MemDisk,
+    to: &mut D,
 ) -> Result<ImportEnd, Fail> {
     let count = match count_rows(text) {
         Ok(count) => count,
@@ -36,7 +36,7 @@ fn import(
 }
 
 // How many rows of the text the archive on a disk has, from the first on and no others.
-fn held(rt: &impl Abort, alloc: Global, disk: &mut MemDisk) -> Result<u64, Fail> {
+fn held<D: Disk>(rt: &impl Abort, alloc: Global, disk: &mut D) -> Result<u64, Fail> {
     let book = open(rt, alloc, disk, Purpose::Read)?;
     assert!(rt; book.len() <= 7);
     let mut n = 0;
@@ -68,6 +68,43 @@ fn rows_of_two_days_are_imported_and_then_passed_over(rt: HostRuntime) -> Result
             })
         );
         assert_eq!(rt; held(&rt, rt.alloc(), &mut to)?, rows);
+    }
+    Ok(())
+}
+
+// An import that stops within change `k`, is restarted and called again. The twelfth is the sync of a second import.
+fn stopped(rt: &impl Abort, alloc: Global, k: u64, pick: u64) -> Result<(), Fail> {
+    let mut to = Stopping::new(MemDisk::new(alloc, LONGEST, CHANGES, LONGEST)?);
+    assert!(rt; k > 0 && !to.stopped());
+    to.arm(k, pick);
+    if k == 12 {
+        let end = import(rt, alloc, TEXT, &mut to)?;
+        assert!(rt; end != ImportEnd::Fault);
+    }
+    let end = import(rt, alloc, TEXT, &mut to)?;
+    assert!(rt; end == ImportEnd::Fault, "change {k}, pick {pick}");
+    assert!(rt; to.stopped());
+    to.restart();
+    let done = match import(rt, alloc, TEXT, &mut to)? {
+        ImportEnd::Done(done) => done,
+        _ => Err("not done")?,
+    };
+    // Before it was called again the archive had none of its two batches, the first or both.
+    let counts = (done.added, done.passed, done.rows);
+    assert!(rt;
+        counts == (7, 0, 7) || counts == (2, 5, 7) || counts == (0, 7, 7),
+        "change {k}, pick {pick}"
+    );
+    assert_eq!(rt; held(rt, alloc, &mut to)?, 7);
+    Ok(())
+}
+
+#[test]
+fn an_import_that_was_stopped_goes_on(rt: HostRuntime) -> Result<(), Fail> {
+    for pick in 0..7 {
+        for k in 1..13 {
+            stopped(&rt, rt.alloc(), k, pick)?;
+        }
     }
     Ok(())
 }
