@@ -120,7 +120,7 @@ def full_archive(program):
 def shell(program, command):
     """Has a shell run a command in the case's folder, where the program is called jofitrana."""
     subprocess.run(["bash", "-ec", f'jofitrana() {{ "$PROGRAM" "$@"; }}\n{command}'], cwd=program.folder, check=True,
-                   env={**os.environ, "PROGRAM": program.path})
+                   stdout=subprocess.DEVNULL, env={**os.environ, "PROGRAM": program.path})
 
 
 def joined_archives(program):
