@@ -11,7 +11,6 @@ pub mod PageLaws
 pub mod Pauses
 pub mod RecoveryLaws
 pub mod ReportLaws
-pub mod RoundMarks
 pub mod RoundTold
 pub mod Rounds
 pub mod SoftLaws

@@ -1,5 +1,5 @@
 -- A mark that held as a round of a stay began holds to the end of the run.
-use Rattle.std.proofs.Common.{◌≡◌, ℕ, zero, suc, ◌+◌, List, [], ◌++◌, Ok, Err, refl, sym, ap, subst, ◌∙◌, append_assoc, append-nil}
+use Rattle.std.proofs.Common.{◌≡◌, ℕ, zero, suc, ◌+◌, List, [], ◌∷◌, ◌++◌, Ok, Err, refl, sym, ap, subst, ◌∙◌, append_assoc, append-nil}
 use Rattle.std.specs.declared.result.Result.{Result}
 use Rattle.causes.specs.Lists.{IsFrontOf}
 use Rattle.station_base.specs.declared.row.Row.{Row}
@@ -9,6 +9,7 @@ use Rattle.station_session.specs.Holding.{rows_after_batches}
 use Rattle.station_session.specs.Marks.{MarkHolds}
 use Rattle.station_session.specs.Records.{stored_rows}
 use Rattle.station_session.specs.Session.{session_settings}
+use Rattle.station_session.proofs.RoundMarks.{marks_of_round}
 use Rattle.station_session.specs.declared.report.Mark.{Mark}
 use Rattle.packed_rows.specs.Rising.{last_row_stamp}
 use Rattle.run_output.specs.Ended.{Lines}
@@ -17,7 +18,6 @@ use Rattle.run_output.specs.Outside.{Meanings}
 use Rattle.run_output.specs.Steps.{Behind, CommandStep}
 use Rattle.run_output.specs.declared.outside.Outside.{Outside}
 use Rattle.commands.specs.StayRun.{Standing, give_ups_after, stay_round, standing, stays, where_done}
-use Rattle.commands.proofs.RoundMarks.{mark_lasts}
 
 -- what holds behind a step holds behind those that follow it
 behind_lasts : {W A B : Type 0} (Q : W → Type 0) (next : A → CommandStep W B) (mid new : W) (answer : Result A Output) (result : Result B Output) → Q mid
@@ -51,7 +51,7 @@ module _ {F K L D : Type 0} (m : Meanings F K L D) (waits : ℕ) (mark : Mark) w
   round_lasts : (made : ℕ) (began : Standing) (old new : Outside F K L D) (result : Result Standing Output) (did : stay_round m made began old result new)
       → MarkHolds m.medium old.disk began.rows mark
       → MarkHolds m.medium new.disk (rows_after_batches (session_settings began.session) began.rows (all_batches (last_row_stamp began.rows) did.serves.tries)) mark
-  round_lasts made began old new result did holds = mark_lasts m.medium _ began.rows _ _ _ mark did.serves.stores did.stands holds
+  round_lasts made began old new result did holds = (marks_of_round m.traffic m.medium began.rows did.end _ _ did.report (mark ∷ []) did.serves did.stands (holds, tt)).0
 
   -- A mark that held as a round began holds to the end of the run, whatever ends it.
   pub marks_last : (left made : ℕ) (began : Standing) (old new : Outside F K L D) (result : Result Lines Output) → stays m waits left made began old result new

@@ -18,6 +18,15 @@ pub fn push_stayed(text: &mut Text, made: u32)
     push_bytes(text, b"\n");
 }
 
+/// What is written last if all rounds were made.
+pub fn stayed_text(made: u32) -> Text
+    ensures { result.items ≡ stayed_line made }
+{
+    let mut text = Text::new();
+    push_stayed(&mut text, made);
+    text
+}
+
 /// How a stay ends after so many rounds: by the line that counts them, and by this line and status.
 pub fn ended_after(made: u32, line: &[u8], status: Status) -> Ending
     requires { length line.now ≤ 20 }

@@ -5,7 +5,7 @@ ghost use Rattle.disk_model.specs.Disk.{MayBegin};
 ghost use Rattle.run_output.specs.Output.{led_by, no_memory};
 ghost use Rattle.run_output.specs.Outside.{means};
 ghost use Rattle.station_base.specs.declared.row.Row.{Row};
-ghost use Rattle.station_session.specs.Report.{IsNew};
+ghost use Rattle.station_session.specs.Report.{HasRoom, IsNew};
 ghost use Rattle.station_session.specs.Session.{book_of, session_is_stale};
 ghost use Rattle.station_session.specs.declared.limits.TheConstants.{MOST_CHANGES};
 ghost use Rattle.weather_book.specs.Stands.{StandsOn};
@@ -13,7 +13,7 @@ ghost use Rattle.weather_book.specs.Stands.{StandsOn};
 use crate::catching_up::{ending, push_attempts, push_round};
 use crate::pausing::pause_between;
 use crate::recovering::recover;
-use crate::stayed::{ended_after, push_stayed};
+use crate::stayed::{ended_after, push_stayed, stayed_text};
 use command_words::StationWords;
 use disk_model::Disk;
 use run_output::{Ending, Outside, Status, Text, attach, connect, settle};
@@ -73,31 +73,31 @@ fn make_rounds<F: Files, K: Sink, L: Link, D: Disk>(
         → stays (means F.shelf K.outlet L.traffic D.medium) waits rounds 0 (standing session 0 rows) outside.old result
         outside.new }
 {
+    if rounds == 0 {
+        return Ok(stayed_text(rounds));
+    }
+    let mut report = first_report(alloc)?;
     let mut series = Series {
         session,
         give_ups: 0,
     };
     let mut made = 0;
     'rounds: while made < rounds {
-        let mut report = report_after(alloc, made)?;
+        report.clear();
         series = make_round(series, &mut report, made, outside)?;
         made += 1;
         pause_between(&mut outside.link, waits, rounds - made, made)?;
     }
-    let mut text = Text::new();
-    push_stayed(&mut text, made);
+    let text = stayed_text(made);
     Ok(text)
 }
 
-// An empty report, after so many rounds.
-fn report_after(alloc: Global, made: u32) -> Result<Report, Ending>
+// An empty report, before the first round. Each round is made with it.
+fn first_report(alloc: Global) -> Result<Report, Ending>
     ensures new { IfOk result (λ report. IsNew report) }
-    ensures none { IfErr result (λ output. output ≡ led_by (stayed_line made) no_memory) }
+    ensures none { IfErr result (λ output. output ≡ led_by (stayed_line 0) no_memory) }
 {
-    match Report::new(alloc) {
-        Ok(report) => Ok(report),
-        Err(_) => Err(ended_after(made, b"", Status::OutOfMemory)),
-    }
+    Report::new(alloc).map_err(|_| ended_after(0, b"", Status::OutOfMemory))
 }
 
 // Makes a round after so many, and writes its lines or gives them.
@@ -119,6 +119,7 @@ fn make_round<F: Files, K: Sink, L: Link, D: Disk>(
     ensures fresh { IfOk result (λ ended. session_is_stale ended.session ≡ false) }
     ensures give_ups { IfOk result (λ ended. ended.give_ups < MOST_GIVE_UPS) }
     ensures begun { D.medium.moment outside.new.disk ≤ D.medium.moment outside.old.disk + MOST_CHANGES }
+    ensures marks { HasRoom report.new }
 {
     let mut session = series.session;
     let end = session.round(&mut outside.link, &mut outside.disk, report);

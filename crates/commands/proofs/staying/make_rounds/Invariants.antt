@@ -1,6 +1,7 @@
 use Rattle.std.proofs.Common.{◌≡◌, ◌+◌, ◌-◌, ◌*◌, ◌<◌, ◌≤◌, false, List}
 use Rattle.std.specs.declared.result.Result.{Result}
 use Rattle.station_base.specs.declared.row.Row.{Row}
+use Rattle.station_session.specs.Report.{HasRoom}
 use Rattle.station_session.specs.Session.{book_of, session_is_stale}
 use Rattle.station_session.specs.declared.limits.TheConstants.{MOST_CHANGES}
 use Rattle.weather_book.specs.Stands.{StandsOn}
@@ -25,4 +26,5 @@ invariant-rounds g l = record {
   give_ups : l.series.give_ups < most_give_ups;
   room : g.D.Disk.medium.moment l.outside.disk ≤ g.D.Disk.medium.moment l.fn.outside.disk + MOST_CHANGES * l.made;
   within : l.made ≤ l.rounds;
+  marks : HasRoom l.report;
 }
