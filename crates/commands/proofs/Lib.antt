@@ -15,6 +15,7 @@ pub mod RoundTold
 pub mod Rounds
 pub mod SoftLaws
 pub mod StationLaws
+pub mod StationRounds
 pub mod StayEnds
 pub mod StayLaws
 pub mod StayMarks

@@ -20,12 +20,12 @@ use Rattle.run_output.specs.declared.outside.Outside.{Outside}
 use Rattle.commands.specs.StayRun.{Standing, give_ups_after, stay_round, standing, stays, where_done}
 
 -- what holds behind a step holds behind those that follow it
-behind_lasts : {W A B : Type 0} (Q : W → Type 0) (next : A → CommandStep W B) (mid new : W) (answer : Result A Output) (result : Result B Output) → Q mid
+pub behind_lasts : {W A B : Type 0} (Q : W → Type 0) (next : A → CommandStep W B) (mid new : W) (answer : Result A Output) (result : Result B Output) → Q mid
     → ((a : A) → answer ≡ Ok a → next a mid result new → Q new) → Behind answer next mid result new → Q new
 behind_lasts Q next mid new (Ok a) result at_end further behind = further a refl behind
 behind_lasts Q next mid new (Err output) result at_end further behind = subst Q (sym behind.1) at_end
 
-done_is : {A : Type 0} (a b : A) (answer : Result (Unit {0}) Output) → ◌≡◌ {A = Result A Output} (Ok b) (where_done a answer) → b ≡ a
+pub done_is : {A : Type 0} (a b : A) (answer : Result (Unit {0}) Output) → ◌≡◌ {A = Result A Output} (Ok b) (where_done a answer) → b ≡ a
 done_is a b (Ok done) is = cc
 done_is a b (Err output) is = absurd cc
 

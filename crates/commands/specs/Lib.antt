@@ -13,6 +13,7 @@ pub mod ReportRun
 pub mod SlotText
 pub mod SoftRun
 pub mod StationRun
+pub mod StationRounds
 pub mod StayRun
 pub mod Style
 pub mod StyleRead

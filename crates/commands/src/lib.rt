@@ -28,7 +28,7 @@ pub use climate::print_climate;
 pub use copying::copy_files;
 pub use entries::soft_rows;
 pub use importing::import_text;
-pub use laws::{a_report_is_read_back, an_import_is_reported};
+pub use laws::{a_report_is_read_back, a_stay_is_rounds_of_station, an_import_is_reported};
 pub use printing::{corrected_pages, print_file};
 pub use queries::answer_requests;
 pub use reporting::report;
