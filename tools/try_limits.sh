@@ -26,9 +26,9 @@ zeros() {
 {
     printf 'DVARCH02'
     zeros 168
-    printf '\1\1\2\0\xe1\x30\5\0\5\0\0\0\1'
-    zeros 7
-    printf '\x8b\2'
+    printf '\1\1\1\0\xe1\x30\5\0\5\0\0\0\x99\x10\1'
+    zeros 5
+    printf '\x8a\2'
     zeros 155
 } >one.archive
 
@@ -52,6 +52,7 @@ commands=(
     'copy one.archive new.archive'
     'import first.rows one.archive'
     "station settings.toml new.archive $nobody"
+    "stay settings.toml new.archive $nobody 1 1"
     "console settings.toml first.schedule $nowhere 1"
 )
 
