@@ -11,6 +11,7 @@ use serial_link::{Link, Side};
 use station_io::{Files, Sink};
 
 /// Calls the console, and makes a task of it.
+#[inline(never)]
 pub fn call_for<F: Files, K: Sink, L: Link, D: Disk>(
     address: &str,
     task: &Task,

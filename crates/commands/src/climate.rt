@@ -15,6 +15,7 @@ use weather_book::Purpose;
 
 /// Attaches the file of this name, which is not made where there is none, and writes the climate table of a year from 1999
 /// to 2127.
+#[inline(never)]
 pub fn print_climate<F: Files, K: Sink, L: Link, D: Disk>(
     alloc: Global,
     archive: &str,

@@ -15,6 +15,7 @@ use std::alloc::Global;
 
 /// Attaches the two files, of which the first is not made where there is none, and adds to the archive of the second the
 /// rows of the first that it lacks.
+#[inline(never)]
 pub fn copy_files<F: Files, K: Sink, L: Link, D: Disk>(
     alloc: Global,
     from: &str,

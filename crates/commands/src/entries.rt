@@ -17,6 +17,7 @@ use station_io::{Files, Put, Sink};
 use std::alloc::Global;
 
 /// Prints the rows that the entries of the file make, corrected by the settings, which are read first.
+#[inline(never)]
 pub fn soft_rows<F: Files, K: Sink, L: Link, D: Disk>(
     alloc: Global,
     settings: &str,

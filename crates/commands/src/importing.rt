@@ -17,6 +17,7 @@ use std::alloc::Global;
 
 /// Reads a text of rows and judges it. Then it attaches the archive, which is made where there is none, and adds the rows of
 /// the text that are later than its last one.
+#[inline(never)]
 pub fn import_text<F: Files, K: Sink, L: Link, D: Disk>(
     alloc: Global,
     rows: &str,

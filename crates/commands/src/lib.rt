@@ -1,4 +1,6 @@
 //! The commands over files of pages, archives and consoles: what each does, in steps of which each may end the run.
+//!
+//! Each command stands out of line. The function that calls one of them would else have room on its stack for the locals of all.
 #![tactic(auto)]
 
 mod asking;

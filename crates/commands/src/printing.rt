@@ -11,6 +11,7 @@ use station_io::{Files, Sink};
 use std::alloc::Global;
 
 /// Prints the pages of the file, with stamp and outside temperature of each record.
+#[inline(never)]
 pub fn print_file<F: Files, K: Sink, L: Link, D: Disk>(
     alloc: Global,
     name: &str,
@@ -23,6 +24,7 @@ pub fn print_file<F: Files, K: Sink, L: Link, D: Disk>(
 }
 
 /// Prints the pages of the file, with each row corrected by the settings, which are read first.
+#[inline(never)]
 pub fn corrected_pages<F: Files, K: Sink, L: Link, D: Disk>(
     alloc: Global,
     settings: &str,

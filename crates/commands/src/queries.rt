@@ -15,6 +15,7 @@ use weather_book::{Book, Purpose};
 
 /// Attaches the file of this name, which is not made where there is none, waits for a call at the address, and answers
 /// requests for the rows of the archive for so many turns.
+#[inline(never)]
 pub fn answer_requests<F: Files, K: Sink, L: Link, D: Disk>(
     alloc: Global,
     archive: &str,

@@ -22,6 +22,7 @@ use weather_book::{Book, Purpose};
 use weather_reports::{ReportEnd, day_table, listing, month_table};
 
 /// Attaches the file of this name, which is not made where there is none, and writes the report that is asked for.
+#[inline(never)]
 pub fn report<F: Files, K: Sink, L: Link, D: Disk>(
     alloc: Global,
     archive: &str,

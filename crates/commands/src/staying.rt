@@ -32,6 +32,7 @@ const MOST_GIVE_UPS: u32 = 12;
 
 /// Makes up to so many rounds over one line to the console at an address. The archive is made where there is none, and
 /// recovered once, before the console is called. Between two rounds so many quiet waits pass.
+#[inline(never)]
 pub fn stay<F: Files, K: Sink, L: Link, D: Disk>(
     alloc: Global,
     words: &StationWords<'_>,

@@ -24,6 +24,7 @@ use std::alloc::Global;
 
 /// Lets stations take turns, one for each schedule, under the settings of one file. The settings are read first, and then the
 /// schedules in the order of their names.
+#[inline(never)]
 pub fn run_fleet<F: Files, K: Sink, L: Link, D: Disk>(
     alloc: Global,
     words: &FleetWords<'_>,

@@ -1,4 +1,6 @@
 //! The commands that run the modelled console: a replay, stations that take turns, a console that is served, and a run that is made.
+//!
+//! Each command stands out of line. The function that calls one of them would else have room on its stack for the locals of all.
 #![tactic(auto)]
 
 mod fleet_laws;

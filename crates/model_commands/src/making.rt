@@ -9,6 +9,7 @@ use station_base::{push_bytes, push_count};
 use std::alloc::Global;
 
 /// Makes a schedule of so many records from a seed, and gives the counts of its run. No file, link or disk is touched.
+#[inline(never)]
 pub fn make_run(alloc: Global, seed: u32, records: u32) -> Result<Text, Ending>
     requires seed { seed < 2 ^ 31 }
     requires from { 1 ≤ records }

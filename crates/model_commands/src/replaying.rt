@@ -17,6 +17,7 @@ use station_io::{Files, Sink};
 use std::alloc::Global;
 
 /// Replays the schedule that one file holds under the settings that another holds, which are read first.
+#[inline(never)]
 pub fn replay_files<F: Files, K: Sink, L: Link, D: Disk>(
     alloc: Global,
     settings: &str,

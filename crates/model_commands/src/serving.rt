@@ -23,6 +23,7 @@ use std::alloc::Global;
 
 /// Serves a new modelled console at an address for so many turns. One file holds the settings, whose period it has, and
 /// another the schedule, whose steps before the first round it has behind it. Both are read before a call is waited for.
+#[inline(never)]
 pub fn serve_files<F: Files, K: Sink, L: Link, D: Disk>(
     alloc: Global,
     words: &ConsoleWords<'_>,
