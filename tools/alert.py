@@ -5,16 +5,18 @@
 
 /etc/jofitrana/NAME.env has the command, for example ALERT=mail -s Weather me@example.org, and CHECK with options of the check.
 A shell runs the command, with the line at its standard input and in JOFITRANA_LINE. What was told stands beside the archive
-in NAME.alert. A command that fails is run again at the next check. Systemd starts this behind each check, and behind a round
-that failed.
+in NAME.alert. A command that fails is run again at the next check. Systemd starts this behind each check, and behind a round or a
+stay that failed.
 Statuses: 0, 1 if the command failed or the station cannot be read.
 """
 import argparse
+import fcntl
 import json
 import os
 import shlex
 import subprocess
 import sys
+from contextlib import contextmanager
 from typing import NamedTuple
 
 sys.dont_write_bytecode = True  # nothing is left beside an installed script
@@ -23,7 +25,7 @@ from findings import Finding, Status
 from stations import ARCHIVES, SETTINGS, StationFault, read_station
 from whole_files import write_whole
 
-ROUND_UNIT = 'jofitrana@'
+ROUND_UNITS = {'jofitrana@': 'a round', 'jofitrana-stay@': 'a stay'}  # by how their names begin
 ABSENT = -1  # the size of an archive that is not there
 
 
@@ -57,11 +59,12 @@ def size_of(station):
 
 
 def failed_round(environment):
-    """The round that failed and for which systemd starts this, in words."""
+    """The round or the stay that failed and for which systemd starts this, in words."""
     unit = environment.get('MONITOR_UNIT', '')
-    if not unit.startswith(ROUND_UNIT):
+    what = next((what for begin, what in ROUND_UNITS.items() if unit.startswith(begin)), None)
+    if what is None:
         return None
-    return (f'a round failed: {environment.get("MONITOR_SERVICE_RESULT", "")} {environment.get("MONITOR_EXIT_STATUS", "")}'
+    return (f'{what} failed: {environment.get("MONITOR_SERVICE_RESULT", "")} {environment.get("MONITOR_EXIT_STATUS", "")}'
             f', see journalctl -u {unit}')
 
 
@@ -105,6 +108,14 @@ def alert(station, found, environment):
     return 0
 
 
+@contextmanager
+def turn_of(station):
+    """Waits until no other alert of a station is made. Each begins with what the one before it has told."""
+    with open(station.environment, encoding='utf-8') as file:
+        fcntl.flock(file, fcntl.LOCK_EX)
+        yield
+
+
 def check_of(station, chosen):
     """What the check of a station finds."""
     options = shlex.split(station.keys.get('CHECK', ''))
@@ -124,7 +135,8 @@ def main():
         station = read_station(chosen.name, chosen.stations, chosen.archives)
         if station.alert is None:
             return 0
-        return alert(station, check_of(station, chosen), os.environ)
+        with turn_of(station):
+            return alert(station, check_of(station, chosen), os.environ)
     except (StationFault, ValueError) as fault:
         print(f'alert: {fault}')
     except OSError as fault:

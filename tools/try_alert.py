@@ -26,6 +26,8 @@ OLD = Finding('age', Status.WARNING, 'last row 2024-07-03 12:00, 20 minutes ago'
 OLDER = Finding('age', Status.CRITICAL, 'last row 2024-07-03 12:00, 70 minutes ago')
 SILENT = Finding('silent outTemp', Status.WARNING, 'outTemp has had no value for 24 hours')
 ROUND = {'MONITOR_UNIT': 'jofitrana@roof.service', 'MONITOR_SERVICE_RESULT': 'exit-code', 'MONITOR_EXIT_STATUS': '7'}
+STAY = ROUND | {'MONITOR_UNIT': 'jofitrana-stay@roof.service', 'MONITOR_EXIT_STATUS': '2'}
+COMMAND_SECONDS = 2  # of a command that takes its time
 CHECK = {'MONITOR_UNIT': 'jofitrana-check@roof.service', 'MONITOR_EXIT_STATUS': '1'}
 
 
@@ -76,7 +78,7 @@ def other_troubles(folder):
 
 
 def failed_rounds(folder):
-    """A round that failed is told once, and is over with the next row."""
+    """A round or a stay that failed is told once, and is over with the next row."""
     trial = Trial(folder)
     line = 'roof: JOFITRANA CRITICAL - {}; a round failed: exit-code 7, see journalctl -u jofitrana@roof.service'
     hold('a round', trial.told(GOOD, environment=ROUND), [line.format(GOOD.text)])
@@ -85,6 +87,8 @@ def failed_rounds(folder):
     trial.station = read_station('roof', folder, folder)
     Path(trial.station.archive).write_bytes(b'row')
     hold('a check behind a row', trial.told(GOOD), [f'roof: JOFITRANA OK - {GOOD.text}'])
+    line = 'roof: JOFITRANA CRITICAL - {}; a stay failed: exit-code 2, see journalctl -u jofitrana-stay@roof.service'
+    hold('a stay', trial.told(GOOD, environment=STAY), [line.format(GOOD.text)])
 
 
 def commands(folder):
@@ -126,7 +130,20 @@ def a_whole_run(folder):
     hold('no command', ran.returncode, 0)
 
 
-CASES = (once_bad_and_once_well, other_troubles, failed_rounds, commands, a_whole_run)
+def two_at_once(folder):
+    """Two alerts that systemd starts at one moment, behind a check and behind a round: the second knows what the first has told."""
+    trial = Trial(folder)
+    program = trial.folder / 'program'
+    program.write_text('#!/bin/sh\nexit 7\n')
+    program.chmod(0o755)
+    (trial.folder / 'roof.env').write_text(f"ALERT='cat >>{folder}/told; sleep {COMMAND_SECONDS}'\n")
+    words = [TOOLS / 'alert.py', '-p', program, '--stations', folder, '--archives', folder, 'roof']
+    both = [subprocess.Popen(words) for _ in range(2)]
+    hold('their statuses', [one.wait() for one in both], [0, 0])
+    hold('what was told', (trial.folder / 'told').read_text().count('JOFITRANA CRITICAL'), 1)
+
+
+CASES = (once_bad_and_once_well, other_troubles, failed_rounds, commands, a_whole_run, two_at_once)
 
 
 def main():

@@ -161,6 +161,20 @@ for name in "${!shut_in[@]}"; do
         <(grep -E "^($kinds)=" "$tools/../systemd/$name@.service" | sort)
 done
 
+# The alerts that more than one unit starts: systemd hands over to none of them how a unit ended.
+shared_alerts() (
+    cd "$tools/../systemd" && grep -oE '^On(Failure|Success)=.*' -- *@.* | sed 's/:.*=/ /' | sort -u | cut -d' ' -f2 | sort | uniq -d
+)
+expect 'alerts that more than one unit starts' 0 '' shared_alerts
+
+# The units that others start or wait for, and that are not installed.
+missing_units() (
+    cd "$tools/../systemd" || exit
+    grep -ohE 'jofitrana[a-z-]*@%i\.[a-z]+' -- *@.* | sed 's/%i//' | sort -u |
+        grep -vxFf <(sed -n 's|.* lib/systemd/system/||p' "$tools/installed.txt")
+)
+expect 'units that others name, and that are not installed' 1 '' missing_units
+
 # Prints the exposure of a unit, and returns whether it is at most 1.1.
 exposure() {
     local told status
@@ -330,20 +344,22 @@ echo mine >"$root/var/lib/jofitrana/notes"
 echo mine >"$root/etc/jofitrana/other.toml"
 data >wanted
 expect 'an upgrade' 0 '*Setting up jofitrana *' packages -i /package.deb
-expect 'an upgrade starts and stops nothing' 1 '' grep -E 'start|stop' "$root/noted"
+anew='deb-systemd-invoke try-restart jofitrana-stay@?.service'
+expect 'an upgrade has stays that run begin anew, and starts and stops nothing else' 0 "$anew" grep -E 'start|stop' "$root/noted"
 expect 'an upgrade in two steps' 0 '*' packages --unpack /package.deb
 expect 'its second step' 0 '*Setting up jofitrana *' packages --configure jofitrana
-expect 'an upgrade in two steps starts nothing' 1 '' grep start "$root/noted"
+expect 'an upgrade in two steps starts nothing else' 0 "$anew" grep start "$root/noted"
 expect 'what an upgrade keeps' 0 '' differing wanted <(data)
 expect 'the package is removed' 0 '*Removing jofitrana *' packages -r jofitrana
-expect 'a removal stops rounds and checks' 0 "*stop jofitrana@?.timer jofitrana-check@?.timer jofitrana-clock@?.timer jofitrana@?.service jofitrana-stay@?.service *" \
+expect 'a removal stops rounds and checks' 0 "*stop jofitrana@?.timer jofitrana-check@?.timer jofitrana-clock@?.timer jofitrana-stay-check@?.timer jofitrana@?.service jofitrana-stay@?.service *" \
     grep stop "$root/noted"
+expect 'a removal has it forgotten which had failed' 0 'systemctl --system reset-failed jofitrana?' grep reset "$root/noted"
 expect 'what a removal keeps' 0 '' differing wanted <(data)
 expect 'a removal takes the program away' 1 '' [ -e "$root/usr/bin/jofitrana" ]
 expect 'the package is installed again' 0 '*Setting up jofitrana *' packages -i /package.deb
 expect 'the enabled timers and stays start again' 0 $'deb-systemd-invoke start jofitrana@roof.timer\ndeb-systemd-invoke start jofitrana-stay@barn.service' grep start "$root/noted"
 expect 'an upgrade behind it' 0 '*Setting up jofitrana *' packages -i /package.deb
-expect 'an upgrade behind it starts nothing' 1 '' grep start "$root/noted"
+expect 'an upgrade behind it starts nothing else' 0 "$anew" grep start "$root/noted"
 expect 'the package is purged' 0 '*/etc/jofitrana is kept*/var/lib/jofitrana is kept*' packages -P jofitrana
 expect 'what a purge keeps' 0 '' differing wanted <(data)
 expect 'the timers that a purge leaves enabled' 0 other.timer ls "$wants"
