@@ -297,11 +297,14 @@ def console_on_a_serial_line(program):
 
 
 def line_of_the_unit(program, own):
-    """The unit's command serves the adapter at the station's address, and a second setup takes the line as it is."""
-    command, = Unit(UNIT, 'roof').all('ExecStart')
-    with running('line', *words_of(command, own), cwd=program.folder, env=os.environ | own):
+    """The unit's command serves the adapter at the station's address, and has not failed if it is stopped."""
+    unit = Unit(UNIT, 'roof')
+    command, = unit.all('ExecStart')
+    with running('line', *words_of(command, own), cwd=program.folder, env=os.environ | own) as line:
         await_that('the line', lambda: listens(int(own['ADDRESS'].split(':')[1])))
         hold('the console behind it', program.run(f'task {own["ADDRESS"]} kind'), (GOOD, 'kind 16\n'))
+        line.terminate()
+        hold('its status', str(line.wait(LONGEST)), unit.last('SuccessExitStatus', '0'))
 
 
 def adapters_that_are_none(program):
