@@ -221,8 +221,9 @@ def print_rows(whole):
     return behind
 
 
-def report(whole, old, new, behind):
+def report(whole, chosen, behind):
     """Prints what was found."""
+    old, new, station = chosen.old, chosen.new, chosen.known
     _, count, last = whole.ends[-1]
     say(f'{old} is ' + ('not damaged' if whole.damage is None else f'damaged at {whole.damage}'))
     say(f'{new} has its first {count} rows' + (f', the last of {last.stamp:%Y-%m-%d %H:%M}' if last else ''))
@@ -232,9 +233,9 @@ def report(whole, old, new, behind):
         say(f'{behind} rows behind them can be read. They are printed, and may be wrong: {new} has none of them')
         say(f'the other rows behind them are missing. The next round with {new} adds what the console still has:')
         say(f'the records later than the last row, out of its last {CONSOLE_RECORDS:,}')
-    now = datetime.now()
+    now, where = (station.now(), " in the station's zone") if station else (datetime.now(), '')
     if last and last.stamp > now:
-        say(f"the last row of {new} is later than this machine's clock, which shows {now:%Y-%m-%d %H:%M}: its stamp may be wrong.")
+        say(f"the last row of {new} is later than this machine's clock{where}, which shows {now:%Y-%m-%d %H:%M}: its stamp may be wrong.")
         say('No round adds a record until the console\'s clock has passed that stamp')
 
 
@@ -271,6 +272,7 @@ def chosen_words():
     if len(names) != 2:
         words.error('two archives are wanted, or --station and one')
     chosen.old, chosen.new = names
+    chosen.known = station
     return chosen
 
 
@@ -295,7 +297,7 @@ def salvage(chosen):
             write(new, whole)
             judge(chosen.new, whole, chosen.program)
             behind = print_rows(whole)
-        report(whole, chosen.old, chosen.new, behind)
+        report(whole, chosen, behind)
 
 
 def stop(*_):

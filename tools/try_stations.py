@@ -16,7 +16,7 @@ import sys
 import tempfile
 import time
 from contextlib import contextmanager
-from datetime import date, datetime, timedelta
+from datetime import date, datetime, timedelta, timezone
 from pathlib import Path
 
 sys.dont_write_bytecode = True  # nothing is left beside the scripts
@@ -370,8 +370,22 @@ def rows_up_to_a_stamp(program):
         hold(' '.join(words), run(program, 'salvage.py', *words)[0], USAGE)
 
 
+def a_row_ahead_of_the_clock(program):
+    """Salvage compares the last row with the time in the station's zone, whatever this machine's zone is."""
+    (program.folder / 'var').mkdir()
+    write_environment(program, 'TZ=<+01>-1\n')
+    now = datetime.now(timezone(timedelta(hours=1))).replace(second=0)
+    for minutes, is_ahead in ((-5, False), (10, True)):
+        row = row_of(f'{now + timedelta(minutes=minutes):%Y-%m-%d %H:%M}', outTemp=650)
+        program.write('var/roof.archive', batches_of([row], [1]))
+        trouble = run(program, 'salvage.py', '--station', 'roof', '--program', program.path, 'new')[2]
+        hold(f'a row {minutes} minutes ahead: {trouble}', "is later than this machine's clock in the station's zone" in trouble, is_ahead)
+        (program.folder / 'new').unlink()
+
+
 CASES = (forms_of_settings, settings_out_of_form, rain_of_a_table, rain_of_a_page, rain_of_a_chart, rain_of_a_database,
-         zone_of_an_export, zone_of_a_page, packets_of_a_station, zones_of_the_manual, settings_without_a_bucket, words_of_a_station, rows_up_to_a_stamp)
+         zone_of_an_export, zone_of_a_page, packets_of_a_station, zones_of_the_manual, settings_without_a_bucket, words_of_a_station, rows_up_to_a_stamp,
+         a_row_ahead_of_the_clock)
 
 if __name__ == '__main__':
     sys.exit(try_all(sys.argv, __doc__, CASES, 4))
