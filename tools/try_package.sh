@@ -161,9 +161,47 @@ for name in "${!shut_in[@]}"; do
         <(grep -E "^($kinds)=" "$tools/../systemd/$name@.service" | sort)
 done
 
+# What units start and stop, when they begin anew, and which ends are good. It has to be just this.
+ties() (
+    ties='On(Failure|Success|Calendar)|Wants=.*jofitrana|Unit=|Conflicts|PartOf|Restart|SuccessExit|StartLimit|WantedBy'
+    cd "$tools/../systemd" && grep -oE "^($ties).*" -- *@.* | LC_ALL=C sort
+)
+wanted_ties='jofitrana-check@.service:OnFailure=jofitrana-alert@%i.service
+jofitrana-check@.service:OnSuccess=jofitrana-alert@%i.service
+jofitrana-check@.timer:OnCalendar=*:4/15
+jofitrana-check@.timer:PartOf=jofitrana@%i.timer
+jofitrana-clock@.service:SuccessExitStatus=1 2
+jofitrana-clock@.timer:OnCalendar=12:04
+jofitrana-clock@.timer:PartOf=jofitrana@%i.timer
+jofitrana-line@.service:Restart=always
+jofitrana-line@.service:RestartSec=10s
+jofitrana-line@.service:SuccessExitStatus=143
+jofitrana-line@.service:WantedBy=multi-user.target
+jofitrana-page@.service:WantedBy=jofitrana@%i.service
+jofitrana-stay-check@.timer:OnCalendar=*:4/15
+jofitrana-stay-check@.timer:PartOf=jofitrana-stay@%i.service
+jofitrana-stay-check@.timer:Unit=jofitrana-check@%i.service
+jofitrana-stay@.service:Conflicts=jofitrana@%i.timer
+jofitrana-stay@.service:OnFailure=jofitrana-stay-alert@%i.service
+jofitrana-stay@.service:Restart=always
+jofitrana-stay@.service:RestartPreventExitStatus=2 10 11 16
+jofitrana-stay@.service:RestartSec=60
+jofitrana-stay@.service:StartLimitIntervalSec=0
+jofitrana-stay@.service:SuccessExitStatus=4 6
+jofitrana-stay@.service:WantedBy=multi-user.target
+jofitrana-stay@.service:Wants=network-online.target jofitrana-stay-check@%i.timer
+jofitrana@.service:OnFailure=jofitrana-round-alert@%i.service
+jofitrana@.service:Restart=no
+jofitrana@.service:SuccessExitStatus=4 6 13
+jofitrana@.timer:OnCalendar=*:1/5
+jofitrana@.timer:WantedBy=timers.target
+jofitrana@.timer:Wants=jofitrana-check@%i.timer jofitrana-clock@%i.timer'
+expect 'what units start and stop' 0 '' differing <(echo "$wanted_ties") <(ties)
+
 # The alerts that more than one unit starts: systemd hands over to none of them how a unit ended.
 shared_alerts() (
-    cd "$tools/../systemd" && grep -oE '^On(Failure|Success)=.*' -- *@.* | sed 's/:.*=/ /' | sort -u | cut -d' ' -f2 | sort | uniq -d
+    cd "$tools/../systemd" || exit
+    grep -oE '^On(Failure|Success)=.*' -- *@.* | sed 's/:.*=/ /' | sort -u | cut -d' ' -f2 | sort | uniq -d
 )
 expect 'alerts that more than one unit starts' 0 '' shared_alerts
 
