@@ -58,6 +58,14 @@ class Event:
         return self.life.console.made - self.made - (self.life.rows() - self.rows)
 
 
+def know_gap(life, event):
+    """The observer knows of a gap, and has it left out from then on."""
+    life.add_key('CHECK', f'--known {life.console.moment + DAY:%Y-%m-%d}')
+    event.passes(DAY)
+    life.round()
+    hold_words('once it is known', ' '.join(life.alert()), 'JOFITRANA OK')
+
+
 def first_setup(life):
     """Set up in summer, summer time was AUTO and is switched off"""
     console = life.console
@@ -201,10 +209,7 @@ def new_battery(life):
     event.passes(HOUR)
     lost = event.lost()
     hold_words('the gap', life.check().line(), f'lacks {lost} rows')
-    life.add_key('CHECK', f'--known {life.console.moment + DAY:%Y-%m-%d}')
-    event.passes(DAY)
-    life.round()
-    life.alert()
+    know_gap(life, event)
     return Came(lost, 60, f'after {minutes} minutes; why, by the look of that day')
 
 
@@ -222,10 +227,7 @@ def record_of_the_future(life):
     event.passes(DAY)
     lost = event.lost()
     life.look()
-    life.add_key('CHECK', f'--known {life.console.moment + DAY:%Y-%m-%d}')
-    event.passes(DAY)
-    life.round()
-    life.alert()
+    know_gap(life, event)
     return Came(lost, DAY_ROWS, 'with the next check, both times')
 
 
@@ -296,7 +298,8 @@ def missing_logger(life):
     life.console.has_logger = True
     event.passes(HOUR)
     lost = event.lost()
-    hold_words('the gap', life.check().line(), f'lacks {lost} rows')
+    hold_words('the gap', ' '.join(life.alert()), 'CRITICAL', f'lacks {lost} rows')
+    know_gap(life, event)
     return Came(lost, 2 * DAY_ROWS, f'after {minutes} minutes; the gap, with its rows, for 31 days')
 
 
