@@ -4,8 +4,8 @@
     jofitrana-chart --station roof --days 2024-10-14 2024-10-20 week.png
     jofitrana report weather.archive rows 2024-10-14 2024-10-20 | jofitrana-chart week.png
 
-With `--station` the units, the title and the rain bucket are the station's. The name says the kind of the picture, by its end .png or .svg. Values that are missing, and rows that are, leave gaps. Of
-many rows just the values that can be seen are drawn.
+With `--station` the units, the title and the rain bucket are the station's. The name says the kind of the picture, by its end
+.png or .svg. Values that are missing, and rows that are, leave gaps. Of many rows just the values that can be seen are drawn.
 Statuses: 0, 1 where the input has no rows or is cut or the picture cannot be written, 2 where the words are out of form.
 """
 import argparse
@@ -22,12 +22,15 @@ import chosen_rows
 import rows as row_lines
 import stations
 from page_texts import english_texts
+from stopping import stop_as_refused
 from svg_text import shortened
 from units import AS_IT_IS, METRIC
 
 try:
-    from matplotlib import dates, ticker
+    from matplotlib import dates, rc_context, rcParams, ticker
     from matplotlib.figure import Figure
+    from matplotlib.patches import PathPatch
+    from matplotlib.path import Path
 except ImportError:
     sys.exit('chart: matplotlib is missing; on Debian: apt install python3-matplotlib')
 
@@ -35,6 +38,8 @@ SIZE = (10, 9)  # inches
 DOTS_AN_INCH = 80
 # Inches beside the panels, above and below them and between them, for a line of title, and for the numbers of a panel.
 LEFT, RIGHT, TOP, BOTTOM, BETWEEN, TITLE, BESIDE = 1.05, 0.2, 0.6, 0.5, 0.3, 0.2, 0.65
+GRID = {'alpha': 0.3, 'linewidth': 0.8, 'zorder': 0.5}
+LOOK = {'axes.grid': True, 'axes.grid.axis': 'y', 'grid.alpha': GRID['alpha'], 'axes.axisbelow': True}
 UNSIGNED = dict.fromkeys(('Creator', 'Date', 'Format', 'Type'))  # a picture of the same rows is the same then
 # The panels with the fields that they show: those of weather, inside, and those of growers.
 WEATHER = {'temperature': ('outTemp', 'lowOutTemp', 'highOutTemp'), 'humidity': ('outHumidity',), 'pressure': ('barometer',),
@@ -90,7 +95,9 @@ class Ticks(dates.ConciseDateFormatter):
     """The ticks of time, with the months of a language."""
 
     def __init__(self, locator, texts):
-        super().__init__(locator)
+        day, month = texts['charts']['tick_day'], '%b %Y'
+        super().__init__(locator, zero_formats=['', '%Y', '%b', day, '%H:%M', '%H:%M'],
+                         offset_formats=['', '%Y', month, f'{day} %Y', f'{day} %Y', f'{day} %Y %H:%M'])
         self.texts = texts
 
     def format_ticks(self, values):
@@ -108,6 +115,11 @@ class Numbers(ticker.ScalarFormatter):
 
     def __call__(self, value, place=None):
         return self.texts.digits(super().__call__(value, place))
+
+
+def moment_of(row):
+    """When a row ends, as text; of a row that stands for a day, the day."""
+    return f'{row.stamp:%Y-%m-%d %H:%M}' if row.interval < DAY else f'{row.stamp - DAY:%Y-%m-%d}'
 
 
 def wind_of(rows, begin, end):
@@ -128,14 +140,15 @@ class Picture:
         self.title, self.panels, self.size = title, panels, size
         self.end = rows[-1].stamp
         self.begin = self.end - span if span else rows[0].stamp - rows[0].interval
-        self.dot = (self.end - self.begin) / ((size[0] - LEFT - RIGHT) * DOTS_AN_INCH)
+        self.ends = dates.date2num([self.begin, self.end])
+        self.dot = (self.ends[1] - self.ends[0]) / ((size[0] - LEFT - RIGHT) * DOTS_AN_INCH)
         self.take(rows)
 
     def take(self, rows):
         """Has the lines be those of some rows."""
         self.gapped = with_gaps(rows)
-        self.stamps = [row.stamp for row in self.gapped]
-        self.columns = [(stamp - self.begin) // self.dot for stamp in self.stamps]
+        places = dates.date2num([row.stamp for row in self.gapped])
+        self.places, self.columns = places.tolist(), ((places - self.ends[0]) // self.dot).tolist()
 
     def series(self, name):
         """The values of a field, no number where there is none."""
@@ -154,18 +167,19 @@ class Picture:
     def line(self, axes, name, colour, legend=None):
         """Draws a field as a line. A value between two gaps is a dot."""
         values = self.series(name)
-        places = self.seen(values)
-        stamps, values = [self.stamps[place] for place in places], [values[place] for place in places]
-        axes.plot(stamps, values, color=colour, linewidth=1, label=legend)
-        lone = [place for place in range(len(values)) if is_lone(values, place)]
-        axes.plot([stamps[place] for place in lone], [values[place] for place in lone], '.', color=colour, markersize=3)
+        seen = self.seen(values)
+        places, values = [self.places[number] for number in seen], [values[number] for number in seen]
+        axes.plot(places, values, color=colour, linewidth=1, label=legend)
+        lone = [number for number in range(len(values)) if is_lone(values, number)]
+        if lone:
+            axes.plot([places[number] for number in lone], [values[number] for number in lone], '.', color=colour, markersize=3)
 
     def band(self, axes, low_name, high_name, colour, legend):
         """Draws the space between two fields."""
         low, high = self.series(low_name), self.series(high_name)
-        places = sorted({*self.seen(low), *self.seen(high)})
-        stamps, low, high = ([one[place] for place in places] for one in (self.stamps, low, high))
-        axes.fill_between(stamps, low, high, color=colour, alpha=0.3, linewidth=0, label=legend)
+        seen = sorted({*self.seen(low), *self.seen(high)})
+        places, low, high = ([one[number] for number in seen] for one in (self.places, low, high))
+        axes.fill_between(places, low, high, color=colour, alpha=0.3, linewidth=0, label=legend)
 
     def temperature(self, axes):
         """The outside temperature, between the extremes of each row."""
@@ -178,11 +192,11 @@ class Picture:
             self.line(axes, 'windGust', 'chocolate', self.words['gust'])
             self.line(axes, 'windSpeed', 'tab:blue', self.words['mean_wind'])
             return
-        rows = self.rows
+        rows = self.gapped, self.places, self.columns
         self.take(self.wind_steps())
         self.band(axes, 'windSpeed', 'windGust', 'chocolate', self.words['up_to_gust'])
         self.line(axes, 'windSpeed', 'tab:blue', self.words['mean_wind'])
-        self.take(rows)
+        self.gapped, self.places, self.columns = rows
 
     def wind_steps(self):
         """The winds of the rows by steps of time; of rows that are longer than a step, the rows themselves."""
@@ -213,9 +227,9 @@ class Picture:
         name, = PANEL_FIELDS[panel]
         fallen, ending = self.bars_of(name)
         bars = [(begin, begin + width, height) for begin, (height, width) in fallen.items() if height]
-        stamps = [stamp for begin, end, _ in bars for stamp in (begin, begin, end, end)]
+        places = dates.date2num([stamp for begin, end, _ in bars for stamp in (begin, begin, end, end)])
         heights = [one for _, _, height in bars for one in (0, height, height, 0)]
-        axes.fill_between(stamps, heights, color=BAR_COLOURS[panel], linewidth=0)
+        axes.fill_between(places, heights, color=BAR_COLOURS[panel], linewidth=0)
         axes.set_ylim(0, None if bars else self.units['inch'][1](NO_RAIN_INCHES))
         return self.words[panel + ending]
 
@@ -234,16 +248,18 @@ class Picture:
             getattr(self, panel)(axes)
         self.label(axes, label, names[0])
 
-    def finish(self, axes):
+    def finish(self, axes, ticks):
         """Gives a panel its grid and, where it has several lines, their names."""
         axes.yaxis.set_label_coords(-BESIDE / (self.size[0] - LEFT - RIGHT), 0.5)
         axes.xaxis.set_label_coords(0.5, 0)  # a place for each text that there is not, or matplotlib looks for one
         axes.set_title('', y=1)
         axes.yaxis.set_major_formatter(Numbers(self.texts))
-        axes.grid(True, alpha=0.3)
-        axes.set_axisbelow(True)
+        axes.set_xlim(*self.ends)
+        uprights = Path([(place, height) for place in ticks for height in (0, 1)], [Path.MOVETO, Path.LINETO] * len(ticks))
+        axes.add_artist(PathPatch(uprights, fill=False, edgecolor=rcParams['grid.color'], transform=axes.get_xaxis_transform(),
+                                  **GRID))
         if axes.get_legend_handles_labels()[0]:
-            axes.legend(loc='lower right', bbox_to_anchor=(1, 1), borderaxespad=0, frameon=False, fontsize='small', ncol=4)
+            axes.legend(loc='lower right', bbox_to_anchor=(1, 1), borderaxespad=0, frameon=False, ncol=4)
 
     def room(self):
         """Where the panels stand, as parts of the picture."""
@@ -253,17 +269,17 @@ class Picture:
 
     def figure(self):
         """The drawn picture."""
-        figure = Figure(figsize=self.size)
-        all_axes = figure.subplots(len(self.panels), sharex=True, squeeze=False, gridspec_kw=self.room()).flat
+        figure, locator = Figure(figsize=self.size), dates.AutoDateLocator()
+        ticks = locator.tick_values(*dates.num2date(self.ends))
+        with rc_context(LOOK):
+            all_axes = list(figure.subplots(len(self.panels), squeeze=False, gridspec_kw=self.room()).flat)
         for panel, axes in zip(self.panels, all_axes):
             self.draw(axes, panel)
-            self.finish(axes)
-        locator = dates.AutoDateLocator()
-        ticks = locator.tick_values(*dates.num2date(dates.date2num([self.begin, self.end])))
-        all_axes[-1].xaxis.set_major_locator(ticker.FixedLocator(ticks))  # found once, and not again for each panel
+            self.finish(axes, ticks)
+            axes.xaxis.set_visible(axes is all_axes[-1])
+        all_axes[-1].xaxis.set_major_locator(ticker.FixedLocator(ticks))
         all_axes[-1].xaxis.set_major_formatter(Ticks(locator, self.texts))
-        all_axes[-1].set_xlim(self.begin, self.end)
-        first, last = (f'{row.stamp:%Y-%m-%d %H:%M}' for row in (self.rows[0], self.rows[-1]))
+        first, last = map(moment_of, (self.rows[0], self.rows[-1]))
         span = self.words['from_to_span'].format(first=first, last=last)
         figure.suptitle(f'{self.title}\n{span}' if self.title else span, parse_math=False)
         return figure
@@ -308,6 +324,7 @@ def panels_named(text):
 
 
 def main():
+    stop_as_refused('chart')
     words = argparse.ArgumentParser(prog='chart', description='Draws the rows of the input.')
     words.add_argument('picture', type=picture_name, help='the file to write, NAME.png or NAME.svg')
     words.add_argument('--title', help='a line above the picture')

@@ -23,6 +23,7 @@ sys.dont_write_bytecode = True  # nothing is left beside an installed script
 import chosen_rows
 import rows as row_lines
 import stations
+from stopping import stop_as_refused
 from zones import NoZone, zone_named
 
 LEFT_OUT = 3
@@ -165,6 +166,7 @@ def zone_word(name):
 
 
 def main():
+    stop_as_refused('export')
     words = argparse.ArgumentParser(prog='export', description='Writes the rows of the input as CSV.')
     words.add_argument('table', type=table_name, help='the file to write, NAME.csv; NAME.conf is written beside it')
     words.add_argument('--zone', type=zone_word, help="the zone of the console's clock, as Etc/GMT-1")

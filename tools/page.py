@@ -39,6 +39,7 @@ from even_rain import even_rain
 from joined import joined
 from page_folder import INDEX, Folder, Foreign
 from reports import Archive, Refused
+from stopping import stop_as_refused
 from units import Units
 
 TEMPLATES = Path(os.path.realpath(__file__)).parent / 'page'
@@ -136,7 +137,7 @@ class Page:
         texts, of_years = self.files_of_years((first, last), months)
         texts[DATA] = page_now.data_of(rows[-1], self.units, self.name, self.zone)
         charts = page_charts.Charts(self.folder, self.units, self.has_inside, (last - first).days + 1)
-        pictures = charts.all(rows, days)
+        pictures = charts.all(lines, rows, days)
         self.write_files(texts, pictures, charts.made | of_years, made=made, now=now)
 
 
@@ -171,6 +172,7 @@ def files_of(names, station):
 
 
 def main():
+    stop_as_refused('page')
     chosen = chosen_words()
     try:
         station = stations.station_of(chosen)

@@ -24,7 +24,7 @@ SOURCES = (Path(__file__), Path(chart.__file__), Path(svg_text.__file__))  # a c
 DIGITS = 12  # of a digest in a name
 
 # What the words for a chart tell of its panels: the least and the greatest value of the first of these fields that has any.
-EXTREMES = {'temperature': (('lowOutTemp', 'outTemp'), ('highOutTemp', 'outTemp'))}
+EXTREMES = {'temperature': (('lowOutTemp', 'outTemp'), ('highOutTemp', 'outTemp')), 'wind': (('windGust', 'windSpeed'),) * 2}
 SUMS = {'rain': 'rain', 'evaporation': 'ET'}
 
 
@@ -55,29 +55,28 @@ def row_of_day(day, fields, units):
     return row_lines.Row(datetime.combine(date.fromisoformat(day) + DAY, time()), DAY, values)
 
 
-def extreme(rows, choose, names):
-    """The least or the greatest value of the first of these fields that has any."""
+def values_of(rows, names):
+    """The values of the first of these fields that has any."""
     for name in names:
         values = [row.values[name] for row in rows if name in row.values]
         if values:
-            return choose(values)
-    return None
+            return values
+    return []
 
 
 def words_of_panel(panel, rows, units):
     """What a panel shows, or nothing if it has no value."""
     words, name = units.texts['told'], chart.PANEL_FIELDS[panel][0]
-    if panel in SUMS:
-        values = [row.values[name] for row in rows if name in row.values]
-        return words[panel].format(value=units.with_sign(name, sum(values))) if values else None
-    if panel == 'wind':
-        gust = extreme(rows, max, ('windGust', 'windSpeed'))
-        return words[panel].format(value=units.with_sign('windGust', gust)) if gust is not None else None
     lows, highs = EXTREMES.get(panel, (chart.PANEL_FIELDS[panel],) * 2)
-    low, high = extreme(rows, min, lows), extreme(rows, max, highs)
-    if low is None:
+    values = values_of(rows, lows)
+    if not values:
         return None
-    return words['from_to'].format(name=words[panel], low=units.text(name, low), high=units.with_sign(name, high))
+    if panel in SUMS:
+        return words[panel].format(value=units.with_sign(name, sum(values)))
+    high = max(values if highs == lows else values_of(rows, highs), default=None)
+    if panel == 'wind':
+        return words[panel].format(value=units.with_sign('windGust', high))
+    return words['from_to'].format(name=words[panel], low=units.text(name, min(values)), high=units.with_sign(name, high))
 
 
 def words_of(rows, units, panels=chart.PANELS):
@@ -89,7 +88,8 @@ def words_of(rows, units, panels=chart.PANELS):
 def title_of(span, days_there, units):
     """What a chart is of. It says how many days there are if they are fewer than its span."""
     words = units.texts['spans']
-    return words['so_far'].format(span=words[span], count=days_there) if days_there < SPANS[span] else words[span]
+    so_far = words['one_day_so_far' if days_there == 1 else 'so_far']
+    return so_far.format(span=words[span], count=days_there) if days_there < SPANS[span] else words[span]
 
 
 def has_values(panel, rows):
@@ -112,7 +112,8 @@ def digest_of(*parts):
 
 def source_digest(units):
     """What the tools and texts come to that draw a chart."""
-    return digest_of(*(file.read_bytes() for file in SOURCES), units.texts.source, units.sign('outTemp'), matplotlib.__version__)
+    return digest_of(*(file.read_bytes() for file in SOURCES), units.texts.source, units.sign('outTemp'), units.buckets,
+                     matplotlib.__version__)
 
 
 def drawn(span, rows, units, panels, length):
@@ -130,7 +131,7 @@ def chart_of(span, rows, units, days_there=MOST_DAYS_OF_ROWS, kind='weather', pa
     svg, size = drawn(span, rows, units, panels, length)
     beginning = span.lower() if kind == 'weather' else f'{span.lower()}-{kind}'
     width, height = (round(PIXELS_AN_INCH * inches) for inches in size)
-    words = units.texts['told']['up_to'].format(span=units.texts['spans'][span], stamp=f'{rows[-1].stamp:%Y-%m-%d %H:%M}',
+    words = units.texts['told']['up_to'].format(span=units.texts['spans'][span], stamp=chart.moment_of(rows[-1]),
                                                 values=words_of(rows, units, panels))
     return Chart(title_of(span, days_there, units), f'{beginning}-{digest_of(svg)[:DIGITS]}.svg', width, height, words, svg)
 
@@ -151,12 +152,12 @@ class Charts:
         self.source = source_digest(units)
         self.made = {}
 
-    def chart(self, kind, span, rows):
-        """A chart, or none if its panels have no value."""
+    def chart(self, kind, span, rows, digest):
+        """A chart, or none if its panels have no value. The digest is that of all rows and days."""
         panels = panels_of(kind, rows, self.has_inside)
         if kind == 'growing' and not panels:
             return None
-        made_of = digest_of(self.source, span, rows, panels, self.days_there)
+        made_of = digest_of(self.source, span, digest, panels, self.days_there)
         key = f'{kind} {span}'
         before = self.folder.note['made'].get(key)
         if before and before[0] == made_of and self.folder.has([before[1][1]]):
@@ -166,8 +167,7 @@ class Charts:
         self.made[key] = made_of, one[:-1]
         return one
 
-    def all(self, rows, days):
-        """The charts of all spans: those of weather, and those of growers."""
-        of_spans = {span: rows_of_span(span, rows, days, self.units) for span in SPANS}
-        return [list(filter(None, (self.chart(kind, span, chosen) for span, chosen in of_spans.items())))
-                for kind in ('weather', 'growing')]
+    def all(self, lines, rows, days):
+        """The charts of all spans: those of weather, and those of growers. The lines are those of the rows."""
+        of_spans, digest = [(span, rows_of_span(span, rows, days, self.units)) for span in SPANS], digest_of(lines, days)
+        return [list(filter(None, (self.chart(kind, *chosen, digest) for chosen in of_spans))) for kind in ('weather', 'growing')]

@@ -7,7 +7,7 @@ import derived
 import rows as row_lines
 from climate_tables import greatest, least
 
-DAY, MINUTE = timedelta(days=1), timedelta(minutes=1)
+DAY, HOUR, MINUTE = timedelta(days=1), timedelta(hours=1), timedelta(minutes=1)
 TREND = timedelta(hours=3)
 PERIODS_TO_OLD = 3  # a row that is older than so many of its periods is marked
 UNITS_OF_DATA = {'degree_compass': '°', 'count': ''}
@@ -73,10 +73,14 @@ class Seen(NamedTuple):
 def age_text(stamp, made, texts):
     """How old a row is, in words."""
     words, minutes = texts['page'], (made - stamp) // MINUTE
+    if abs(minutes) == 1:
+        return words['one_minute_ahead' if minutes < 0 else 'one_minute_old']
     if minutes < 0:
         return words['minutes_ahead'].format(count=-minutes)
-    if minutes < 2 * DAY // MINUTE:
+    if minutes < 2 * HOUR // MINUTE:
         return words['minutes_old'].format(count=minutes)
+    if minutes < 2 * DAY // MINUTE:
+        return words['hours_old'].format(count=minutes * MINUTE // HOUR)
     return words['days_old'].format(count=(made - stamp).days)
 
 

@@ -1,6 +1,7 @@
 """The row lines that `report` and `replay` print, as values in the units of the fields (docs/FORMATS.md)."""
 import re
 from datetime import datetime, timedelta
+from functools import cache
 from typing import NamedTuple
 
 # What each field is counted in, by its name: the number by which its value is divided, and the unit.
@@ -70,9 +71,15 @@ def is_rain(name):
     return FIELDS[name][1].startswith('click')
 
 
+@cache
+def counts_of(bucket):
+    """How many counts of a row line the unit of each field is."""
+    return {name: PARTS_OF_INCH[bucket] if is_rain(name) else counts for name, (counts, _) in FIELDS.items()}
+
+
 def value_of(name, number, bucket):
     """The value of a field that a row line counts so, in the field's unit."""
-    return number / (PARTS_OF_INCH[bucket] if is_rain(name) else FIELDS[name][0])
+    return number / counts_of(bucket)[name]
 
 
 def day_of(stamp):
@@ -85,12 +92,12 @@ def counted_row(line):
     match = ROW.fullmatch(line)
     if not match:
         raise NotRows(f'this is no row line: {line[:80]}')
-    values = dict(pair.split('=') for pair in match[3].split())
-    for name in values:
+    pairs = [pair.split('=') for pair in match[3].split()]
+    for name, _ in pairs:
         if name not in FIELDS:
             raise NotRows(f"there is no field '{name}'")
     try:
-        numbers = {name: int(number) for name, number in values.items() if number != 'limit'}
+        numbers = {name: int(number) for name, number in pairs if number != 'limit'}
         return Row(datetime.fromisoformat(match[1]), timedelta(minutes=int(match[2])), numbers)
     except ValueError as fault:
         raise NotRows(f'{fault}: {line[:80]}') from None
@@ -99,8 +106,8 @@ def counted_row(line):
 def row_of(line, buckets):
     """The row of a row line, its values in the units of their fields."""
     row = counted_row(line)
-    bucket = buckets.on(day_of(row.stamp))
-    return row._replace(values={name: value_of(name, number, bucket) for name, number in row.values.items()})
+    counts = counts_of(buckets.on(day_of(row.stamp)))
+    return Row(row.stamp, row.interval, {name: number / counts[name] for name, number in row.values.items()})
 
 
 def whole(line):

@@ -1,5 +1,6 @@
 """The text of an SVG picture that matplotlib wrote: made shorter, and shown in the colours that its reader prefers."""
 import re
+from functools import cache
 
 PATH = re.compile(r' d="([^"]*)"')
 STEP = re.compile(r'([ML]) (\S+) (\S+)\s*|z\s*')
@@ -24,6 +25,7 @@ def tenths(text):
     return FRACTION.sub(lambda number: f'{float(number[0]):.1f}'.removesuffix('.0'), text)
 
 
+@cache
 def digits(number):
     """A count of tenths, in as few letters as it has."""
     return f'{number / TENTHS:g}'.replace('0.', '.') if abs(number) < TENTHS else f'{number / TENTHS:g}'

@@ -212,7 +212,7 @@ def texts(numbers):
 
 def lines_of(axes):
     """The lines of a panel by their names, without the dots of lone values."""
-    drawn = axes.get_lines()[::2]
+    drawn = [line for line in axes.get_lines() if line.get_linestyle() != 'None']
     return {'' if line.get_label().startswith('_') else line.get_label(): texts(line.get_ydata()) for line in drawn}
 
 

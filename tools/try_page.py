@@ -1,5 +1,5 @@
 #!/usr/bin/python3
-"""Tries page.py: on rows whose page is worked out by hand, on odd archives, and on a year of rows.
+"""Tries page.py: on rows whose page is worked out by hand, and on odd archives.
 
     tools/try_page.py PROGRAM
 
@@ -29,7 +29,7 @@ from model.reports import report_lines
 from model.rows import Row, row_line
 from model.stamps import FIRST_DAY, LAST_DAY, stamp_of_texts
 from stand_in import write_archive
-from trying import Differs, Missed, hold, leave_out, need, try_all
+from trying import Differs, hold, leave_out, need, try_all
 
 try:
     import page
@@ -47,9 +47,6 @@ except SystemExit as reason:  # a library is missing
 TOOLS = Path(__file__).resolve().parent
 PERIOD = 5
 ARCHIVE, FOLDER = 'archive', 'folder'
-PICTURE_BYTES = 150_000  # of the first view
-YEAR_SECONDS = 5  # of a processor
-YEAR_ROWS = 365 * 288
 WIDTHS = (375, 768, 1280)
 HEIGHT = 2400
 LONGEST = 60  # seconds that Chromium may take
@@ -254,7 +251,7 @@ def day_that_is_whole(program):
 def empty_archive(program):
     """The page of an archive without rows says so."""
     shown = make(program, [])
-    hold('what it says', 'There is no row yet' in shown.text, True)
+    hold('what it says', 'There is no reading yet' in shown.text, True)
     hold('pictures', shown.all('img', 'src'), [])
 
 
@@ -293,7 +290,9 @@ def age_of_the_last_row(program):
     then, english = datetime(2024, 7, 1, 12), Texts('en')
     hold('a row of the future', page_now.age_text(then, then - timedelta(minutes=30), english),
          '30 minutes ahead of this machine’s clock')
-    hold('an old row', page_now.age_text(then, then + timedelta(minutes=5000), english), '3 days old')
+    for minutes, wanted in ((-1, '1 minute ahead of this machine’s clock'), (1, '1 minute old'), (119, '119 minutes old'),
+                            (120, '2 hours old'), (2879, '47 hours old'), (2880, '2 days old'), (5000, '3 days old')):
+        hold(f'{minutes} minutes', page_now.age_text(then, then + timedelta(minutes=minutes), english), wanted)
 
 
 def hour_that_comes_twice(program):
@@ -457,20 +456,6 @@ def reader_of_a_page(program):
     hold('old charts', [file.name for file in folder.glob('*.svg')], [charts[-1].file])
 
 
-def year_of_rows(program):
-    """The page of a year takes few seconds of a processor, and its pictures few bytes."""
-    write_archive(program.folder / ARCHIVE, rows_from('2024-01-01 00:05', YEAR_ROWS, year_values))
-    process = subprocess.Popen([TOOLS / 'page.py', '--program', TOOLS / 'stand_in.py', ARCHIVE, FOLDER], cwd=program.folder)
-    _, status, used = os.wait4(process.pid, 0)
-    hold('the making', status, 0)
-    if used.ru_utime + used.ru_stime > YEAR_SECONDS:
-        raise Missed(f'{used.ru_utime + used.ru_stime:.1f} s of a processor')
-    size = sum((program.folder / FOLDER / name).stat().st_size for name in seen(program).all('img', 'src'))
-    print(f'a year: {used.ru_utime + used.ru_stime:.1f} s of a processor, {size} bytes of pictures', file=sys.stderr)
-    if size > PICTURE_BYTES:
-        raise Differs(f'{size} bytes of pictures')
-
-
 class Quiet(SimpleHTTPRequestHandler):
     """Serves a folder, and notes what it is asked for."""
     asked = []
@@ -533,7 +518,7 @@ def pages_of_the_program(program):
     hold('the charts', seen(program).all('img', 'src'), shown.all('img', 'src'))
 
 
-CASES = (year_of_rows, page_in_a_browser, last_row_and_its_day, climate_tables, midnight_of_a_month, days_without_rows,
+CASES = (page_in_a_browser, last_row_and_its_day, climate_tables, midnight_of_a_month, days_without_rows,
          day_that_is_whole, empty_archive, single_row, day_of_limits, trend_of_three_hours, age_of_the_last_row,
          hour_that_comes_twice, gaps_of_charts, awkward_name, page_by_itself, letters_that_can_be_read, rules_of_html, program_without_climate,
          refusals, years_that_do_not_change, reader_of_a_page, pages_of_the_program)

@@ -80,7 +80,7 @@ def rows_that_are_old(program):
     hold('the making', made(program), (0, ''))
     shown = seen(program)
     hold('its mark', ('p', {'class': 'old'}) in shown.elements, True)
-    hold('when a row was due', 'This row is old: a later one was due at 2024-07-01 12:05.' in shown.text, True)
+    hold('when a row was due', 'This reading is old: a later one was due at 2024-07-01 12:05.' in shown.text, True)
     hold('the change', 'Past 3 hours' in shown.text, True)
     fresh = f'{datetime.utcnow():%Y-%m-%d %H:%M}'
     write_archive(program.folder / ARCHIVE, [row_at(fresh, outTemp=600)])
@@ -93,6 +93,9 @@ def young_archives(program):
     rows = [row_at(f'2024-07-{day:02} 12:00', outTemp=600, rain=1) for day in range(3, 16)]
     hold('titles', [page_charts.title_of(span, 13, US) for span in page_charts.SPANS],
          ['Day', 'Week', 'Month: 13 days so far', 'Year: 13 days so far'])
+    hold('the title of one day', page_charts.title_of('Week', 1, US), 'Week: 1 day so far')
+    of_days = page_charts.chart_of('Year', [row._replace(interval=timedelta(days=1)) for row in values_read(rows)], US, 13)
+    hold('the days of its chart', ('2024-07-02 to 2024-07-14' in of_days.svg, of_days.words[:24]), (True, 'Year up to 2024-07-14: t'))
     hold('titles of a year', [page_charts.title_of(span, 365, US) for span in page_charts.SPANS], ['Day', 'Week', 'Month', 'Year'])
     make_tables(program, rows)
     captions = [text for text in re.findall('<caption>(.*?)</caption>', (program.folder / FOLDER / 'climate-2024.html').read_text())]
@@ -190,7 +193,7 @@ def languages(program):
     hold('English texts in it', sorted(word for word in words - {*filter(is_text, german.values())} if re.search(rf'\b{re.escape(word)}\b', said)), [])
     ticks = page_charts.chart.Picture(values_read(rows_from('2024-09-20 00:05', 8000, lambda _: {'outTemp': 650})), METRIC.shown,
                                       panels=['temperature'], texts=Texts('de')).svg()
-    hold('its months', ('Okt' in ticks, 'Oct' in ticks), (True, False))
+    hold('its months', ('Okt' in ticks, 'Oct' in ticks, 'Okt 2024' in ticks), (True, False, True))
 
 
 def last_row_as_data(program):

@@ -24,6 +24,7 @@ import weewx_tables
 from export import zone_word
 from reports import Refused
 from row_stream import counted_rows
+from stopping import stop_as_refused
 
 LEFT_OUT = 3
 
@@ -85,6 +86,7 @@ def words_of_command():
 
 
 def main():
+    stop_as_refused('weewx')
     words = words_of_command()
     chosen = words.parse_args()
     try:
