@@ -374,6 +374,31 @@ else
     leave_out 'python3-jinja2 or python3-matplotlib is missing: no page was made by its unit'
 fi
 
+# The rows of a database of WeeWX come into an archive, are shown, and go into another database.
+cat >"$root/make_weewx.py" <<'PYTHON'
+import sqlite3
+link = sqlite3.connect('/old.sdb')
+link.execute('CREATE TABLE archive (dateTime INTEGER NOT NULL UNIQUE PRIMARY KEY, usUnits INTEGER NOT NULL, '
+             '`interval` INTEGER NOT NULL, outTemp REAL, rain REAL)')
+link.executemany('INSERT INTO archive VALUES (?, 1, 5, ?, ?)',
+                 ((1_700_000_100 + 300 * number, 50 + number % 9, number % 2 / 100) for number in range(600)))
+link.commit()
+PYTHON
+places='--zone Etc/GMT-1 --bucket 0.01in'
+expect 'a database of WeeWX' 0 '' in_root /usr/bin/python3 /make_weewx.py
+expect 'its rows' 0 'weewx: 600 rows; left out: 0 rows and 0 values' in_root sh -c "jofitrana-weewx rows /old.sdb $places >/old.rows"
+expect 'the first of them' 0 'row 2023-11-14 23:15 5 outTemp=500 rain=0' head -n 1 "$root/old.rows"
+expect 'their import' 0 'imported 600 passed 0 rows 600' in_root jofitrana import /old.rows /old.archive
+expect 'a database of that archive' 0 'weewx: 600 rows added; left out: 0 rows' \
+    in_root sh -c "jofitrana-weewx database /new.sdb --archive /old.archive $places"
+expect 'its rows again' 0 'weewx: 600 rows; left out: 0 rows and 0 values' in_root sh -c "jofitrana-weewx rows /new.sdb $places >/new.rows"
+expect 'both are alike' 0 '' cmp "$root/old.rows" "$root/new.rows"
+if in_root /usr/bin/python3 -c 'import jinja2, matplotlib' 2>/dev/null; then
+    expect 'a page of that archive' 0 '?(Matplotlib is building the font cache; this may take a moment.)' \
+        in_root jofitrana-page --language de /old.archive /old.page
+    expect 'its rain' 0 '*<th scope="row">2023, seit 14. November</th><td>3,00</td>*' cat "$root/old.page/index.html"
+fi
+
 # An upgrade starts no timer, and neither way to take the package away touches what the observer has.
 ln -s /usr/lib/systemd/system/jofitrana@.timer "$wants/jofitrana@roof.timer"
 ln -s /usr/lib/systemd/system/other.timer "$wants/other.timer"
