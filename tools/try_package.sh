@@ -168,15 +168,17 @@ ties() (
 )
 wanted_ties='jofitrana-check@.service:OnFailure=jofitrana-alert@%i.service
 jofitrana-check@.service:OnSuccess=jofitrana-alert@%i.service
+jofitrana-check@.service:SuccessExitStatus=SIGTERM
 jofitrana-check@.timer:OnCalendar=*:4/15
 jofitrana-check@.timer:PartOf=jofitrana@%i.timer
-jofitrana-clock@.service:SuccessExitStatus=1 2
+jofitrana-clock@.service:SuccessExitStatus=1 2 SIGTERM
 jofitrana-clock@.timer:OnCalendar=12:04
 jofitrana-clock@.timer:PartOf=jofitrana@%i.timer
 jofitrana-line@.service:Restart=always
 jofitrana-line@.service:RestartSec=10s
 jofitrana-line@.service:SuccessExitStatus=143
 jofitrana-line@.service:WantedBy=multi-user.target
+jofitrana-page@.service:SuccessExitStatus=SIGTERM
 jofitrana-page@.service:WantedBy=jofitrana@%i.service
 jofitrana-stay-check@.timer:OnCalendar=*:4/15
 jofitrana-stay-check@.timer:PartOf=jofitrana-stay@%i.service
@@ -192,7 +194,7 @@ jofitrana-stay@.service:WantedBy=multi-user.target
 jofitrana-stay@.service:Wants=network-online.target jofitrana-stay-check@%i.timer
 jofitrana@.service:OnFailure=jofitrana-round-alert@%i.service
 jofitrana@.service:Restart=no
-jofitrana@.service:SuccessExitStatus=4 6 13
+jofitrana@.service:SuccessExitStatus=4 6 13 SIGTERM
 jofitrana@.timer:OnCalendar=*:1/5
 jofitrana@.timer:WantedBy=timers.target
 jofitrana@.timer:Wants=jofitrana-check@%i.timer jofitrana-clock@%i.timer'

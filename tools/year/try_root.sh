@@ -6,7 +6,7 @@
 #
 #     tools/year/try_root.sh PROGRAM [DEBIAN]
 #
-# DEBIAN is a folder with a Debian 12, which is only read. If it is not there, mmdebstrap makes it, which downloads some 200 MB.
+# DEBIAN is a folder with a Debian 12, which is only read. If it is not there, mmdebstrap makes it, which takes 1.5 GB of disk.
 # Without that word it is made for this run alone. The system has processes, mounts, a network and a cgroup of its own: this
 # machine's systemd is asked for nothing, and nothing is left.
 set -u
@@ -197,6 +197,8 @@ try_line() {
     expect 'a round over it' 0 '' inside systemctl start jofitrana@roof
     expect 'what it says' 0 'round ok attempts 1 pages 28[89] skipped 0 acked 14?? rows 14??' said jofitrana@roof.service
     expect 'whose archive it is' 0 'jofitrana 644' inside stat -c '%U %a' "$ARCHIVE"
+    sh_inside 'systemctl start --no-block jofitrana@roof; sleep 1; systemctl stop jofitrana@roof'
+    expect 'a round that was stopped has not failed' 0 '* inactive dead' state_of jofitrana@roof.service
     inside systemctl kill -s KILL jofitrana-line@roof
     expect_soon 'a line that was killed' '1 0 active running' state_of jofitrana-line@roof
     inside systemctl stop jofitrana-line@roof
@@ -257,6 +259,7 @@ try_stay() {
     expect_soon 'its rounds' '*round ok*round ok*' inside journalctl -u jofitrana-stay@roof --no-pager -o cat
     expect 'a round beside it is left out' 0 '*exec-condition*' \
         sh_inside 'systemctl start jofitrana@roof; journalctl -u jofitrana@roof --no-pager -n 3'
+    try_page_of_a_stay
     inside systemctl kill -s KILL jofitrana-stay@roof
     expect_soon 'a stay that was killed' '1 0 active running' state_of jofitrana-stay@roof
     inside systemctl stop jofitrana-line@roof
@@ -272,6 +275,16 @@ try_stay() {
     inside systemctl start jofitrana@roof.timer
     expect 'the timer stops a stay' 0 'active active inactive inactive' active jofitrana@roof.timer jofitrana-check@roof.timer \
         jofitrana-stay@roof jofitrana-stay-check@roof.timer
+}
+
+# Beside a stay the page has a timer of its own, as the manual has it, here with a quicker one.
+try_page_of_a_stay() {
+    sed -n '/^\[Timer\]/,/^WantedBy/p' "$tools/../docs/USING.md" | sed 's|^OnCalendar=.*|OnCalendar=*:*:0/10|' |
+        inside tee /etc/systemd/system/jofitrana-page@roof.timer >/dev/null
+    sh_inside 'systemctl daemon-reload; systemctl stop jofitrana-page@roof.service; touch /root/mark'
+    expect 'a timer of the page' 0 '*' inside systemctl enable --now jofitrana-page@roof.timer
+    expect_soon 'a page beside a stay' '*/index.html' inside find /var/lib/jofitrana/roof.page/index.html -newer /root/mark
+    expect 'its end' 0 '*' inside systemctl disable --now jofitrana-page@roof.timer
 }
 
 # Spoils something, and holds how a stay ends, and that it is not begun anew and told of.
