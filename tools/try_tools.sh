@@ -66,6 +66,8 @@ begin use_it "$tools/try_use_it.py" "$program"
 begin page "$tools/try_page.py" "$program"
 begin values "$tools/try_page_values.py" "$program"
 begin views "$tools/try_page_views.py" "$program"
+begin year "$tools/try_page_year.py" "$program"
+begin bad "$tools/try_bad_input.py" "$program"
 begin weewx "$tools/try_weewx.py" "$program"
 begin sql "$tools/try_sql.py"
 mkdir shown path
@@ -548,15 +550,18 @@ expect_end stations 0 '*[1-9]* passed, 0 failed'
 expect_end new_station 0 '*[1-9]* passed, 0 failed'
 expect_end again 0 '*[1-9]* passed, 0 failed'
 expect_end use_it 0 '*'
+expect_end bad 0 '*[1-9]* passed, 0 failed'
 expect_end weewx 0 '*[1-9]* passed, 0 failed'
 if /usr/bin/python3 -c 'import jinja2, matplotlib' 2>/dev/null; then
     expect_end page 0 '*[1-9]* passed, 0 failed'
     expect_end values 0 '*[1-9]* passed, 0 failed'
     expect_end views 0 '*[1-9]* passed, 0 failed'
+    expect_end year 0 '*[1-9]* passed, 0 failed'
 else
     expect_end page 0 '*is missing*'
     expect_end values 0 '*is missing*'
     expect_end views 0 '*is missing*'
+    expect_end year 0 '*is missing*'
 fi
 if /usr/bin/python3 -c 'import psycopg2' 2>/dev/null && compgen -G '/usr/lib/postgresql/*/bin/initdb' >/dev/null; then
     expect_end sql 0 '*[1-9]* passed, 0 failed'

@@ -586,12 +586,33 @@ def archives_of_the_program(program):
     hold('the way back', back, [f'{row_line(row)}\n' for row in made])
     program.write('back.rows', ''.join(back))
     hold('what is taken', program.run('import back.rows new.archive'), (0, 'imported 39 passed 0 rows 39\n'))
+    hold('its report', program.run('report new.archive rows 1999-12-31 2127-12-31'), (0, ''.join(back)))
+
+
+def from_database_to_database(program):
+    """The rows of a database are imported and reported, and a second database of that archive has the first one's values."""
+    with_rain = [(FIRST + 300 * number, 1, 5, {'outTemp': (500 + number % 97) / 10, 'barometer': (29_900 + number) / 1000,
+                                              'windDir': number % 16 * 22.5, 'rain': number % 3 / 100})
+                 for number in range(0, 2_000) if number % 50]
+    make_table(program, COLUMNS, with_rain)
+    status, lines, told = rows(program)
+    hold('the rows', (status, told), (0, 'weewx: 1960 rows; left out: 0 rows and 0 values\n'))
+    program.write('weewx.rows', ''.join(lines))
+    hold('the import', program.run('import weewx.rows roof.archive'), (0, 'imported 1960 passed 0 rows 1960\n'))
+    hold('the report', program.run('report roof.archive rows 1999-12-31 2127-12-31'), (0, ''.join(lines)))
+    columns = ('dateTime', '`interval`', 'outTemp', 'barometer', 'windDir', 'rain')
+    wanted = values_in(program, *columns)
+    os.rename(program.folder / DATABASE, program.folder / 'first.sdb')
+    hold('the second one', run(program, 'database', DATABASE, '--archive', 'roof.archive', '--program', program.path),
+         (0, '', 'weewx: 1960 rows added; left out: 0 rows\n'))
+    hold('its values', values_in(program, *columns), wanted)
 
 
 CASES = (there_and_back, many_rows, columns_of_weewx, all_fields_there, all_fields_back, metric_values_of_weewx,
          values_that_are_no_tenth, values_beyond_a_range, rows_that_have_no_place, gaps_and_mixed_intervals, hour_of_autumn,
          hours_of_the_other_way, older_columns, rain_of_days, bucket_that_changed, database_of_another_process,
-         damaged_databases, second_runs, refusals, words_out_of_form, what_is_lost, archives_of_the_program)
+         damaged_databases, second_runs, refusals, words_out_of_form, what_is_lost, archives_of_the_program,
+         from_database_to_database)
 AT_ONCE = 2
 is_whole = WHOLE in sys.argv
 
