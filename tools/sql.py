@@ -5,17 +5,16 @@
     jofitrana-sql --since --station roof dbname=weather    # the days to report from, as two words
     jofitrana report roof.archive rows 2024-07-01 2024-07-31 | jofitrana-sql --station roof --zone Etc/GMT-1 dbname=weather
 
-Tables that are not there are made. Just the rows that differ are written, those of a station in one transaction. Without
-`--station` the input has rows of many stations, those of each behind a line `station NAME`. The zone of a console's clock and the
-rain bucket are those of its station's settings, unless the words name others. With `--since` a row that is ahead
-of this machine's clock is named on standard error, and does not count. A row in the hour that the end of summer time doubles
-could be of either time, and one in the hour that its beginning leaves out of none: such rows are named on standard error and
-left out.
+Tables that are not there are made. Just the rows that differ are written, those of a station in one transaction, and stations
+with few rows together. Without `--station` the input has rows of many stations, those of each behind a line `station NAME`. The
+zone of a console's clock and the rain bucket are those of its station's settings, unless the words name others. With `--since` a
+row that is ahead of this machine's clock is named on standard error, and does not count. A row in the hour that the end of summer
+time doubles could be of either time, and one in the hour that its beginning leaves out of none: such rows are named on standard
+error and left out.
 Statuses: 0, 1 if a station has no rows or no name, if the input is cut or the database fails, 2 if the words are out of form,
 3 if rows were left out.
 """
 import argparse
-import io
 import os
 import sys
 from datetime import datetime, timedelta, timezone
@@ -33,70 +32,19 @@ import export
 import rows as row_lines
 import stations
 from reports import FIRST_DAY, LAST_DAY, Archive, Refused
-from sql_tables import INCOMING, NAMES, has_table, make_tables
+from sql_rows import Group, StationRows
+from sql_tables import has_table
 
 MINUTE = timedelta(minutes=1)
-NULL = '\\N'
 BEGIN = 'station '  # of a line that names the station of the rows behind it
-COLUMNS = ', '.join(['minutes', *NAMES])
-NEW_COLUMNS = ', '.join(f'excluded.{name}' for name in ['minutes', *NAMES])
-OLD_COLUMNS = ', '.join(f'old.{name}' for name in ['minutes', *NAMES])
-COPY = f'COPY incoming (station, time, {COLUMNS}) FROM STDIN'
 NUL, SHOWN_NUL = '\0', '\\0'  # no text of PostgreSQL has this byte
 SLACK = timedelta(minutes=5)  # by which a console's clock may be ahead of this machine's
-NAME_STATION = 'INSERT INTO station (name, zone) VALUES (%s, %s) ON CONFLICT (name) DO NOTHING'
-FIND_STATION = 'SELECT number, zone FROM station WHERE name = %s'
-COUNT_OLD = 'SELECT count(*) FROM incoming JOIN weather USING (station, time)'
+FIND_STATION = 'SELECT number FROM station WHERE name = %s'
 LAST_TIME = 'SELECT time FROM weather WHERE station = %s AND time <= %s ORDER BY time DESC LIMIT 1'
-# A row that is there with the same values is not written again, so the log of the database and its triggers stay quiet.
-MERGE = f"""\
-INSERT INTO weather AS old (station, time, {COLUMNS}) SELECT station, time, {COLUMNS} FROM incoming
-ON CONFLICT (station, time) DO UPDATE SET ({COLUMNS}) = ROW ({NEW_COLUMNS})
-WHERE ({OLD_COLUMNS}) IS DISTINCT FROM ({NEW_COLUMNS})"""
 
 
 class Trouble(Exception):
     """Why the rows of a station are not written."""
-
-
-def line_of(number, time, row):
-    """A row as a line of COPY."""
-    values = (row.values.get(name) for name in NAMES)
-    cells = [number, time.isoformat(), row.interval // MINUTE, *(NULL if value is None else value for value in values)]
-    return '\t'.join(map(str, cells)) + '\n'
-
-
-def number_of(cursor, name, zone):
-    """The number of a station, which is locked until the end of the transaction."""
-    cursor.execute(NAME_STATION, [name, zone.key])
-    cursor.execute(FIND_STATION + ' FOR UPDATE', [name])
-    number, old_zone = cursor.fetchone()
-    if old_zone != zone.key:
-        raise Trouble(f'its zone is {old_zone} in this database: the rows would be there twice')
-    return number
-
-
-def merge(cursor, name, zone, timed):
-    """Writes the rows of a station that differ; gives how many were added and how many were changed."""
-    number = number_of(cursor, name, zone)
-    cursor.execute(INCOMING)
-    cursor.copy_expert(COPY, io.StringIO(''.join(line_of(number, time, row) for time, row in timed.items())))
-    cursor.execute(COUNT_OLD)
-    old = cursor.fetchone()[0]
-    cursor.execute(MERGE)
-    added = len(timed) - old
-    return added, cursor.rowcount - added
-
-
-def write_station(link, name, zone, rows):
-    """Brings a station up to date and prints the counts; gives whether all rows name one time."""
-    kept = export.told(rows, zone)
-    timed = {row.stamp.replace(tzinfo=zone).astimezone(timezone.utc): row for row in kept}
-    make_tables(link, sorted({time.year for time in timed}))
-    with link, link.cursor() as cursor:
-        added, changed = merge(cursor, name, zone, timed)
-    print(f'station {name} rows {len(kept)} added {added} changed {changed} left out {len(rows) - len(kept)}', flush=True)
-    return len(kept) == len(rows)
 
 
 def trouble_of_name(name):
@@ -140,14 +88,17 @@ def zone_of(chosen, station):
     return zone
 
 
-def write_rows(link, name, lines, chosen):
-    """Brings a station up to date from row lines; gives whether all rows name one time."""
+def rows_of_station(name, lines, chosen):
+    """The rows of a station by their times, from its row lines. Those whose stamps name no one time are left out."""
     trouble = trouble_of_name(name)
     if trouble:
         raise Trouble(trouble)
     station = settings_of(name, chosen)
     rows = row_lines.read_rows(lines, stations.buckets_of(station, chosen.bucket))
-    return write_station(link, name, zone_of(chosen, station), rows)
+    zone = zone_of(chosen, station)
+    kept = export.told(rows, zone)
+    timed = {row.stamp.replace(tzinfo=zone).astimezone(timezone.utc): row for row in kept}
+    return StationRows(name, zone, timed, len(rows) - len(kept))
 
 
 def lines_of(chosen):
@@ -158,19 +109,51 @@ def lines_of(chosen):
     return [line + '\n' for line in Archive(chosen.program, archive).lines_of_rows(*chosen.days)]
 
 
-def write_all(link, lines, chosen):
-    """Brings the stations of the input up to date; gives the status. A station with a trouble does not stop the others."""
-    status, name = 0, None
-    for name, group in stations_of(lines, chosen.station):
+class Outcome:
+    """What is told of the stations, and the status that comes of it."""
+
+    def __init__(self):
+        self.status = 0
+
+    def tell(self, written):
+        """Prints what was written of a station, or its trouble."""
+        if written.trouble:
+            self.tell_trouble(written.station.name, written.trouble)
+            return
+        name, _, timed, left_out = written.station
+        print(f'station {name} rows {len(timed)} added {written.added} changed {written.changed} left out {left_out}', flush=True)
+        if left_out:
+            self.status = self.status or export.LEFT_OUT
+
+    def tell_trouble(self, name, trouble):
+        """Prints a station's trouble."""
+        print(f'sql: station {name.replace(NUL, SHOWN_NUL)}: {trouble}', file=sys.stderr)
+        self.status = 1
+
+
+def take_all(group, lines, chosen, outcome):
+    """Takes the rows of the stations of the input into a group. A station with a trouble does not stop the others."""
+    name = None
+    for name, lines_of_station in stations_of(lines, chosen.station):
         try:
-            if not write_rows(link, name, group, chosen):
-                status = status or export.LEFT_OUT
+            group.take(rows_of_station(name, lines_of_station, chosen))
         except (row_lines.NotRows, stations.StationFault, Trouble) as trouble:
-            print(f'sql: station {name.replace(NUL, SHOWN_NUL)}: {trouble}', file=sys.stderr)
-            status = 1
+            outcome.tell_trouble(name, trouble)
     if name is None:
         raise Trouble('there is no row')
-    return status
+
+
+def write_all(link, lines, chosen):
+    """Brings the stations of the input up to date; gives the status. What stands before a name that is cut is written."""
+    outcome = Outcome()
+    group = Group(link, outcome.tell)
+    try:
+        take_all(group, lines, chosen, outcome)
+    except row_lines.NotRows:
+        group.write()
+        raise
+    group.write()
+    return outcome.status
 
 
 def last_time(cursor, name, latest):

@@ -5,11 +5,7 @@
 
 The last line is 'N passed, M failed', and the status is 1 if any failed. Without PostgreSQL or psycopg2 nothing is tried.
 """
-import glob
-import os
-import pwd
 import re
-import shutil
 import signal
 import subprocess
 import sys
@@ -21,6 +17,8 @@ from pathlib import Path
 sys.dont_write_bytecode = True  # nothing is left beside the scripts
 
 import field_values
+from sql_rows import MOST_ROWS
+from sql_server import Server, newest
 from trying import LONGEST, MOST_TEXT, NAP, Differs, hold, leave_out
 
 try:
@@ -30,14 +28,13 @@ except ImportError:
     sys.exit(0)
 
 TOOLS = Path(__file__).resolve().parent
-SERVERS = '/usr/lib/postgresql/*/bin'
-USERS = ('postgres', 'nobody')  # of these one runs the server if root tries it, since it does not run as root
+OPTIONS = 'fsync=off', 'max_connections=20', 'timezone=America/New_York'
 PERIOD = timedelta(minutes=5)
 STATIONS, ROWS = 1000, 300
 LEFT_OUT = 3
 FIRST = datetime(2024, 6, 30, 23, 0)
 BERLIN, HERE = 'Europe/Berlin', 'UTC'  # the last one of this machine's clock
-WRITER = "SELECT 1 FROM pg_stat_activity WHERE query LIKE 'INSERT INTO weather%'"
+WRITER = "SELECT 1 FROM pg_stat_activity WHERE query LIKE '%INSERT INTO weather%' AND pid <> pg_backend_pid()"
 SUMMER = """\
 row 2024-10-27 01:55 5 outTemp=502
 row 2024-10-27 02:30 5 outTemp=503
@@ -45,42 +42,16 @@ row 2024-10-27 03:00 5 outTemp=504
 """
 
 
-class Server:
-    """A server of PostgreSQL in a folder of its own."""
-
-    def __init__(self, commands, folder):
-        self.commands, self.folder = commands, folder
-        self.user = None
-        if os.geteuid() == 0:
-            known = {user.pw_name for user in pwd.getpwall()}
-            self.user = next(name for name in USERS if name in known)
-            shutil.chown(folder, self.user)
-        self.run('initdb', '-A', 'trust', '-U', 'trial', '-E', 'UTF8', '--locale=C', '-N', '-D', f'{folder}/data')
-        options = f"-k {folder} -c listen_addresses='' -c fsync=off -c max_connections=20 -c timezone=America/New_York"
-        self.run('pg_ctl', '-w', '-D', f'{folder}/data', '-l', f'{folder}/log', '-o', options, 'start')
-
-    def run(self, command, *words):
-        """Runs a command of the server as its user."""
-        ran = subprocess.run([f'{self.commands}/{command}', *words], user=self.user, cwd=self.folder,
-                             stdout=subprocess.DEVNULL, check=False)
-        hold(command, ran.returncode, 0)
-
-    def stop(self):
-        """Ends it."""
-        self.run('pg_ctl', '-w', '-m', 'immediate', '-D', f'{self.folder}/data', 'stop')
-
-
 class Database:
     """A database of the server, which is new for each case."""
 
     def __init__(self, server, name):
-        self.place = f'host={server.folder} user=trial dbname='
+        self.place, self.name = server.place, name
         self.ask(f'CREATE DATABASE {name}', 'postgres')
-        self.name = name
 
     def ask(self, question, name=None):
         """The rows that a question is answered by."""
-        link = psycopg2.connect(self.place + (name or self.name))
+        link = psycopg2.connect(self.place(name or self.name))
         link.autocommit = True
         try:
             with link.cursor() as cursor:
@@ -91,7 +62,7 @@ class Database:
 
     def words(self, *words, station='roof', zone=BERLIN):
         """The words of a run."""
-        return [TOOLS / 'sql.py', *(['--station', station] if station else []), '--zone', zone, *words, self.place + self.name]
+        return [TOOLS / 'sql.py', *(['--station', station] if station else []), '--zone', zone, *words, self.place(self.name)]
 
     def run(self, lines, *words, **options):
         """Brings it up to date from row lines; gives status, output and what was printed of trouble."""
@@ -104,6 +75,11 @@ def row_lines(count, first=FIRST):
     values = 'rain=2 barometer=29921 windDir=4'
     return ''.join(f'row {first + number * PERIOD:%Y-%m-%d %H:%M} 5 outTemp={650 + number % 50} {values}\n'
                    for number in range(count))
+
+
+def of_stations(rows):
+    """Row lines of stations: so many by the name of each."""
+    return ''.join(f'station {name}\n{row_lines(count)}' for name, count in rows.items())
 
 
 def counts(rows, added, changed, left_out=0, station='roof'):
@@ -232,13 +208,15 @@ def rows_of_two_years(database):
 def run_that_is_killed(database):
     """Of a run that is killed nothing is written, and the next run writes all."""
     database.run(row_lines(1))
-    lock = psycopg2.connect(database.place + database.name)
+    lock = psycopg2.connect(database.place(database.name))
     lock.cursor().execute('LOCK TABLE weather_2024 IN SHARE MODE')  # who writes waits here
     with subprocess.Popen(database.words(), stdin=subprocess.PIPE, stdout=subprocess.DEVNULL, text=True) as run:
         run.stdin.write(row_lines(400))
         run.stdin.close()
-        wait_for('a run that waits', lambda: database.ask(f"{WRITER} AND wait_event_type = 'Lock'"))
-        run.send_signal(signal.SIGKILL)
+        try:
+            wait_for('a run that waits', lambda: database.ask(f"{WRITER} AND wait_event_type = 'Lock'"))
+        finally:
+            run.send_signal(signal.SIGKILL)
     lock.rollback()
     lock.close()
     wait_for('the end of it', lambda: not database.ask(f"{WRITER} AND state <> 'idle'"))
@@ -296,6 +274,63 @@ def two_stations_at_once(database):
          [('barn', 1000), ('roof', 1000), ("well <'7'>", 1000)])
 
 
+def stations_that_are_written_together(database):
+    """Stations with few rows are written in one transaction, and one with many ends it."""
+    rows = {'roof': MOST_ROWS - 1, 'barn': 1, 'well': 2, 'hill': 2}
+    status, printed, trouble = database.run(of_stations(rows), station=None)
+    wanted = ''.join(counts(count, count, 0, station=name) for name, count in rows.items())
+    hold('a run', (status, printed, trouble), (0, wanted, ''))
+    hold('its transactions', database.ask(
+        "SELECT string_agg(DISTINCT name, ' ' ORDER BY name DESC) FROM weather JOIN station ON number = station "
+        'GROUP BY weather.xmin::text ORDER BY 1'), [('roof barn',), ('well hill',)])
+    lines = of_stations({'well': 4, 'hill': 3, 'mill': 1})
+    lines = lines.replace('06-30 23:05 5 outTemp=651', '06-30 23:05 5 outTemp=652', 1)
+    hold('some more rows', database.run(lines, station=None),
+         (0, counts(4, 2, 1, station='well') + counts(3, 1, 0, station='hill') + counts(1, 1, 0, station='mill'), ''))
+
+
+def station_that_comes_twice(database):
+    """A station may come twice in an input, and what stands before a name that is cut is written."""
+    lines = of_stations({'roof': 3, 'barn': 1})
+    hold('a run', database.run(lines + of_stations({'roof': 5}), station=None),
+         (0, counts(3, 3, 0) + counts(1, 1, 0, station='barn') + counts(5, 2, 0), ''))
+    status, printed, trouble = database.run(of_stations({'well': 2}) + 'station hil', station=None)
+    hold('a run whose input is cut', (status, printed, 'the report is cut' in trouble), (1, counts(2, 2, 0, station='well'), True))
+
+
+def numbers_of_stations(database):
+    """A station that is there takes no number of a new one."""
+    for _ in range(3):
+        hold('a run', database.run(of_stations({'roof': 2, 'barn': 1}), station=None)[0], 0)
+    database.run(row_lines(1), station='well')
+    hold('the numbers', database.ask('SELECT name, number FROM station ORDER BY number'), [('barn', 1), ('roof', 2), ('well', 3)])
+
+
+def stations_in_other_orders(database):
+    """Runs at once that bring the same stations in other orders wait for one another, and both write."""
+    database.run(row_lines(1))
+    names = [f's{number:02}' for number in range(20)]
+    lock = psycopg2.connect(database.place(database.name))
+    lock.cursor().execute(f"INSERT INTO station (name, zone) VALUES ('{names[9]}', '{BERLIN}')")  # who names it waits here
+    pipes = dict.fromkeys(('stdin', 'stdout', 'stderr'), subprocess.PIPE)
+    runs = [subprocess.Popen(database.words(station=None), text=True, **pipes) for _ in range(2)]
+    for run, order in zip(runs, (names, reversed(names))):
+        run.stdin.write(of_stations(dict.fromkeys(order, 1)))
+        run.stdin.close()
+    waiting = "SELECT 1 FROM pg_stat_activity WHERE wait_event_type = 'Lock'"
+    try:
+        wait_for('runs that wait', lambda: len(database.ask(waiting)) == len(runs))
+    finally:
+        lock.rollback()
+        lock.close()
+        ended = [(run.wait(), run.stderr.read()) for run in runs]
+    hold('the runs', ended, [(0, '')] * len(runs))
+    for run in runs:
+        run.stdout.close()
+        run.stderr.close()
+    hold('rows', database.ask('SELECT count(*) FROM weather'), [(1 + len(names),)])
+
+
 def many_stations(database):
     """The rows of 1,000 stations are written in one run, one station's trouble stops no other, and the key finds a month."""
     lines = ''.join(f'station s{number}\n' + row_lines(ROWS, datetime(2024, 6, 1)) for number in range(STATIONS))
@@ -331,7 +366,8 @@ def queries_of_the_manual(database):
 
 CASES = (same_rows_twice, values_of_all_fields, rows_that_changed, hour_that_comes_twice, days_to_report,
          days_behind_a_row_of_the_future, rows_of_two_years, run_that_is_killed, refusals, stations_without_rows,
-         two_stations_at_once, queries_of_the_manual, many_stations)
+         two_stations_at_once, stations_that_are_written_together,
+         station_that_comes_twice, numbers_of_stations, stations_in_other_orders, queries_of_the_manual, many_stations)
 
 
 def try_all(server):
@@ -350,12 +386,12 @@ def main(words):
     """Tries sql.py; gives the status."""
     if len(words) != 1:
         sys.exit(__doc__)
-    found = sorted(glob.glob(SERVERS))
-    if not found:
+    commands = newest()
+    if commands is None:
         leave_out('postgresql is missing: no sql was tried')
         return 0
     with tempfile.TemporaryDirectory() as folder:
-        server = Server(found[-1], folder)
+        server = Server(commands, folder, OPTIONS)
         try:
             failed = try_all(server)
         finally:
