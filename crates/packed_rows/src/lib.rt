@@ -5,4 +5,4 @@ mod batch_slots;
 mod tail;
 
 pub use batch_slots::{LONGEST_BATCH, pack};
-pub use tail::{CLOSING, Judged, PART, Tail, is_known, without_marks};
+pub use tail::{CLOSING, Judged, PART, Tail, is_known};

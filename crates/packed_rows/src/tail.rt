@@ -9,14 +9,13 @@ ghost use Rattle.packed_rows.specs.Closing.{begins_day, closings, closing_slot, 
 ghost use Rattle.packed_rows.specs.Packed.{IsReadBack};
 ghost use Rattle.packed_rows.specs.Rising.{stamp_exceeds, last_row_stamp};
 ghost use Rattle.packed_rows.specs.Rows.{may_follow, is_closing, is_known, as_read};
-ghost use Rattle.gated_log.specs.Log.{unmarked};
 ghost use Rattle.daily_summary.specs.Parts.{part_count};
 ghost use Rattle.packed_rows.specs.Into.{minutes_into};
 ghost use Rattle.std.proofs.Props.{props};
 
 use byteorder::{ByteOrder, LittleEndian};
 use daily_summary::{DaySummary, PART_COUNT, PART_SIZE};
-use gated_log::{SLOT_SIZE, Version};
+use gated_log::{SLOT_SIZE, Version, without_marks};
 use station_base::{DayNumber, Row, Stamp};
 
 /// How many summary slots close a day.
@@ -189,17 +188,6 @@ pub fn is_known(version: Version, slot: &[u8; SLOT_SIZE]) -> bool
         Version::First => row_slot::limited_in(slot) == 0,
         Version::Second => true,
     }
-}
-
-/// The slot with its gate and the number of its batch's slots 0.
-pub fn without_marks(slot: &[u8; SLOT_SIZE]) -> [u8; SLOT_SIZE]
-    ensures { result ≡ unmarked slot.now }
-{
-    let mut bytes = *slot;
-    bytes[0] = 0;
-    bytes[2] = 0;
-    bytes[3] = 0;
-    bytes
 }
 
 // The slot of part `k` of a day's summary.

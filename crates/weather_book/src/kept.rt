@@ -63,6 +63,7 @@ impl Kept {
             → KeepsOf self.old.days.items self.old.count self.old.tail rows
             → KeepsOf self.new.days.items self.new.count self.new.tail (rows ++ row.now ∷ [])) }
         ensures count { IfOk result (λ _. self.new.count ≡ self.old.count + 1) }
+        ensures more { self.new.count ≤ self.old.count + 1 }
         ensures capacity { vec_capacity self.old.days ≤ vec_capacity self.new.days }
         ensures grew { vec_len self.new.days ≤ vec_len self.old.days + 1 }
         ensures last { IfOk result (λ _. self.new.tail.last ≡ Some row.now.stamp) }

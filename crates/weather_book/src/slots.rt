@@ -24,8 +24,8 @@ use crate::{DayAnswer, RowsAnswer};
 use arrayvec::ArrayVec;
 use daily_summary::{DaySummary, PART_COUNT, PART_SIZE, PARTS_SIZE};
 use disk_model::{Disk, Disked};
-use gated_log::{GatedLog, SLOT_SIZE, Version};
-use packed_rows::{PART, is_known, without_marks};
+use gated_log::{GatedLog, SLOT_SIZE, Version, without_marks};
+use packed_rows::{PART, is_known};
 use station_base::Row;
 
 // Reads the row of a slot as its version reads it, and returns whether the slot is well-formed.
