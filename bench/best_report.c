@@ -3,8 +3,9 @@
        best_report ARCHIVE [rows]
 
    It does by hand what `station report ARCHIVE rows FIRST LAST` does over all days: it follows the batches, judges each
-   slot, and adds up each day to compare it with the slots that close it. It is here to be measured against, and reads
-   numbers as a processor with the low byte first has them. */
+   slot, and adds up each day to compare it with the slots that close it. It reads the file once, 1,024 slots at a time, and
+   so prints rows before it has judged those behind them. It is here to be measured against, and reads numbers as a
+   processor with the low byte first has them. */
 #include <fcntl.h>
 #include <stdint.h>
 #include <string.h>
