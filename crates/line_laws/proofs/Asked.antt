@@ -22,9 +22,13 @@ use Rattle.line_laws.specs.Host.{Near, NearAt}
 use Rattle.station_sim.specs.Sound.{AreRecords}
 use Rattle.line_laws.proofs.Delivery.{page_length}
 
+abbrev pub at_state : List (List ℕ) → Store → List (List ℕ) → ConsoleState → ℕ → Console
+at_state g d hs s i = record { history = g; store = d; held = hs; state = s; idle = i }
+
 -- what a console that rests near a dump answers to a byte
 pub data Answer (h : List (List ℕ)) (p : Plan) (low high : ℕ) (o : Outcome) : Type 0 where
-  a_page : (m : ℕ) → o.kind ≡ Page → o.bytes ≡ page_of h p m → length o.bytes ≡ page_size → low ≤ m + 1 → m + 1 ≤ high + 1 → Near h p (m + 1) (m + 1) o.next → ConsoleRests o.next.state → Answer h p low high o
+  a_page : (m : ℕ) → o.kind ≡ Page → o.bytes ≡ page_of h p m → length o.bytes ≡ page_size → low ≤ m + 1 → m + 1 ≤ high + 1 → Near h p (m + 1) (m + 1) o.next → ConsoleRests o.next.state
+      → ((d : Store) × (hs : List (List ℕ)) × (o.next ≡ at_state h d hs (Dump p (m + 1)) 0)) → Answer h p low high o
   a_wake : o.kind ≡ Wake → length o.bytes ≤ 2 → Answer h p low high o
   nothing : o.kind ≡ Nothing → Answer h p low high o
 
@@ -40,7 +44,8 @@ hears_page : (h : List (List ℕ)) (p q : Plan) (low high m : ℕ) (c : Console)
 hears_page h p q low high m c e g a b ok = record {
   near = (e, g, a, b, ok);
   begins = refl;
-  answer = a_page m refl (ap (λ x. page_of c.history x m) e ∙ ap (λ x. page_of x p m) g) (page_length c.history q m (subst AreRecords (sym g) ok)) a b (e, g, omega arith, omega arith, ok) tt;
+  answer = a_page m refl (ap (λ x. page_of c.history x m) e ∙ ap (λ x. page_of x p m) g) (page_length c.history q m (subst AreRecords (sym g) ok)) a b (e, g, omega arith, omega arith, ok) tt
+      (c.store, c.held, ap (λ x. at_state x c.store c.held (Dump q (m + 1)) 0) g ∙ ap (λ x. at_state h c.store c.held (Dump x (m + 1)) 0) e);
 }
 
 next_page : (h : List (List ℕ)) (p q : Plan) (low high sent : ℕ) (c : Console) → q ≡ p → c.history ≡ h → low ≤ sent → sent ≤ high → AreRecords h → (more : Bool) →
@@ -50,9 +55,6 @@ next_page h p q low high sent c e g a b ok false = hears_silent h p low high _ t
 
 empty_line : (line : List ℕ) → line ≡ [] → read_order line ≡ Empty
 empty_line line e = ap read_order e ∙ read_empty [] refl
-
-abbrev pub at_state : List (List ℕ) → Store → List (List ℕ) → ConsoleState → ℕ → Console
-at_state g d hs s i = record { history = g; store = d; held = hs; state = s; idle = i }
 
 hear_by : (h : List (List ℕ)) (p : Plan) (low high : ℕ) (s : ConsoleState) (m : Signal) (x : ℕ) (g : List (List ℕ)) (d : Store) (hs : List (List ℕ)) (i : ℕ) → NearAt h p low high s i g → ConsoleRests s →
     Hearing h p low high (heard_in s m x (record { history = g; store = d; held = hs; state = s; idle = i }))

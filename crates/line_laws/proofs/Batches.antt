@@ -26,6 +26,7 @@ use Rattle.station_sim.specs.Sound.{AreRecords, IsSound, AreSound}
 use Rattle.station_sim.proofs.SoundLines.{records_front}
 use Rattle.line_laws.specs.Host.{ArePages}
 use Rattle.line_laws.specs.Gathers.{IsStamp, newer_held, AttemptGives}
+use Rattle.line_laws.specs.PagesAcknowledged.{records_on_pages}
 use Rattle.causes.specs.Lists.{IsFrontOf}
 use Rattle.line_laws.proofs.Attempts.{attempt_law}
 use Rattle.line_laws.proofs.Headers.{plan_small}
@@ -87,6 +88,10 @@ not_found test old none =
     let at = none_passes test old none in
     let below : nat_lt (length old) (length old) ≡ false = grind (arith, nat_tests) in
     ap (λ n. if nat_lt n (length old) then Some n else None) at ∙ ap (λ t. if t then Some (length old) else None) below
+
+take_none : (m : ℕ) → let none : List (List ℕ) = [] in take m none ≡ []
+take_none zero = refl
+take_none (suc m) = refl
 
 take_front : (m : ℕ) (l : List (List ℕ)) → IsFrontOf (take m l) l
 take_front zero l = (l, refl)
@@ -155,41 +160,38 @@ module _ (after : Option CivilMinute) (ok : IsStamp after) (h : List (List ℕ))
   held_newer : newer_held after h ≡ above (level after) (retained h)
   held_newer = newer_above after ok (retained h) (records_drop (length h - ring_size) h are)
 
-  -- what an attempt's pages give
+  -- What an attempt's pages give: so many of the newer records, and all of them where no page lacks.
   pub batches_law : (taken : List (List ℕ)) → ArePages h (plan_after h (stamp_frame_of after)) 0 taken → length taken ≤ (plan_after h (stamp_frame_of after)).pages →
-      IsFrontOf (records_in (batches after (plan_after h (stamp_frame_of after)).place taken)) (newer_held after h)
+      (records_in (batches after (plan_after h (stamp_frame_of after)).place taken) ≡ take (records_on_pages (length taken) (plan_after h (stamp_frame_of after))) (newer_held after h))
       × (length taken ≡ (plan_after h (stamp_frame_of after)).pages → records_in (batches after (plan_after h (stamp_frame_of after)).place taken) ≡ newer_held after h)
   batches_law taken pages few =
       let q = parts 0 (level after) h (all_ascend h each) in
       go q.0 q.1 q.2 q.3 q.4 q.5 q.6
     where
-      p : Plan
-      p = plan_after h (stamp_frame_of after)
-
       go : (old new : List (List ℕ)) → h ≡ old ++ new → ((0 < length new) → Follows (level after) old new) → UpTo (level after) (drop (length h - ring_size) old) → Ascend (level after) new → length h ≤ length old + ring_size →
-          IsFrontOf (records_in (batches after (plan_after h (stamp_frame_of after)).place taken)) (newer_held after h)
+          (records_in (batches after (plan_after h (stamp_frame_of after)).place taken) ≡ take (records_on_pages (length taken) (plan_after h (stamp_frame_of after))) (newer_held after h))
           × (length taken ≡ (plan_after h (stamp_frame_of after)).pages → records_in (batches after (plan_after h (stamp_frame_of after)).place taken) ≡ newer_held after h)
       go old [] split follows up rises size =
           let none : plan_after h (stamp_frame_of after) ≡ no_plan = plan_none old (split ∙ append-nil old) up in
           let t : taken ≡ [] = no_pages taken (omega (arith, few, ap (λ x. x.pages) none)) in
           let n : newer_held after h ≡ [] = held_newer ∙ newer_is old [] (level after) h split up rises size in
           let z : records_in (batches after (plan_after h (stamp_frame_of after)).place taken) ≡ newer_held after h = ap (λ x. records_in (batches after (plan_after h (stamp_frame_of after)).place x)) t ∙ sym n in
-          (([], append-nil (records_in (batches after (plan_after h (stamp_frame_of after)).place taken)) ∙ z), λ whole. z)
+          (z ∙ n ∙ sym (ap (take (records_on_pages (length taken) (plan_after h (stamp_frame_of after)))) n ∙ take_none (records_on_pages (length taken) (plan_after h (stamp_frame_of after)))), λ whole. z)
       go old (x ∷ new) split follows up rises size =
           let is : plan_after h (stamp_frame_of after) ≡ plan_from (length old) (length h) = plan_is old x new split up rises.0 size in
           let small = plan_small h (stamp_frame_of after) in
           let f = plan_from (length old) (length h) in
           let some : 0 < length (x ∷ new) = omega arith in
           let g : records_in (batches after (plan_after h (stamp_frame_of after)).place taken) ≡ climbing (level after) (listed h f (length taken)) =
-          given_is (plan_after h (stamp_frame_of after)) taken small.place pages ∙ ap (λ y. climbing (level after) (listed h y (length taken))) is in
-          let m = g ∙ picture_law old (x ∷ new) (level after) (length taken) h split (follows some) up rises size ∙ ap (λ xs. take (5 * length taken - length old % ring_size % 5) xs) (sym held_newer) in (
-            subst (λ y. IsFrontOf y (newer_held after h)) (sym m) (take_front (5 * length taken - length old % ring_size % 5) (newer_held after h)),
+          given_is (plan_after h (stamp_frame_of after)) taken small.place pages ∙ ap (λ y. climbing (level after) (listed h y (length taken))) is in (
+            g ∙ picture_law old (x ∷ new) (level after) (length taken) h split (follows some) up rises size ∙ ap (λ xs. take (5 * length taken - length old % ring_size % 5) xs) (sym held_newer)
+                ∙ ap (λ y. take (records_on_pages (length taken) y) (newer_held after h)) (sym is),
             λ whole. g ∙ ap (λ n. climbing (level after) (listed h f n)) (whole ∙ ap (λ y. y.pages) is)
                 ∙ whole_picture old (x ∷ new) (level after) h split some (follows some) up rises size ∙ sym held_newer,
           )
 
 -- the place matters where there is a page
-placed_as : (after : Option CivilMinute) (p place : ℕ) (taken : List (List ℕ)) → ((0 < length taken) → place ≡ p) → batches after place taken ≡ batches after p taken
+pub placed_as : (after : Option CivilMinute) (p place : ℕ) (taken : List (List ℕ)) → ((0 < length taken) → place ≡ p) → batches after place taken ≡ batches after p taken
 placed_as after p place [] e = refl
 placed_as after p place (x ∷ taken) e = ap (λ n. batches after n (x ∷ taken)) (e (omega arith))
 
@@ -203,6 +205,12 @@ attempt_gives f ok after stamp talk place taken end w v sound calm at e un =
         | inl n ↦ inl (n.0, ap (λ ts. batches after place ts) n.1, n.2)
         | inr d ↦ (let b = batches_law after stamp d.0 d.6 d.7 taken d.2 d.3 in
             let z = placed_as after (plan_after d.0 (stamp_frame_of after)).place place taken d.5 in
-            inr (d.0, d.1, subst (λ bs. IsFrontOf (records_in bs) (newer_held after d.0)) (sym z) b.0, λ whole. ap records_in z ∙ b.1 (d.4 whole)))
+            inr (
+              d.0,
+              d.1,
+              subst (λ bs. IsFrontOf (records_in bs) (newer_held after d.0)) (sym z)
+                  (subst (λ xs. IsFrontOf xs (newer_held after d.0)) (sym b.0) (take_front (records_on_pages (length taken) (plan_after d.0 (stamp_frame_of after))) (newer_held after d.0))),
+              λ whole. ap records_in z ∙ b.1 (d.4 whole),
+            ))
       ],
     )

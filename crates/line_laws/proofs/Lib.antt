@@ -25,3 +25,7 @@ pub mod Clean
 pub mod Unharmed
 pub mod WholeAttempts
 pub mod FallsInOrder
+pub mod NotTooEarly
+pub mod RoomToHold
+pub mod EachAcknowledged
+pub mod CoveredPages

@@ -63,7 +63,7 @@ awaits_listens n t (inl a) = full_listens 0 t a.0
 awaits_listens n t (inr a) = short_listens 0 t a.0
 
 -- the one test of a check is the other
-page_parts : (k : ℕ) (bytes : List ℕ) → is_page_for k bytes ≡ true → (length bytes ≡ page_size) × (is_good bytes ≡ true) × HasSequence (k % 256) bytes
+pub page_parts : (k : ℕ) (bytes : List ℕ) → is_page_for k bytes ≡ true → (length bytes ≡ page_size) × (is_good bytes ≡ true) × HasSequence (k % 256) bytes
 page_parts k bytes e = go (length bytes == page_size) (is_good bytes) (has_sequence (k % 256) bytes) refl refl refl e
   where
     sequence : (n : ℕ) (bs : List ℕ) → has_sequence n bs ≡ true → HasSequence n bs

@@ -40,14 +40,14 @@ pub record After (h : List (List ℕ)) (p : Plan) (low high : ℕ) (w v : Line) 
   pub closed : EndsInByte v.flight
   pub answer : InFlight h p low high v
 
-happens-page : (f : Fates) (o : Outcome) (w : Line) → o.kind ≡ Page → happens f o w ≡ reply_joins f o w
+pub happens-page : (f : Fates) (o : Outcome) (w : Line) → o.kind ≡ Page → happens f o w ≡ reply_joins f o w
 happens-page f o w e = ap (λ k. joins k f o w) e
 
-happens-wake : (f : Fates) (o : Outcome) (w : Line) → o.kind ≡ Wake → happens f o w ≡ reply_joins f o w
+pub happens-wake : (f : Fates) (o : Outcome) (w : Line) → o.kind ≡ Wake → happens f o w ≡ reply_joins f o w
 happens-wake f o w e = ap (λ k. joins k f o w) e
 
 -- a reply to an empty flight
-flight_of : (f : Fates) (o : Outcome) (w : Line) → w.flight ≡ [] → (reply_joins f o w).flight ≡ late (f.late (w.replies + 1)).waits (f.late (w.replies + 1)).place (delivered (f.reply (w.replies + 1)) o.bytes)
+pub flight_of : (f : Fates) (o : Outcome) (w : Line) → w.flight ≡ [] → (reply_joins f o w).flight ≡ late (f.late (w.replies + 1)).waits (f.late (w.replies + 1)).place (delivered (f.reply (w.replies + 1)) o.bytes)
 flight_of f o w e = ap (λ l. l ++ late (f.late (w.replies + 1)).waits (f.late (w.replies + 1)).place (delivered (f.reply (w.replies + 1)) o.bytes)) e
 
 module _ (h : List (List ℕ)) (p : Plan) (low high : ℕ) (f : Fates) (mild : AreMild f) where
@@ -75,7 +75,7 @@ module _ (h : List (List ℕ)) (p : Plan) (low high : ℕ) (f : Fates) (mild : A
   })
   answered o w e q (a_wake k n) = rw (happens-wake f o w k) (replied_after o w e q
       (inl (rw (bytes_replied o w e) (omega (arith, delivered_length (f.reply (w.replies + 1)) o.bytes)))))
-  answered o w e q (a_page m k b long lo hi z r) = rw (happens-page f o w k) (replied_after o w e q
+  answered o w e q (a_page m k b long lo hi z r at) = rw (happens-page f o w k) (replied_after o w e q
       (inr (
         m,
         lo,

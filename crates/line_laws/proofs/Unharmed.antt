@@ -281,7 +281,7 @@ due_dump (r ∷ rs) p k g d i hs n =
     held_way (λ x. Held p k g d i (length hs + length (r ∷ rs)) (due_all rs x)) (in_the_way r c) r c
     (held_room (λ x. Held p k g d i (length hs + length (r ∷ rs)) (due_all rs x)) (nat_lt (length hs) most_held) (hold r c) (put r (dump_ended c)) (grind arith) a) b
 
-messages_joins : (k : ReplyKind) (f : Fates) (o : Outcome) (w : Line) → (joins k f o w).messages ≡ w.messages
+pub messages_joins : (k : ReplyKind) (f : Fates) (o : Outcome) (w : Line) → (joins k f o w).messages ≡ w.messages
 messages_joins Nothing f o w = refl
 messages_joins Code f o w = refl
 messages_joins Wake f o w = refl

@@ -2,3 +2,4 @@ pub mod Host
 pub mod Gathers
 pub mod Records
 pub mod Unharmed
+pub mod PagesAcknowledged

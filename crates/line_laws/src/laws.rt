@@ -1,5 +1,5 @@
 ghost use Rattle.std.specs.Prelude.{ℕ, ◌≡◌, ◌≤◌, ◌<◌, ◌+◌, ◌-◌, ◌⊎◌, ◌∷◌, ◌++◌, [], Bool, List, Option, length, true};
-ghost use Rattle.std.specs.Prelude.{None};
+ghost use Rattle.std.specs.Prelude.{None, ◌≢◌};
 ghost use Rattle.console_ring.specs.declared.plan.Plan.{Plan};
 ghost use Rattle.serial_link.specs.declared.talk.TalkItem.{TalkItem};
 ghost use Rattle.serial_link.specs.Talk.{message};
@@ -10,6 +10,7 @@ ghost use Rattle.station_base.specs.CivilMinute.{CivilMinute};
 ghost use Rattle.vantage_frames.specs.StampFrame.{stamp_frame_of};
 ghost use Rattle.vantage_frames.specs.Slots.{page_size};
 ghost use Rattle.dmpaft_driver.specs.Attempt.{Attempt, End};
+ghost use Rattle.dmpaft_driver.specs.OneAttempt.{Acknowledges};
 ghost use Rattle.dmpaft_pump.specs.Batch.{batches};
 ghost use Rattle.schedule_file.specs.Fates.{Fates};
 ghost use Rattle.station_sim.specs.Line.{Line};
@@ -22,9 +23,10 @@ ghost use Rattle.schedule_file.specs.Lists.{fates_of, records_left_in};
 ghost use Rattle.console_model.specs.Valid.{EachFollows};
 ghost use Rattle.wake_retry.specs.Parts.{settled_waits, answer_waits, wake_tries};
 ghost use Rattle.dmpaft_pump.specs.Pump.{most_askings};
-ghost use Rattle.line_laws.specs.Gathers.{IsStamp, AttemptGives};
+ghost use Rattle.line_laws.specs.Gathers.{IsStamp, AttemptGives, CoversPages};
 ghost use Rattle.line_laws.specs.Records.{Now};
 ghost use Rattle.line_laws.specs.Unharmed.{Rested, Awake, Waiting, InDump, BeginsDump, feeds_for};
+ghost use Rattle.line_laws.specs.PagesAcknowledged.{pages_acknowledged};
 ghost use Rattle.line_laws.specs.Host.{OnlyListens, HostIsReady, Position, GathersPages};
 
 /// After a settling from a calm line nothing is in flight, and nothing is unfinished.
@@ -116,4 +118,36 @@ pub fn a_page_without_harm()
 #[tactic(auto, using(crate::proofs::FallsInOrder::fates_fall))]
 pub fn records_fall_due_in_order()
     ensures { (f : lists.Fates) → FallDue (fates_of f) (records_left_in f.mids.items) }
+{}
+
+/// In one attempt from a calm line no more pages of a dump count as acknowledged than the host took and its keeper did not refuse,
+/// whatever was harmed.
+pub fn no_page_counts_too_early()
+    ensures { (f : Fates) → AreSound f → (frame : List ℕ) → length frame ≡ 6 → (talk : List TalkItem) (place : ℕ)
+        (taken : List (List ℕ)) (end : End) (w v : Line) (count : ℕ) → IsSound w → IsCalm w
+        → Attempt frame talk place taken end → ConsoleTalk f talk w v → v.unseen ≡ None
+        → (end ≢ End.Refused → length taken ≤ count) → (end ≡ End.Refused → length taken ≤ count + 1)
+        → pages_acknowledged f talk w ≤ count }
+{}
+
+/// Each page counts that was taken in an attempt from a calm line, and right after which 0x06 was said, whatever was harmed.
+pub fn each_acknowledged_page_counts()
+    ensures { (f : Fates) → AreSound f → (frame : List ℕ) → length frame ≡ 6 → (talk : List TalkItem) (place : ℕ)
+        (pages : List (List ℕ)) (w v : Line) → IsSound w → IsCalm w → Acknowledges frame talk place pages
+        → ConsoleTalk f talk w v → v.unseen ≡ None → length pages ≤ pages_acknowledged f talk w }
+{}
+
+/// What an attempt from a calm line gives has as many records at least as stand on the pages that were acknowledged in it, whatever was
+/// harmed. So has what it gives without a page that was refused.
+pub fn acknowledged_pages_are_given()
+    ensures kept { (f : Fates) → AreSound f → (after : Option CivilMinute) → IsStamp after → (talk : List TalkItem)
+        (place : ℕ) (taken : List (List ℕ)) (end : End) (w v : Line) → IsSound w → IsCalm w
+        → Attempt (stamp_frame_of after) talk place taken end → ConsoleTalk f talk w v → v.unseen ≡ None
+        → end ≢ End.Refused
+        → CoversPages after (pages_acknowledged f talk w) w (batches after place taken) v }
+    ensures refused { (f : Fates) → AreSound f → (after : Option CivilMinute) → IsStamp after → (talk : List TalkItem)
+        (place : ℕ) (first : List (List ℕ)) (last : List ℕ) (w v : Line) → IsSound w → IsCalm w
+        → Attempt (stamp_frame_of after) talk place (first ++ last ∷ []) End.Refused → ConsoleTalk f talk w v
+        → v.unseen ≡ None
+        → CoversPages after (pages_acknowledged f talk w) w (batches after place first) v }
 {}
