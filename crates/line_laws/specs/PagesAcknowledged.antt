@@ -16,7 +16,8 @@ abbrev pub pages_sent : ConsoleState → ℕ
 pages_sent (Dump plan sent) = sent
 pages_sent other = 0
 
--- A message that is 0x06 acknowledges the pages that were sent. It counts as it is said, whatever comes of it on its way.
+-- A message that is 0x06 acknowledges the pages that were sent. It counts as it is said, whatever becomes of it on the
+-- line.
 abbrev pub acknowledged_by : TalkItem → Line → ℕ
 acknowledged_by (Said b true) w = if bytes_eq (w.begun ++ b ∷ []) ack then pages_sent w.console.state else 0
 acknowledged_by other w = 0

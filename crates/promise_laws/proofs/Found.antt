@@ -1,5 +1,5 @@
 -- What a run that is kept says of the item at a place, and of the rows there.
-use Rattle.std.proofs.Common.{◌≡◌, ℕ, ◌≤◌, true, List, [], ◌∷◌, ◌++◌, length, None, refl, sym, subst, arith}
+use Rattle.std.proofs.Common.{◌≡◌, ℕ, ◌≤◌, true, List, [], ◌∷◌, ◌++◌, length, None, subst, arith}
 use Rattle.std.specs.Prelude.{IsSomeAnd}
 use Rattle.std.proofs.lemmas.List.{length-append}
 use Rattle.causes.specs.Lists.{IsFrontOf}
@@ -7,8 +7,8 @@ use Rattle.station_base.specs.declared.row.Row.{Row}
 use Rattle.settings_file.specs.StationSettings.{StationSettings}
 use Rattle.packed_rows.specs.Rising.{rows_rise}
 use Rattle.station_replay.specs.Kept.{Kept, KeptFrom, Past, ItemHolds, HoldsRows, no_past, past_with_item}
-use Rattle.station_replay.specs.Pairs.{DumpsGather, Pair, pairs}
-use Rattle.station_replay.specs.Replay.{Item, Rounded}
+use Rattle.station_replay.specs.DumpCounts.{DumpsGather, DumpCount, dump_counts}
+use Rattle.station_replay.specs.Replay.{Item}
 use Rattle.station_replay.proofs.Rounds.{front_join}
 use Rattle.promise_laws.specs.Places.{SomeItem, past_behind, rows_at}
 
@@ -27,7 +27,7 @@ module _ (settings : StationSettings) (records : List (List ℕ)) where
 
   -- What is so of the rows of an archive at each item.
   pub record RowsHold (past : Past) (rows : List Row) : Type 0 where
-    pub dumps : List Pair
+    pub dumps : List DumpCount
     pub gathers : DumpsGather settings records dumps [] rows
     pub grows : IsFrontOf past.rows rows
     pub has_acknowledged : past.acknowledged ≤ length rows
@@ -55,7 +55,7 @@ module _ (settings : StationSettings) (records : List (List ℕ)) where
     round.rows,
     it,
     record {
-      dumps = past.dumps ++ pairs round.tried;
+      dumps = past.dumps ++ dump_counts round.tried;
       gathers = h.gathers;
       grows = front_join past.rows round.kept round.rows h.grows h.leaves;
       has_acknowledged = no_shorter round.kept round.rows past.acknowledged h.leaves h.has_acknowledged;

@@ -1,5 +1,5 @@
 -- No item that holds has rows that are made up, out of order, or gone.
-use Rattle.std.proofs.Common.{◌≡◌, ℕ, List, [], arith}
+use Rattle.std.proofs.Common.{ℕ, List, [], arith}
 use Rattle.std.proofs.lemmas.List.Elements.{All-nil, All-contains}
 use Rattle.causes.specs.Lists.{IsFrontOf}
 use Rattle.settings_file.specs.StationSettings.{StationSettings}

@@ -1,5 +1,5 @@
 -- Of rising rows each later one has a later stamp.
-use Rattle.std.proofs.Common.{◌≡◌, ℕ, ◌<◌, ◌≤◌, true, List, [], ◌∷◌, ◌++◌, Option, Some, None, subst, arith}
+use Rattle.std.proofs.Common.{◌≡◌, ◌<◌, true, List, [], ◌∷◌, ◌++◌, Some, None, subst, arith}
 use Rattle.std.proofs.lemmas.Bool.{ltb-true, and_parts}
 use Rattle.station_base.specs.CivilMinute.{CivilMinute, minute_of}
 use Rattle.station_base.specs.declared.row.Row.{Row}

@@ -1,5 +1,5 @@
 -- Each row that dumps gave is of a record.
-use Rattle.std.proofs.Common.{◌≡◌, ℕ, List, [], ◌∷◌, ◌++◌, take, sym}
+use Rattle.std.proofs.Common.{ℕ, List, [], ◌∷◌, ◌++◌, take}
 use Rattle.std.specs.List.{All, Contains}
 use Rattle.std.proofs.lemmas.List.Elements.{All-nil, All-head, All-tail, All-same, All-append, All-weaker, All-take, All-drop, All-filter, All-contains_itself}
 use Rattle.station_base.specs.declared.row.Row.{Row}
@@ -7,7 +7,7 @@ use Rattle.settings_file.specs.StationSettings.{StationSettings}
 use Rattle.console_ring.specs.History.{retained}
 use Rattle.station_session.specs.Records.{stored_rows}
 use Rattle.station_session.proofs.Stamps.{stored_append}
-use Rattle.station_replay.specs.Pairs.{DumpsGather, Pair, offered}
+use Rattle.station_replay.specs.DumpCounts.{DumpsGather, DumpCount, offered}
 use Rattle.promise_laws.specs.Rows.{IsOfRecord}
 
 module _ (settings : StationSettings) (records : List (List ℕ)) where
@@ -31,10 +31,10 @@ module _ (settings : StationSettings) (records : List (List ℕ)) where
       (All-take (Contains records) due records (All-contains_itself records))))
 
   -- if each row before the dumps is of a record, so is each row behind them
-  pub gathered_are_stored : (dumps : List Pair) (a b : List Row) → All (IsOfRecord settings records) a → DumpsGather settings records dumps a b
+  pub gathered_are_stored : (dumps : List DumpCount) (a b : List Row) → All (IsOfRecord settings records) a → DumpsGather settings records dumps a b
       → All (IsOfRecord settings records) b
   gathered_are_stored [] a b are same = All-same IsStored b a same are
-  gathered_are_stored (p ∷ ps) a b are (few, more) =
+  gathered_are_stored (p ∷ ps) a b are (enough, few, more) =
       let gained = take p.gained (offered records a p.due) in
       gathered_are_stored ps (a ++ stored_rows settings gained) b
       (All-append IsStored a (stored_rows settings gained) are (all_stored gained (offered_are a p.due p.gained))) more

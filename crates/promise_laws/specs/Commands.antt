@@ -1,4 +1,5 @@
--- What no round and no report may be: a page acknowledged before its rows were stored, and a line that nobody asked for.
+-- What no round and no report may be: a page acknowledged before its rows were stored, and a line that nobody asked
+-- for.
 use Rattle.std.specs.Prelude.{◌≡◌, ◌≢◌, ℕ, ◌+◌, List, ◌∷◌, ◌++◌, length, Option}
 use Rattle.causes.specs.Lists.{IsFrontOf}
 use Rattle.station_base.specs.CivilMinute.{CivilMinute}

@@ -1,6 +1,6 @@
--- Rounds that no run may have: an acknowledged page that is not kept, a record left behind, half a page, and a round
+-- Rounds that no run may have: acknowledged pages that are not kept, a record left behind, half a page, and a round
 -- that is given up too early.
-use Rattle.std.specs.Prelude.{◌≡◌, ◌≢◌, ℕ, ◌<◌, List, [], ◌∷◌, ◌++◌, length, take}
+use Rattle.std.specs.Prelude.{◌≡◌, ◌≢◌, ℕ, ◌<◌, min, List, [], ◌∷◌, ◌++◌, length, take}
 use Rattle.std.specs.List.{Contains}
 use Rattle.causes.specs.Lists.{IsFrontOf}
 use Rattle.station_base.specs.declared.row.Row.{Row}
@@ -12,9 +12,10 @@ use Rattle.dmpaft_pump.specs.Batch.{records_in}
 use Rattle.dmpaft_driver.specs.OneAttempt.{Acknowledges}
 use Rattle.station_session.specs.Attempts.{most_attempts}
 use Rattle.station_session.specs.Records.{stored_rows}
+use Rattle.line_laws.specs.PagesAcknowledged.{records_on_pages}
 use Rattle.station_replay.specs.Acknowledged.{rows_after_attempts, rows_with_pages}
 use Rattle.station_replay.specs.Kept.{Past, batches_given}
-use Rattle.station_replay.specs.Pairs.{DumpsGather, offered, pairs}
+use Rattle.station_replay.specs.DumpCounts.{DumpsGather, offered, dump_counts}
 use Rattle.station_replay.specs.Replay.{Item, Rounded}
 use Rattle.station_replay.specs.Round.{Attempted, Ending}
 
@@ -22,16 +23,30 @@ use Rattle.station_replay.specs.Round.{Attempted, Ending}
 abbrev pub SomeRound : (Past → Rounded → Type 0) → Past → Item → Type 0
 SomeRound has past item = (round : Rounded) × (item ≡ Item.Ran round) × has past round
 
+-- A dump of the round gave fewer of the newer records than stand on its acknowledged pages.
+pub record DropsAcknowledgedPages (settings : StationSettings) (records : List (List ℕ)) (past : Past) (round : Rounded)
+    : Type 0 where
+  pub earlier : List Attempted
+  pub attempt : Attempted
+  pub later : List Attempted
+  pub tried : round.tried ≡ earlier ++ attempt ∷ later
+  pub dump : Begun
+  pub began : attempt.dumps ≡ dump ∷ []
+  pub rows : List Row
+  pub gathered : DumpsGather settings records (past.dumps ++ dump_counts earlier) [] rows
+  pub dropped : attempt.gained
+      < min (records_on_pages attempt.acknowledged dump.plan) (length (offered records rows (length dump.history)))
+
 -- In an attempt of the round 0x06 was said right after these pages, and the round did not keep their rows.
-pub record DropsAcknowledgedPages (settings : StationSettings) (past : Past) (round : Rounded) : Type 0 where
+pub record DropsPagesSaid (settings : StationSettings) (past : Past) (round : Rounded) : Type 0 where
   pub earlier : List Attempted
   pub attempt : Attempted
   pub later : List Attempted
   pub place : ℕ
   pub pages : List (List ℕ)
   pub tried : round.tried ≡ earlier ++ attempt ∷ later
-  pub acknowledged : Acknowledges
-      (stamp_frame_of (last_row_stamp (rows_after_attempts settings round.before earlier))) attempt.made.said place pages
+  pub acknowledged : Acknowledges (stamp_frame_of (last_row_stamp (rows_after_attempts settings round.before earlier)))
+      attempt.made.said place pages
   pub dropped : ¬ IsFrontOf (rows_with_pages settings (rows_after_attempts settings round.before earlier) place pages)
       round.kept
 
@@ -45,7 +60,7 @@ pub record LeavesNewerRecord (settings : StationSettings) (records : List (List 
   pub dump : Begun
   pub began : last.dumps ≡ dump ∷ []
   pub rows : List Row
-  pub gathered : DumpsGather settings records (past.dumps ++ pairs earlier) [] rows
+  pub gathered : DumpsGather settings records (past.dumps ++ dump_counts earlier) [] rows
   pub not_all : last.gained ≢ length (offered records rows (length dump.history))
 
 -- The round was stopped, and what it left are not the rows of whole pages, however many.

@@ -1,15 +1,19 @@
 ghost use Rattle.std.specs.Prelude.{ℕ, List};
 ghost use Rattle.settings_file.specs.StationSettings.{StationSettings};
 ghost use Rattle.station_replay.specs.Kept.{Kept};
-ghost use Rattle.station_replay.specs.Replay.{Item};
+ghost use Rattle.station_replay.specs.Replay.{Item, IsReplay, Stage};
+ghost use Rattle.station_replay.specs.Schedule.{ReplayStep};
 ghost use Rattle.promise_laws.specs.Places.{SomeItem};
-ghost use Rattle.promise_laws.specs.Rounds.{SomeRound, DropsAcknowledgedPages, LeavesNewerRecord, LeavesHalfPage};
+ghost use Rattle.promise_laws.specs.Rounds.{SomeRound, DropsAcknowledgedPages, DropsPagesSaid, LeavesNewerRecord, LeavesHalfPage};
 ghost use Rattle.promise_laws.specs.Rounds.{GivesUpEarly, GivesUpUnharmed};
 
-/// Nothing is lost: a run with a round that acknowledged pages by 0x06, and did not keep their rows, is not kept.
+/// Nothing is lost: a run in which a dump gave fewer rows than records stand on its acknowledged pages is not kept. And no run has a
+/// round in which 0x06 was said right after pages, and which did not keep their rows.
 pub fn no_acknowledged_page_is_dropped()
-    ensures { (settings : StationSettings) (records : List (List ℕ)) (items : List Item)
-        → SomeItem (SomeRound (DropsAcknowledgedPages settings)) items → ¬ Kept settings records items }
+    ensures counted { (settings : StationSettings) (records : List (List ℕ)) (items : List Item)
+        → SomeItem (SomeRound (DropsAcknowledgedPages settings records)) items → ¬ Kept settings records items }
+    ensures said { (settings : StationSettings) (s : Stage) (steps : List ReplayStep) (items : List Item)
+        → SomeItem (SomeRound (DropsPagesSaid settings)) items → ¬ IsReplay settings s steps items }
 {}
 
 /// Nothing is left behind: nor is one with a round that ended ok, and whose last dump did not give each newer record.

@@ -9,7 +9,7 @@ use Rattle.serial_link.specs.declared.talk.TalkItem.TheVariants.{Said}
 use Rattle.settings_file.specs.StationSettings.{StationSettings}
 use Rattle.packed_rows.specs.Rising.{last_row_stamp}
 use Rattle.dmpaft_driver.specs.Attempt.{Attempt, End}
-use Rattle.dmpaft_pump.specs.Batch.{slots_in_page, rising, newest, add, batches, records_in, EndsGiving}
+use Rattle.dmpaft_pump.specs.Batch.{batches, records_in, EndsGiving}
 use Rattle.dmpaft_driver.specs.Gathered.{dump_batches, RefusesLast}
 use Rattle.dmpaft_pump.specs.Keeper.{kept_in}
 use Rattle.dmpaft_driver.specs.OneAttempt.{Acknowledges}
@@ -34,6 +34,7 @@ use Rattle.station_replay.proofs.Bridge.{followed}
 use Rattle.station_replay.specs.Round.{Ending, Attempted}
 use Rattle.station_replay.specs.Replay.{Rounded, Stage, IsRound}
 use Rattle.station_replay.proofs.GivenBatches.{and_rows, Parted, keeps_part}
+use Rattle.station_replay.proofs.LastBatch.{some_last, but_last_batches}
 use Rattle.station_replay.proofs.Rounds.{IsPlain, front_same, front_join}
 
 front_is : (xs ys : List Row) → xs ≡ ys → IsFrontOf xs ys
@@ -42,7 +43,7 @@ front_is xs ys e = ([], append-nil xs ∙ e)
 records_front : (bs cs : List (List (List ℕ))) → IsFrontOf bs cs → IsFrontOf (records_in bs) (records_in cs)
 records_front bs cs (rest, e) = (records_in rest, sym (records_append bs rest) ∙ ap records_in e)
 
-stored_front : (settings : StationSettings) (rows : List Row) (xs ys : List (List ℕ)) → IsFrontOf xs ys → IsFrontOf (rows ++ stored_rows settings xs) (rows ++ stored_rows settings ys)
+pub stored_front : (settings : StationSettings) (rows : List Row) (xs ys : List (List ℕ)) → IsFrontOf xs ys → IsFrontOf (rows ++ stored_rows settings xs) (rows ++ stored_rows settings ys)
 stored_front settings rows xs ys (rest, e) = (
   stored_rows settings rest,
   append_assoc rows (stored_rows settings xs) (stored_rows settings rest) ∙ ap (λ (z : List Row). rows ++ z) (sym (stored_append settings xs rest) ∙ ap (stored_rows settings) e),
@@ -155,43 +156,15 @@ module _ (settings : StationSettings) (f : Fates) (stop : Option Stop) where
       let w = within 0 0 s.archive (started s.line) x.tried x.end k.kept k.archive k.line k.tries earlier t later is in
       subst (λ (rows : List Row). Within settings (rows_after_attempts settings rows earlier) t x.kept) (sym before) (subst (λ (rows : List Row). Within settings (rows_after_attempts settings s.archive.rows earlier) t rows) (sym kept) w)
 
-  pub keeps_acknowledged : (left : ℕ → List (List ℕ)) (s : Stage) (x : Rounded) (u : Stage) → IsRound settings f left stop s x u → KeepsAcknowledged settings x
+  keeps_acknowledged : (left : ℕ → List (List ℕ)) (s : Stage) (x : Rounded) (u : Stage) → IsRound settings f left stop s x u → KeepsAcknowledged settings x
   keeps_acknowledged left s x u k earlier t later place pages is said = acked_within settings (rows_after_attempts settings x.before earlier) t x.kept place pages (round_within left s x u k earlier t later is) said
+
+pub round_keeps : (settings : StationSettings) (f : Fates) (left : ℕ → List (List ℕ)) (stop : Option Stop) (s : Stage) (x : Rounded) (u : Stage) → IsRound settings f left stop s x u → KeepsAcknowledged settings x
+round_keeps settings f left stop s x u k = keeps_acknowledged settings f stop left s x u k
 
 none_or_some : (l : List (List ℕ)) → (l ≡ []) ⊎ (l ≢ [])
 none_or_some [] = inl refl
 none_or_some (x ∷ l) = inr (λ no. cc)
-
--- the last of some pages
-some_last : (l : List (List ℕ)) → l ≢ [] → (first : List (List ℕ)) × (last : List ℕ) × (l ≡ first ++ last ∷ [])
-some_last [] some = absurd (some refl)
-some_last (x ∷ []) some = ([], x, refl)
-some_last (x ∷ y ∷ l) some = let s = some_last (y ∷ l) (λ no. cc) in (x ∷ s.0, s.1, ap (λ (z : List (List ℕ)). x ∷ z) s.2)
-
-but_last_one : (bs : List (List (List ℕ))) (b : List (List ℕ)) → but_last (bs ++ b ∷ []) ≡ bs
-but_last_one [] b = refl
-but_last_one (x ∷ []) b = refl
-but_last_one (x ∷ y ∷ bs) b = ap (λ (z : List (List (List ℕ))). x ∷ z) (but_last_one (y ∷ bs) b)
-
-add_before : (rows : List (List ℕ)) (bs : List (List (List ℕ))) (b : List (List ℕ)) → add rows (bs ++ b ∷ []) ≡ add rows bs ++ b ∷ []
-add_before [] bs b = refl
-add_before (r ∷ rows) bs b = refl
-
-add_one : (rows : List (List ℕ)) → rows ≢ [] → add rows [] ≡ rows ∷ []
-add_one [] some = absurd (some refl)
-add_one (r ∷ rows) some = refl
-
-gives_next : (after : Option CivilMinute) (place : ℕ) (page : List ℕ) (first : List (List ℕ)) (last : List ℕ) → EndsGiving after place (page ∷ (first ++ last ∷ [])) → EndsGiving (newest after (slots_in_page place page)) 0 (first ++ last ∷ [])
-gives_next after place page [] last x = x
-gives_next after place page (next ∷ first) last x = x
-
--- the batch of the last page is the last batch, where that page gives one
-batches_last : (after : Option CivilMinute) (place : ℕ) (first : List (List ℕ)) (last : List ℕ) → EndsGiving after place (first ++ last ∷ []) → (b : List (List ℕ)) × (batches after place (first ++ last ∷ []) ≡ batches after place first ++ b ∷ [])
-batches_last after place [] last x = (rising after (slots_in_page place last), add_one (rising after (slots_in_page place last)) x)
-batches_last after place (page ∷ first) last x =
-    let n = newest after (slots_in_page place page) in
-    let s = batches_last n 0 first last (gives_next after place page first last x) in
-    (s.0, ap (λ (z : List (List (List ℕ))). add (rising after (slots_in_page place page)) z) s.1 ∙ add_before (rising after (slots_in_page place page)) (batches n 0 first) s.0)
 
 none_behind : (xs ys : List (List ℕ)) → xs ++ ys ≡ [] → ys ≡ []
 none_behind [] ys e = e
@@ -249,8 +222,7 @@ module _ (after : Option CivilMinute) (talk : List TalkItem) (place : ℕ) (take
   just_refused : EndsGiving after place taken → G talk taken End.Refused → (pages : List (List ℕ)) × AreAcknowledged (stamp_frame_of after) talk place pages × (but_last (batches after place taken) ≡ batches after place pages)
   just_refused gives x =
       let s = some_last taken (attempt_some (stamp_frame_of after) talk place taken x) in
-      let b = batches_last after place s.0 s.1 (subst (EndsGiving after place) s.2 gives) in
-      (s.0, first_acked s.0 s.1 s.2 x, ap (λ (z : List (List ℕ)). but_last (batches after place z)) s.2 ∙ ap but_last b.1 ∙ but_last_one (batches after place s.0) b.0)
+      (s.0, first_acked s.0 s.1 s.2 x, but_last_batches after place taken s.0 s.1 s.2 gives)
 
   just_ended : (end : DumpEnd) → IsPlain end → Ended G end talk taken → RefusesLast end after place taken → (pages : List (List ℕ)) × AreAcknowledged (stamp_frame_of after) talk place pages × (kept_batches end (batches after place taken) ≡ batches after place pages)
   just_ended dump_end.Whole plain x r = (taken, all_acked End.Whole (λ no. cc) x, refl)

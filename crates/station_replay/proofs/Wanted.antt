@@ -32,7 +32,7 @@ use Rattle.station_sim.specs.Calm.{IsCalm}
 use Rattle.station_sim.specs.Sound.{AreRecords, IsSound, AreSound}
 use Rattle.line_laws.specs.Records.{Now}
 use Rattle.station_replay.specs.Keeping.{Archive}
-use Rattle.station_replay.specs.Pairs.{Pair, DumpsGather, dump_pairs}
+use Rattle.station_replay.specs.DumpCounts.{DumpCount, DumpsGather, counts_of_attempt}
 use Rattle.station_replay.specs.Room.{AreFew}
 use Rattle.station_replay.specs.Round.{Attempted, IsAttempted}
 use Rattle.line_laws.proofs.Attempts.{attempt_dry}
@@ -41,7 +41,7 @@ use Rattle.station_replay.proofs.CountedRows.{few_of, stamp_of}
 use Rattle.line_laws.proofs.Pages.{goes_unseen}
 use Rattle.station_replay.proofs.GivenBatches.{keeps_part}
 use Rattle.station_replay.proofs.Room.{AllSome, batches_some}
-use Rattle.station_replay.proofs.Rounds.{IsPlain, plain_ended, one_law, gathered_join, batches_of, rows_length}
+use Rattle.station_replay.proofs.Rounds.{IsPlain, all_front, kept_front, plain_ended, one_law, gathered_join, batches_of, rows_length}
 
 -- the records of one batch, however it was answered
 one_all : (a : Stored) (b : List (List ℕ)) → all_records (one_batch a b) ≡ b ++ []
@@ -118,20 +118,20 @@ module _ (settings : StationSettings) (f : Fates) (ok : AreSound f) (left : ℕ 
   read_of_batches rows after w u t k = batches_of settings f ok left falls all up r more whole rows after w u t k
 
   -- all that an attempt gives has room, kept or not
-  pub all_fit : (d : List Pair) (a b : List Row) (w u : Line) (t : Attempted) → IsCalm w → IsSound w → Now left all w → IsAttempted f a w t b u → IsPlain t.made.end → u.unseen ≡ None → DumpsGather settings r d [] a → length a + length (records_in t.batches) ≤ length r
+  pub all_fit : (d : List DumpCount) (a b : List Row) (w u : Line) (t : Attempted) → IsCalm w → IsSound w → Now left all w → IsAttempted f a w t b u → IsPlain t.made.end → u.unseen ≡ None → DumpsGather settings r d [] a → length a + length (records_in t.batches) ≤ length r
   all_fit d a b w u t calm sound now k plain un g =
       let bs = records_in t.batches in
       let l : length (a ++ stored_rows settings (records_in t.batches)) ≡ length a + length (records_in t.batches)
       = rows_length settings f ok left falls all up r more whole a (a ++ stored_rows settings (records_in t.batches)) (records_in t.batches) (read_of_batches a b w u t k) refl in
-      let t2 : Attempted = record { made = t.made; batches = t.batches; dumps = t.dumps; harmed = t.harmed; gained = length (records_in t.batches) } in
-      let k2 : IsAttempted f a w t2 (a ++ stored_rows settings (records_in t.batches)) u = record { attempt = k.attempt; talks = k.talks; batches = k.batches; dumps = k.dumps; harmed = k.harmed; gained = l } in
-      let one = one_law settings f ok left falls all up r more whole a (a ++ stored_rows settings (records_in t.batches)) w u t2 calm sound now (stamp_of settings r rises are d a g) k2 plain un (records_in t.batches) refl ([], append-nil (records_in t.batches)) in
-      let n = few_of settings r rises are (d ++ dump_pairs t.dumps (length (records_in t.batches))) (a ++ stored_rows settings (records_in t.batches))
-      (gathered_join settings r d (dump_pairs t.dumps (length (records_in t.batches))) [] a (a ++ stored_rows settings (records_in t.batches)) g one.gathers) in
+      let t2 : Attempted = record { made = t.made; batches = t.batches; dumps = t.dumps; acknowledged = t.acknowledged; harmed = t.harmed; gained = length (records_in t.batches) } in
+      let k2 : IsAttempted f a w t2 (a ++ stored_rows settings (records_in t.batches)) u = record { attempt = k.attempt; talks = k.talks; batches = k.batches; dumps = k.dumps; acknowledged = k.acknowledged; harmed = k.harmed; gained = l } in
+      let one = one_law settings f ok left falls all up r more whole a (a ++ stored_rows settings (records_in t.batches)) w u t2 calm sound now (stamp_of settings r rises are d a g) k2 plain un (records_in t.batches) refl (all_front t.batches) (kept_front t.made.end t.batches) in
+      let n = few_of settings r rises are (d ++ counts_of_attempt t2) (a ++ stored_rows settings (records_in t.batches))
+      (gathered_join settings r d (counts_of_attempt t2) [] a (a ++ stored_rows settings (records_in t.batches)) g one.gathers) in
       omega (arith, l, n)
 
   -- what one attempt gives, kept or not, is counted
-  one_few : (d : List Pair) (a : Archive) (w v : Line) (t : Tried) → IsTried (last_row_stamp a.rows) t → IsPlain t.end → ConsoleTalk f t.said w v → IsCalm w → IsSound w → Now left all w → v.unseen ≡ None → DumpsGather settings r d [] a.rows
+  one_few : (d : List DumpCount) (a : Archive) (w v : Line) (t : Tried) → IsTried (last_row_stamp a.rows) t → IsPlain t.end → ConsoleTalk f t.said w v → IsCalm w → IsSound w → Now left all w → v.unseen ≡ None → DumpsGather settings r d [] a.rows
       → AreFew (length r) a.rows (batches_in (last_row_stamp a.rows) t)
   one_few d a w v t tried plain talks calm sound now un g =
       let bs = batches (last_row_stamp a.rows) t.place t.taken in
@@ -145,7 +145,7 @@ module _ (settings : StationSettings) (f : Fates) (ok : AreSound f) (left : ℕ 
       }
 
   -- the attempts of a round: they do not flood, and what they give is counted
-  pub round_few : (n m : ℕ) (d : List Pair) (a : Archive) (w v : Line) (ts : List Tried) (end : RoundEnd) → Attempts n (last_row_stamp a.rows) ts end → Fit settings.most (length a.rows) (all_batches (last_row_stamp a.rows) ts) → ConsoleTalk f (all_said ts) w v
+  pub round_few : (n m : ℕ) (d : List DumpCount) (a : Archive) (w v : Line) (ts : List Tried) (end : RoundEnd) → Attempts n (last_row_stamp a.rows) ts end → Fit settings.most (length a.rows) (all_batches (last_row_stamp a.rows) ts) → ConsoleTalk f (all_said ts) w v
       → end ≢ round_end.LinkFault → end ≢ round_end.OutOfMemory → end ≢ round_end.Stale → IsCalm w → IsSound w → Now left all w → v.unseen ≡ None → DumpsGather settings r d [] a.rows
       → (end ≢ round_end.Flood) × AreFew (length r) a.rows (all_batches (last_row_stamp a.rows) ts)
   round_few n m d a w v [] end (inl (none, before)) fit talks link memory fresh calm sound now un g = absurd (stale_or end before fresh memory)
@@ -171,11 +171,11 @@ module _ (settings : StationSettings) (f : Fates) (ok : AreSound f) (left : ℕ 
       let plain : IsPlain o.x.made.end = subst IsPlain (sym o.failed.1) tt in
       let u = goes_unseen f (all_said ts) p.0 v p.2 un in
       let k = keeps_part settings None m a o.x.batches (Rattle.station_replay.proofs.RoundAttempts.Keeping.Goes o.count o.b) o.keeps in
-      let one = one_law settings f ok left falls all up r more whole a.rows o.b.rows w p.0 o.x calm sound now (stamp_of settings r rises are d a.rows g) o.is_attempted plain u (records_in o.x.batches) k.0 ([], append-nil (records_in o.x.batches)) in
-      let q = round_few (n + 1) o.count (d ++ dump_pairs o.x.dumps o.x.gained) o.b p.0 v ts end
+      let one = one_law settings f ok left falls all up r more whole a.rows o.b.rows w p.0 o.x calm sound now (stamp_of settings r rises are d a.rows g) o.is_attempted plain u (records_in o.x.batches) k.0 (all_front o.x.batches) (kept_front o.x.made.end o.x.batches) in
+      let q = round_few (n + 1) o.count (d ++ counts_of_attempt o.x) o.b p.0 v ts end
       (subst (λ z. Attempts (n + 1) z ts end) o.stamp again)
       (subst (λ z. Fit settings.most (length o.b.rows) (all_batches z ts)) o.stamp (subst (λ (z : ℕ). Fit settings.most z rest) o.long parts.1))
-      p.2 link memory fresh one.calm one.sound one.now un (gathered_join settings r d (dump_pairs o.x.dumps o.x.gained) [] a.rows o.b.rows g one.gathers) in
+      p.2 link memory fresh one.calm one.sound one.now un (gathered_join settings r d (counts_of_attempt o.x) [] a.rows o.b.rows g one.gathers) in
       let later : AreFew (length r) o.b.rows rest = subst (λ z. AreFew (length r) o.b.rows (all_batches z ts)) (sym o.stamp) q.1 in
       let many = some_many bs (batches_some (last_row_stamp a.rows) t.place t.taken) in (
         q.0,

@@ -26,11 +26,10 @@ use Rattle.schedule_file.specs.Lists.{no_fates}
 use Rattle.station_replay.specs.Keeping.{Archive}
 use Rattle.station_replay.specs.Round.{Ending, finished}
 use Rattle.station_replay.specs.Replay.{Rounded, Item, Stage, IsRound, IsBroken, Does, Runs, Opens, IsReplay, RunIsBegun, on_line, recovered, opening, opening_if_closed, opened, stops_opening, is_stop, after_round, closing_items, start}
-use Rattle.station_replay.specs.Pairs.{Pair, DumpsGather, pairs}
+use Rattle.station_replay.specs.DumpCounts.{DumpCount, DumpsGather, dump_counts}
 use Rattle.station_replay.specs.Kept.{Past, no_past, past_with_item, rows_printed, HoldsRows, HoldsOpening, HoldsRound, HoldsEnd, KeptFrom, Kept, batches_given}
 use Rattle.packed_rows.proofs.RowLaws.{rise_tells}
 use Rattle.weather_reports.proofs.RecomputedDays.{day_lines_law}
-use Rattle.station_replay.proofs.Acknowledged.{keeps_acknowledged}
 use Rattle.station_replay.proofs.Bridge.{Followed, followed}
 use Rattle.line_laws.proofs.Between.{calm_tick, calm_due}
 use Rattle.line_laws.proofs.Records.{begun_more, sums_tick, fallen_all}
@@ -148,7 +147,7 @@ module _ (settings : StationSettings) (r : List (List ℕ)) (rises : EachFollows
   pub Goes : List (List ℕ) → Stage → List Item → Stage → Type 0
   Goes done s is u = Stood done u × ((p : Past) → IsPast settings r s p → KeptFrom settings r p is × IsPast settings r u (past_behind p is))
 
-  stamps_rise : (d : List Pair) (rows : List Row) → DumpsGather settings r d [] rows → rows_rise None rows ≡ true
+  stamps_rise : (d : List DumpCount) (rows : List Row) → DumpsGather settings r d [] rows → rows_rise None rows ≡ true
   stamps_rise d rows g = rise_of settings r rises are d rows g
 
   -- an archive that is found again
@@ -214,8 +213,8 @@ module _ (settings : StationSettings) (r : List (List ℕ)) (rises : EachFollows
     -- what is written by a round
 
     -- what is known behind a round, by whether it was stopped
-    past_round : (t : Bool) (s : Stage) (x : Rounded) (a : Archive) (w : Line) (p : Past) → IsPast settings r s p → IsFrontOf s.archive.rows a.rows → DumpsGather settings r (p.dumps ++ pairs x.tried) [] a.rows → x.rows ≡ a.rows → length x.kept ≤ length a.rows
-        → IsPast settings r (after_round t s a w) (record { dumps = p.dumps ++ pairs x.tried; rows = x.rows; acknowledged = length x.kept; written = rows_printed t p.written x })
+    past_round : (t : Bool) (s : Stage) (x : Rounded) (a : Archive) (w : Line) (p : Past) → IsPast settings r s p → IsFrontOf s.archive.rows a.rows → DumpsGather settings r (p.dumps ++ dump_counts x.tried) [] a.rows → x.rows ≡ a.rows → length x.kept ≤ length a.rows
+        → IsPast settings r (after_round t s a w) (record { dumps = p.dumps ++ dump_counts x.tried; rows = x.rows; acknowledged = length x.kept; written = rows_printed t p.written x })
     past_round true s x a w p z f g xr l =
         let n : s.written ≤ length s.archive.rows = z.within in
         record { gathered = g; rows = xr; least = l; written = z.written ∙ sym (take-append-le s.written s.archive.rows f.0 n) ∙ ap (take s.written) f.1; within = omega (arith, n, ap length f.1, length-append s.archive.rows f.0); shown = λ y. absurd cc }
@@ -234,18 +233,17 @@ module _ (settings : StationSettings) (r : List (List ℕ)) (rises : EachFollows
         let xb : x.before ≡ s.archive.rows = k.before_is in
         let xk : x.kept ≡ k.kept.rows = k.kept_is in
         let xr : x.rows ≡ k.archive.rows = k.rows_is in
-        let got = subst (DumpsGather settings r (p.dumps ++ pairs x.tried) []) (sym xr) (gathered_join settings r p.dumps (pairs x.tried) [] s.archive.rows k.archive.rows so.gathered z.gathers) in
+        let got = subst (DumpsGather settings r (p.dumps ++ dump_counts x.tried) []) (sym xr) (gathered_join settings r p.dumps (dump_counts x.tried) [] s.archive.rows k.archive.rows so.gathered z.gathers) in
         record {
           begins = xb ∙ sym so.rows;
           grows = subst (λ y. IsFrontOf y x.kept) (sym so.rows) (subst (IsFrontOf s.archive.rows) (sym xk) z.before);
           leaves = subst (λ y. IsFrontOf y x.rows) (sym xk) (subst (IsFrontOf k.kept.rows) (sym xr) z.after);
           has_acknowledged = omega (arith, z.acked, so.least, ap length xk);
           counts = omega (arith, z.acked, ap length xk, ap length so.rows);
-          acknowledges = keeps_acknowledged settings f stop left s x u round;
           first = z.first;
           gathers = got;
-          once = stamps_rise (p.dumps ++ pairs x.tried) x.rows got;
-          few = few_of settings r rises are (p.dumps ++ pairs x.tried) x.rows got;
+          once = stamps_rise (p.dumps ++ dump_counts x.tried) x.rows got;
+          few = few_of settings r rises are (p.dumps ++ dump_counts x.tried) x.rows got;
           complete = λ ended. z.complete ended p.dumps so.gathered;
           stopped = λ j en.
               let q = z.stops j en in
@@ -268,10 +266,10 @@ module _ (settings : StationSettings) (r : List (List ℕ)) (rises : EachFollows
         let xr : x.rows ≡ k.archive.rows = k.rows_is in (
           record {
             at = subst (At (done ++ left 0)) (sym ul) (at_finished left (done ++ left 0) k.line up (are_left k.line.messages) z.calm z.sound z.now);
-            stamp = subst (λ y. IsStamp (last_row_stamp y)) (sym ur) (gathered_stamp settings r rises are (pairs x.tried) s.archive.rows k.archive.rows a.stamp z.gathers);
+            stamp = subst (λ y. IsStamp (last_row_stamp y)) (sym ur) (gathered_stamp settings r rises are (dump_counts x.tried) s.archive.rows k.archive.rows a.stamp z.gathers);
           },
           λ p so.
-              let got : DumpsGather settings r (p.dumps ++ pairs x.tried) [] k.archive.rows = gathered_join settings r p.dumps (pairs x.tried) [] s.archive.rows k.archive.rows so.gathered z.gathers in
+              let got : DumpsGather settings r (p.dumps ++ dump_counts x.tried) [] k.archive.rows = gathered_join settings r p.dumps (dump_counts x.tried) [] s.archive.rows k.archive.rows so.gathered z.gathers in
               let least : length x.kept ≤ length k.archive.rows = omega (arith, ap length z.after.1, length-append k.kept.rows z.after.0, ap length xk) in
               let known = past_round (is_stop x.end) s x k.archive (finished left k.line) p so (front_join s.archive.rows k.kept.rows k.archive.rows z.before z.after) got xr least in
               ((holds_round stop s x u round k z op p so, tt), subst (λ y. IsPast settings r y (past_with_item p (Item.Ran x))) (sym k.next) known),
@@ -437,7 +435,7 @@ schedules_law settings eeprom packet steps ok o (inr run) =
     subst (Kept settings r) (sym run.items_are) (kept_law settings r ok.rises ok.are_records (records xs) eeprom packet u run.given (opening_if_closed u.is_open u ++ run.unsaid ∷ []) h (kept_broken settings r ok.rises ok.are_records run.fates run.stop run.unsaid u run.broken))
 
 -- the rows after some steps are gathered
-pub runs_so : (settings : StationSettings) (eeprom : List ℕ) (packet : LoopPacket) (steps more : List ReplayStep) → IsSchedule (steps ++ more) → (is : List Item) (u : Stage) → Runs settings steps (start eeprom packet) is u → (ps : List Pair) × DumpsGather settings (records (steps ++ more)) ps [] u.archive.rows
+pub runs_so : (settings : StationSettings) (eeprom : List ℕ) (packet : LoopPacket) (steps more : List ReplayStep) → IsSchedule (steps ++ more) → (is : List Item) (u : Stage) → Runs settings steps (start eeprom packet) is u → (ps : List DumpCount) × DumpsGather settings (records (steps ++ more)) ps [] u.archive.rows
 runs_so settings eeprom packet steps more ok is u runs =
     let r = records (steps ++ more) in
     let whole : ([] ++ records steps) ++ records more ≡ r = sym (records_join steps more) in

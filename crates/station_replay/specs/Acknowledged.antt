@@ -18,7 +18,8 @@ use Rattle.station_replay.specs.Replay.{Rounded, Item}
 -- the rows behind some attempts of which each kept all its batches
 abbrev pub rows_after_attempts : StationSettings → List Row → List Attempted → List Row
 rows_after_attempts settings rows [] = rows
-rows_after_attempts settings rows (t ∷ ts) = rows_after_attempts settings (rows ++ stored_rows settings (records_in t.batches)) ts
+rows_after_attempts settings rows (t ∷ ts) =
+    rows_after_attempts settings (rows ++ stored_rows settings (records_in t.batches)) ts
 
 -- these rows, and behind them those of the batches of these pages, the first of which is read from this place on
 abbrev pub rows_with_pages : StationSettings → List Row → ℕ → List (List ℕ) → List Row

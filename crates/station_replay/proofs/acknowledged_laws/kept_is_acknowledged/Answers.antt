@@ -1,7 +1,8 @@
 use Rattle.std.proofs.Common.{inl, inr}
-use Rattle.station_replay.specs.Acknowledged.{KeepsJustAcknowledged}
-use Rattle.station_replay.proofs.Acknowledged.{attempt_keeps_just, round_keeps_just, takes_one_more}
+use Rattle.station_replay.specs.Acknowledged.{KeepsAcknowledged, KeepsJustAcknowledged}
+use Rattle.station_replay.proofs.Acknowledged.{attempt_keeps_just, round_keeps, round_keeps_just, takes_one_more}
 use Rattle.station_replay.proofs.EachRound.{in_begun, in_replay}
+use Rattle.station_replay.proofs.GatheredPages.{pages_gathered}
 use Rattle.station_replay.proofs.acknowledged_laws.kept_is_acknowledged.Goals as goal
 
 pub returns-clause-runs : goal.returns-clause-runs
@@ -9,6 +10,15 @@ returns-clause-runs c = λ settings s steps o how. elim how [
   | inl replay ↦ in_replay settings (KeepsJustAcknowledged settings) (round_keeps_just settings) s steps o replay
   | inr begun ↦ in_begun settings (KeepsJustAcknowledged settings) (round_keeps_just settings) s steps o begun
 ]
+
+pub returns-clause-rounds : goal.returns-clause-rounds
+returns-clause-rounds c = λ settings s steps o how. elim how [
+  | inl replay ↦ in_replay settings (KeepsAcknowledged settings) (round_keeps settings) s steps o replay
+  | inr begun ↦ in_begun settings (KeepsAcknowledged settings) (round_keeps settings) s steps o begun
+]
+
+pub returns-clause-demanded : goal.returns-clause-demanded
+returns-clause-demanded c = pages_gathered
 
 pub returns-clause-attempts : goal.returns-clause-attempts
 returns-clause-attempts c = attempt_keeps_just
