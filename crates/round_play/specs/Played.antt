@@ -76,7 +76,8 @@ pub record IsPlayedOut (settings : StationSettings) (f : Fates) (left : ℕ → 
   pub session : is_stop round.end ≡ false → SessionGoesOn settings next.archive.rows new.session new.disk
 
 -- by whether a delivery was unseen
-abbrev pub PlaysBy : Option Unseen → StationSettings → Fates → (ℕ → List (List ℕ)) → Option Stop → ℕ → Stage → PlayedHost
+abbrev pub PlaysBy : Option Unseen → StationSettings → Fates → (ℕ → List (List ℕ)) → Option Stop → ℕ → Stage
+    → PlayedHost
     → Played → PlayedHost → Type 0
 PlaysBy None settings f left stop openings s old played new =
     IsPlayedOut settings f left stop openings s old played new

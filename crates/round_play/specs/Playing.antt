@@ -42,7 +42,8 @@ pub record RoundStarts (fates : code_fates.Fates) (stop : Option Stop) (old bega
   pub settings : session_settings began.session ≡ session_settings old.session
 
 -- The round is under way since its begin.
-pub record RoundIsUnderWay (fates : code_fates.Fates) (stop : Option Stop) (old : PlayedHost) (playing : Playing) (line : Sim)
+pub record RoundIsUnderWay (fates : code_fates.Fates) (stop : Option Stop) (old : PlayedHost) (playing : Playing)
+    (line : Sim)
     (disk : Stopping MemDisk) : Type 0 where
   pub began : PlayedHost
   pub begins : RoundStarts fates stop old began
@@ -57,7 +58,8 @@ pub record MayGoOn (playing : Playing) (disk : Stopping MemDisk) : Type 0 where
   pub room : MayBegin stopping_medium (changes_left playing.report) disk
 
 -- The round ended so, and did since its begin all that a round of the session does.
-pub record RoundIsOver (fates : code_fates.Fates) (stop : Option Stop) (old : PlayedHost) (end : RoundEnd) (session : Session)
+pub record RoundIsOver (fates : code_fates.Fates) (stop : Option Stop) (old : PlayedHost) (end : RoundEnd)
+    (session : Session)
     (report : Report) (line : Sim) (disk : Stopping MemDisk) : Type 0 where
   pub began : PlayedHost
   pub begins : RoundStarts fates stop old began

@@ -25,7 +25,8 @@ pub record IsRoomFor (records : ℕ) (limits : Limits) : Type 0 where
 -- its rows and at each opening.
 pub record HasLeft (openings : ℕ) (a : Archive) (s : StoppingState) : Type 0 where
   pub changes : s.inner.limits.changes ≤ s.inner.changes + a.changes
-  pub bytes : s.inner.limits.bytes ≤ s.inner.bytes + (slot_size * slots_for_rows a.rows + length a.rows + 200 * openings)
+  pub bytes : s.inner.limits.bytes ≤ s.inner.bytes
+      + (slot_size * slots_for_rows a.rows + length a.rows + 200 * openings)
 
 -- The disk is at rest, of the archive's length, with its rows in what it reads and in each image that a crash may
 -- leave, which is what it reads. No stop is armed, and no call is to fail. So many openings were made.

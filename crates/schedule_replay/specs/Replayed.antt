@@ -39,7 +39,8 @@ pub record IsReplayed (unseen : Bool) (settings : StationSettings) (from : Stage
   pub written : Appends old new (text items)
 
 -- What was written is a prefix of the text of items that are the run of the schedule, or the beginning of one.
-pub record ReplayIsCutOff (settings : StationSettings) (from : Stage) (steps : List ReplayStep) (old new : Option (List ℕ))
+pub record ReplayIsCutOff (settings : StationSettings) (from : Stage) (steps : List ReplayStep)
+    (old new : Option (List ℕ))
     : Type 0 where
   pub items : List Item
   pub is_begun : RunIsBegun settings from steps items ⊎ IsReplay settings from steps items

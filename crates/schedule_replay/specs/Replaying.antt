@@ -34,7 +34,8 @@ pub record Course : Type 0 where
   pub made : Stopping MemDisk
 
 -- The steps lead to a stage. There the archive is open, opened if need be ahead of the next step, a round or the end.
-pub record OpenedAhead (settings : StationSettings) (from : Stage) (behind to_come : List ReplayStep) (items : List Item)
+pub record OpenedAhead (settings : StationSettings) (from : Stage) (behind to_come : List ReplayStep)
+    (items : List Item)
     (before line : Sim) (first_disk disk : Stopping MemDisk) (run : Run) : Type 0 where
   pub given : List Item
   pub stage : Stage
@@ -49,7 +50,8 @@ pub record OpenedAhead (settings : StationSettings) (from : Stage) (behind to_co
   pub limits : stopping_limits disk ≡ stopping_limits first_disk
 
 -- The steps lead to a stage. There the round of the next step was begun, and is under way.
-pub record WithinRound (records : ℕ) (settings : StationSettings) (from : Stage) (behind : List ReplayStep) (step : ReplayStep)
+pub record WithinRound (records : ℕ) (settings : StationSettings) (from : Stage) (behind : List ReplayStep)
+    (step : ReplayStep)
     (items : List Item) (before line : Sim) (first_disk disk : Stopping MemDisk) (run : Run) (playing : Playing)
     : Type 0 where
   pub given : List Item

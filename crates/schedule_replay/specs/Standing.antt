@@ -132,7 +132,8 @@ pub record WasBegun (records openings : ℕ) (settings : StationSettings) (s : S
   pub written : run.written ≡ s.written
 
 -- the step is taken, its items are told, and the run stands where it leads
-abbrev pub LeadsTo : {T : Type 0} → Telling T → ℕ → StationSettings → ReplayStep → Stage → Run → Stopping MemDisk → T → T
+abbrev pub LeadsTo : {T : Type 0} → Telling T → ℕ → StationSettings → ReplayStep → Stage → Run → Stopping MemDisk → T
+    → T
     → Type 0
 LeadsTo telling openings settings x s run disk old new =
     (is : List Item) × (u : Stage) × Does settings x s is u × HoldsAt openings settings u run disk

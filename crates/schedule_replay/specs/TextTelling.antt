@@ -2,7 +2,8 @@
 use Rattle.std.specs.Prelude.{◌≡◌, ℕ, List, [], ◌∷◌, ◌++◌}
 use Rattle.std.proofs.Common.{refl, sym, ap, subst, ◌∙◌, append-nil, append_assoc}
 use Rattle.causes.specs.Written.{Leaves}
-use Rattle.causes.proofs.WritesInTurn.{Appends-nil, leaves_all, leaves_less, leaves_none, part_of_all, part_of_front, writes_nothing}
+use Rattle.causes.proofs.WritesInTurn.{Appends-nil, leaves_all, leaves_less, leaves_none, part_of_all, part_of_front}
+use Rattle.causes.proofs.WritesInTurn.{writes_nothing}
 use Rattle.station_io.specs.Sink.{Outlet}
 use Rattle.station_replay.specs.Replay.{Item}
 use Rattle.station_replay.specs.Texts.{text, item_text}
@@ -11,7 +12,8 @@ use Rattle.schedule_replay.specs.Writing.{IsFrontWritten, IsWritten}
 
 pub text_join : (xs ys : List Item) → text (xs ++ ys) ≡ text xs ++ text ys
 text_join [] ys = refl
-text_join (x ∷ xs) ys = ap (λ z. item_text x ++ z) (text_join xs ys) ∙ sym (append_assoc (item_text x) (text xs) (text ys))
+text_join (x ∷ xs) ys =
+    ap (λ z. item_text x ++ z) (text_join xs ys) ∙ sym (append_assoc (item_text x) (text xs) (text ys))
 
 module _ {K : Type 0} (outlet : Outlet K) where
   -- the first text was written, and of both the second is left
@@ -48,7 +50,8 @@ module _ {K : Type 0} (outlet : Outlet K) where
   second_cut a b c s t one two =
       let (left, whole) = two.front in
       record {
-        part = part_of_all (outlet.taken a) (outlet.taken b) (outlet.taken c) (s ++ t) t (second_left a b s t one) two.part;
+        part = part_of_all (outlet.taken a) (outlet.taken b) (outlet.taken c) (s ++ t) t
+            (second_left a b s t one) two.part;
         written = s ++ two.written;
         front = (left, append_assoc s two.written left ∙ ap (λ (l : List ℕ). s ++ l) whole);
         wrote = outlet.wrote_joins a b c s two.written one.wrote two.wrote;

@@ -19,7 +19,8 @@ use Rattle.schedule_replay.specs.Telling.{Telling}
 
 -- The run came to its end: behind the items before, those given are the closing of the run. They are told, all is kept,
 -- and in this run the line and the disk took part.
-pub record EndsRun {T : Type 0} (telling : Telling T) (settings : StationSettings) (from : Stage) (steps : List ReplayStep)
+pub record EndsRun {T : Type 0} (telling : Telling T) (settings : StationSettings) (from : Stage)
+    (steps : List ReplayStep)
     (items : List Item) (before after : Sim) (disk : Stopping MemDisk) (old new : T) : Type 0 where
   pub given : List Item
   pub kept : Kept settings (records steps) (items ++ given)

@@ -49,5 +49,6 @@ pub record IsOnlyRead (old new : Stopping MemDisk) : Type 0 where
   pub state : stopping_state_of new ≡ stopping_state_of old
   pub stays : Stays stopping_medium old new
   pub rests : (openings : ℕ) (a : Archive) → AtRest openings a old → AtRest openings a new
-  pub goes_on : (settings : StationSettings) (rows : List Row) (session : Session) → SessionGoesOn settings rows session old
+  pub goes_on : (settings : StationSettings) (rows : List Row) (session : Session)
+      → SessionGoesOn settings rows session old
       → SessionGoesOn settings rows session new

@@ -21,7 +21,8 @@ Begin settings course crew = (station : ℕ) (s : Station) → 1 ≤ station →
     → StationStands (settings station) (course station) [] s
 
 -- each station came to what its own turns ended with, and what it wrote are its own lines in this text
-abbrev pub EachRan : {K : Type 0} → (ℕ → StationSettings) → (ℕ → Course) → List (TurnEntry K) → Crew Station → List ℕ → Type 0
+abbrev pub EachRan : {K : Type 0} → (ℕ → StationSettings) → (ℕ → Course) → List (TurnEntry K) → Crew Station → List ℕ
+    → Type 0
 EachRan settings course log crew text = (station : ℕ) (s : Station) → 1 ≤ station
     → slice_get crew.members (station - 1) ≡ Some s
     → TurnsComeTo (end_of_turns (answers_of station log)) (settings station) (course station) []
@@ -40,7 +41,8 @@ RunIsOver Unseen = Unit {0}
 RunIsOver WriteFault = ⊥
 RunIsOver OutOfMemory = ⊥
 
--- These are the lines that `replay` writes of these settings and this course: the text of a run of its steps, and so of each.
+-- These are the lines that `replay` writes of these settings and this course: the text of a run of its steps, and so of
+-- each.
 pub record IsReplayText (settings : StationSettings) (c : Course) (lines : List ℕ) : Type 0 where
   pub run : List Item
   pub is_run : IsReplay settings (course_start c) (course_steps settings c) run

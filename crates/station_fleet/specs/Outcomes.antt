@@ -84,8 +84,8 @@ TurnsComeTo (Some Unseen) settings c items P s = Breaks settings c items P
 TurnsComeTo (Some WriteFault) settings c items P s = Cuts settings c items P
 TurnsComeTo (Some OutOfMemory) settings c items P s = Cuts settings c items P
 
--- A turn with more to come is one of its run: the run counts it, and it is one of those that there are. It says or hears
--- nothing, or begins no change of the disk; within a round it makes one call.
+-- A turn with more to come is one of its run: the run counts it, and it is one of those that there are. It says or
+-- hears nothing, or begins no change of the disk; within a round it makes one call.
 pub record TakesOneTurn (old new : Station) : Type 0 where
   pub counted : new.run.turns ≡ old.run.turns + 1
   pub is_one : IsOneTurn old.run new.run
@@ -120,6 +120,7 @@ TurnsLeadTo old (answer ∷ later) P new = (settings : StationSettings) (c : Cou
     → StationStands settings c items old → TurnsComeTo (end_of_turns (answer ∷ later)) settings c items P new
 
 -- A station became another by turns with these answers, in which it wrote a text of this kind.
-pub record StationTurned (old : Station) (answers : List MemberTurn) (P : List ℕ → Type 0) (new : Station) : Type 0 where
+pub record StationTurned (old : Station) (answers : List MemberTurn) (P : List ℕ → Type 0) (new : Station)
+    : Type 0 where
   pub one_by_one : TurnsOneByOne old answers new
   pub leads_to : TurnsLeadTo old answers P new

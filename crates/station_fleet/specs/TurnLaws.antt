@@ -16,14 +16,16 @@ use Rattle.schedule_replay.specs.Replayed.{TookPart}
 use Rattle.schedule_replay.specs.Replaying.{Course}
 use Rattle.schedule_replay.specs.TextTelling.{text_join}
 use Rattle.station_fleet.specs.declared.station.Station.{Station}
-use Rattle.station_fleet.specs.Outcomes.{TurnsComeTo, TurnsLeadTo, TurnsOneByOne, Cuts, StationStands, StationTurned, end_of_turns, only, course_start, course_steps}
+use Rattle.station_fleet.specs.Outcomes.{TurnsComeTo, TurnsLeadTo, TurnsOneByOne, Cuts, StationStands, StationTurned}
+use Rattle.station_fleet.specs.Outcomes.{end_of_turns, only, course_start, course_steps}
 
 pub turned_none : (s : Station) → StationTurned s [] (λ bytes. bytes ≡ []) s
 turned_none s = record { one_by_one = refl; leads_to = record { same = refl; writes = refl } }
 
 -- what is known of the text may be said less exactly
 pub comes_wider : (end : Option MemberTurn) (settings : StationSettings) (c : Course) (items : List Item)
-    (P Q : List ℕ → Type 0) (s : Station) → ((bytes : List ℕ) → P bytes → Q bytes) → TurnsComeTo end settings c items P s
+    (P Q : List ℕ → Type 0) (s : Station) → ((bytes : List ℕ) → P bytes → Q bytes)
+    → TurnsComeTo end settings c items P s
     → TurnsComeTo end settings c items Q s
 comes_wider None settings c items P Q s wider came = tt
 comes_wider (Some More) settings c items P Q s wider came =
@@ -83,8 +85,10 @@ cuts_behind settings c items given P Q p cut = record {
       (front_behind (text given) cut.written (text cut.given) cut.front);
   writes = texts_join (text given) cut.written p cut.writes;
   is_begun = subst (λ (xs : List Item). RunIsBegun settings (course_start c) (course_steps settings c) xs
-      ⊎ IsReplay settings (course_start c) (course_steps settings c) xs) (append_assoc items given cut.given) cut.is_begun;
-  kept = subst (λ (xs : List Item). Kept settings (records (course_steps settings c)) xs) (append_assoc items given cut.given) cut.kept;
+      ⊎ IsReplay settings (course_start c) (course_steps settings c) xs)
+      (append_assoc items given cut.given) cut.is_begun;
+  kept = subst (λ (xs : List Item). Kept settings (records (course_steps settings c)) xs)
+      (append_assoc items given cut.given) cut.kept;
 }
 
 -- what turns come to that stand behind items which were given
@@ -100,8 +104,10 @@ comes_behind (Some More) settings c items given P Q s p came = record {
 comes_behind (Some Ended) settings c items given P Q s p came = record {
   given = given ++ came.given;
   writes = both_texts P Q given came.given p came.writes;
-  kept = subst (λ (xs : List Item). Kept settings (records (course_steps settings c)) xs) (append_assoc items given came.given) came.kept;
-  took_part = subst (λ (xs : List Item). TookPart settings (course_start c) (course_steps settings c) xs c.before s.line s.disk)
+  kept = subst (λ (xs : List Item). Kept settings (records (course_steps settings c)) xs)
+      (append_assoc items given came.given) came.kept;
+  took_part =
+      subst (λ (xs : List Item). TookPart settings (course_start c) (course_steps settings c) xs c.before s.line s.disk)
       (append_assoc items given came.given) came.took_part;
 }
 comes_behind (Some Unseen) settings c items given P Q s p came = record {
@@ -109,7 +115,8 @@ comes_behind (Some Unseen) settings c items given P Q s p came = record {
   writes = both_texts P Q given came.given p came.writes;
   is_unseen = subst (λ (xs : List Item). IsUnseen settings (course_start c) (course_steps settings c) xs)
       (append_assoc items given came.given) came.is_unseen;
-  kept = subst (λ (xs : List Item). Kept settings (records (course_steps settings c)) xs) (append_assoc items given came.given) came.kept;
+  kept = subst (λ (xs : List Item). Kept settings (records (course_steps settings c)) xs)
+      (append_assoc items given came.given) came.kept;
 }
 comes_behind (Some WriteFault) settings c items given P Q s p came = cuts_behind settings c items given P Q p came
 comes_behind (Some OutOfMemory) settings c items given P Q s p came = cuts_behind settings c items given P Q p came
@@ -123,7 +130,8 @@ end_behind (Some WriteFault) later = None
 end_behind (Some OutOfMemory) later = None
 end_behind None later = None
 
-none_behind : (answer : MemberTurn) (first : List MemberTurn) (next : MemberTurn) (later : List MemberTurn) → answer ≢ More
+none_behind : (answer : MemberTurn) (first : List MemberTurn) (next : MemberTurn) (later : List MemberTurn)
+    → answer ≢ More
     → only answer (first ++ next ∷ later) ≡ end_behind (only answer first) (end_of_turns (next ∷ later))
 none_behind More first next later goes = absurd (goes refl)
 none_behind Ended [] next later goes = refl
@@ -139,8 +147,10 @@ end_joins : (first : List MemberTurn) (next : MemberTurn) (later : List MemberTu
     → end_of_turns (first ++ next ∷ later) ≡ end_behind (end_of_turns first) (end_of_turns (next ∷ later))
 end_joins [] next later = refl
 end_joins (More ∷ first) next later = end_joins first next later
-end_joins (Ended ∷ first) next later = none_behind Ended first next later (λ e. absurd (let no : Ended ≡ More = e in cc))
-end_joins (Unseen ∷ first) next later = none_behind Unseen first next later (λ e. absurd (let no : Unseen ≡ More = e in cc))
+end_joins (Ended ∷ first) next later =
+    none_behind Ended first next later (λ e. absurd (let no : Ended ≡ More = e in cc))
+end_joins (Unseen ∷ first) next later =
+    none_behind Unseen first next later (λ e. absurd (let no : Unseen ≡ More = e in cc))
 end_joins (WriteFault ∷ first) next later =
     none_behind WriteFault first next later (λ e. absurd (let no : WriteFault ≡ More = e in cc))
 end_joins (OutOfMemory ∷ first) next later =
