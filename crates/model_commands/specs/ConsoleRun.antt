@@ -1,4 +1,5 @@
--- What a run does that serves a modelled console: its two readings, its one connect, the serving, and what is given of it.
+-- What a run does that serves a modelled console: its two readings, its one connect, the serving, and what is given of
+-- it.
 use Rattle.std.specs.Prelude.{ℕ, ◌≡◌, ◌⊎◌, List, [], ◌∷◌, ◌++◌, IfErr, IfOk, codes, decimal}
 use Rattle.std.specs.declared.result.Result.{Result}
 use Rattle.causes.specs.Cause.{Rose}
@@ -85,9 +86,10 @@ pub record serves {L : Type 0} (traffic : Traffic L) (before : Console) (turns :
       (end ≡ serve_end.LinkFault) (end ≡ serve_end.OutOfMemory) new
   pub given : output_of result ≡ served_output end count
 
--- The settings are read and judged, then the schedule for their period, the console is made, a call is waited for at the
--- address, and the console is served over it.
-abbrev pub serves_files : {F K L D : Type 0} → Meanings F K L D → ConsoleNames → steps.CommandStep (Outside F K L D) Lines
+-- The settings are read and judged, then the schedule for their period, the console is made, a call is waited for at
+-- the address, and the console is served over it.
+abbrev pub serves_files : {F K L D : Type 0} → Meanings F K L D → ConsoleNames
+    → steps.CommandStep (Outside F K L D) Lines
 serves_files m names =
     then (over_files (settles m.shelf names.settings)) (λ settings.
     then (over_files (reads_schedule m.shelf names.schedule settings.period)) (λ schedule.

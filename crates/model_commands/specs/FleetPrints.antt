@@ -36,7 +36,8 @@ abbrev pub TellsWhatIsWritten : {S : Type 0} → Outlet S → Type 0
 TellsWhatIsWritten {S} outlet = (before after : S) (bytes : List ℕ) → outlet.wrote before bytes after
     → Appends (outlet.taken before) (outlet.taken after) bytes
 
--- These lines are the text of a run of the schedule under these settings, from a new console and an archive that was never opened.
+-- These lines are the text of a run of the schedule under these settings, from a new console and an archive that was
+-- never opened.
 pub record IsTextOfRun (settings : StationSettings) (schedule : Schedule) (lines : List ℕ) : Type 0 where
   pub run : List Item
   pub is_run : IsReplay settings (start (new_memory settings.period) blank_packet) (steps_in schedule) run
@@ -59,9 +60,10 @@ EachPrintsItsReplay outlet settings schedules bytes = (station : ℕ) (schedule 
     → slice_get schedules (station - 1) ≡ Some schedule
     → IsWhatReplaysWrite outlet settings schedule (station_lines station bytes)
 
--- The sink took a text of which the lines of each station are those of its schedule: the text of its run, and what each replay writes to
--- a sink of another kind. If the sink tells its bytes by what is written, they grew by this text.
-pub record PrintsReplays {K S : Type 0} (outlet : Outlet K) (other : Outlet S) (settings : StationSettings) (schedules : List Schedule)
+-- The sink took a text of which the lines of each station are those of its schedule: the text of its run, and what each
+-- replay writes to a sink of another kind. If the sink tells its bytes by what is written, they grew by this text.
+pub record PrintsReplays {K S : Type 0} (outlet : Outlet K) (other : Outlet S) (settings : StationSettings)
+    (schedules : List Schedule)
     (old new : K) : Type 0 where
   pub bytes : List ℕ
   pub wrote : outlet.wrote old bytes new
@@ -70,7 +72,8 @@ pub record PrintsReplays {K S : Type 0} (outlet : Outlet K) (other : Outlet S) (
   pub replays : EachPrintsItsReplay other settings schedules bytes
 
 -- The files of these names were read as these settings and these schedules, one after another.
-pub record ReadsFleet {F K L D : Type 0} (m : Meanings F K L D) (names : FleetNames) (settings : StationSettings) (schedules : Vec Schedule)
+pub record ReadsFleet {F K L D : Type 0} (m : Meanings F K L D) (names : FleetNames) (settings : StationSettings)
+    (schedules : Vec Schedule)
     (old : Outside F K L D) : Type 0 where
   pub settled : Outside F K L D
   pub read : Outside F K L D

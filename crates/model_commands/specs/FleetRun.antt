@@ -1,5 +1,6 @@
 -- What a run does in which stations take turns: its readings, the stations, and how their turns end.
-use Rattle.std.specs.Prelude.{ℕ, ◌≡◌, ◌<◌, ◌≤◌, List, [], ◌∷◌, ◌++◌, IfErr, IfOk, IsOkAnd, IsSomeAnd, codes, decimal, length, slice_index_or}
+use Rattle.std.specs.Prelude.{ℕ, ◌≡◌, ◌<◌, ◌≤◌, List, [], ◌∷◌, ◌++◌, IfErr, IfOk, IsOkAnd, IsSomeAnd, codes, decimal}
+use Rattle.std.specs.Prelude.{length, slice_index_or}
 use Rattle.std.specs.Global.{Vec}
 use Rattle.std.specs.List.{AllZip}
 use Rattle.std.specs.declared.result.Result.{Result}
@@ -41,15 +42,17 @@ use Rattle.model_commands.specs.ScheduleReading.{reads_schedule}
 abbrev pub finds_memory : {W : Type 0} → steps.CommandStep W (Unit {0})
 finds_memory old result new = IfErr result (λ output. output ≡ no_memory) × (new ≡ old)
 
--- the files of schedules are read one after another, for consoles of this period, and their schedules are given behind those that were read
-abbrev pub reads_schedules : {F K L D : Type 0} → Meanings F K L D → ℕ → List Schedule → List (List ℕ) → steps.CommandStep (Outside F K L D) (Vec Schedule)
+-- the files of schedules are read one after another, for consoles of this period, and their schedules are given behind
+-- those that were read
+abbrev pub reads_schedules : {F K L D : Type 0} → Meanings F K L D → ℕ → List Schedule → List (List ℕ)
+    → steps.CommandStep (Outside F K L D) (Vec Schedule)
 reads_schedules m period given [] old result new = IsOkAnd result (λ schedules. schedules.items ≡ given) × (new ≡ old)
 reads_schedules m period given (name ∷ names) old result new =
     then (over_files (reads_schedule m.shelf name period)) (λ schedule.
     then finds_memory (λ _. reads_schedules m period (given ++ schedule ∷ []) names)) old result new
 
--- A station that runs this schedule and has taken no turn. It has a line to a new console of the settings' period, with the blank packet,
--- and a new disk that has room for the schedule's records.
+-- A station that runs this schedule and has taken no turn. It has a line to a new console of the settings' period, with
+-- the blank packet, and a new disk that has room for the schedule's records.
 pub record IsNewStation (settings : StationSettings) (schedule : Schedule) (s : Station) : Type 0 where
   pub is_new : RunIsNew s.run
   pub before : Sim
@@ -57,7 +60,13 @@ pub record IsNewStation (settings : StationSettings) (schedule : Schedule) (s : 
   pub line : LineAt (start (new_memory settings.period) blank_packet) before
   pub disk : IsNewDisk schedule.records (new_memory settings.period) blank_packet made
   pub stands : StationStands settings
-      (record { eeprom = new_memory settings.period; packet = blank_packet; steps = schedule.steps.items; before = before; made = made }) [] s
+      (record {
+        eeprom = new_memory settings.period;
+        packet = blank_packet;
+        steps = schedule.steps.items;
+        before = before;
+        made = made;
+      }) [] s
 
 -- a station is made for each schedule, or there is no memory for them
 abbrev pub makes_stations : {W : Type 0} → StationSettings → List Schedule → steps.CommandStep W (Vec Station)
@@ -68,18 +77,21 @@ makes_stations settings schedules old result new =
 -- `fleet stations`, how many there are, and the numbers of turns and switches
 abbrev pub fleet_line : ℕ → ℕ → ℕ → List ℕ
 fleet_line stations turns switches =
-    codes "fleet stations " ++ decimal stations ++ codes " turns " ++ decimal turns ++ codes " switches " ++ decimal switches ++ codes "\n"
+    codes "fleet stations " ++ decimal stations ++ codes " turns " ++ decimal turns ++ codes " switches "
+    ++ decimal switches ++ codes "\n"
 
 -- what is written behind the turns of so many stations that ended so
 abbrev pub fleet_output : ℕ → FleetEnd → Output
-fleet_output stations (fleet_end.Done turns switches) = record { text = fleet_line stations turns switches; status = ends.Done }
+fleet_output stations (fleet_end.Done turns switches) =
+    record { text = fleet_line stations turns switches; status = ends.Done }
 fleet_output stations (fleet_end.Unseen station) = record { text = []; status = ends.Unseen }
 fleet_output stations fleet_end.WriteFault = write_fault
 fleet_output stations fleet_end.OutOfMemory = no_memory
 
--- The stations, of which none had ended, took turns as they were drawn behind the seed. The sink took the lines of their turns, each with the
--- number of its station, and what came of that is given.
-pub record takes_turns {S : Type 0} (outlet : Outlet S) (seed : ℕ) (stations : List Station) (old : S) (result : Result Lines Output)
+-- The stations, of which none had ended, took turns as they were drawn behind the seed. The sink took the lines of
+-- their turns, each with the number of its station, and what came of that is given.
+pub record takes_turns {S : Type 0} (outlet : Outlet S) (seed : ℕ) (stations : List Station) (old : S)
+    (result : Result Lines Output)
     (new : S) : Type 0 where
   pub opening : Crew Station
   pub after : Crew Station
@@ -90,8 +102,8 @@ pub record takes_turns {S : Type 0} (outlet : Outlet S) (seed : ℕ) (stations :
   pub ran : RunsFleet station_turning outlet seed opening old end after new
   pub given : output_of result ≡ fleet_output (length stations) end
 
--- The settings are read and judged, then each schedule for their period, in the order of their names. Then the stations are made, and
--- take turns.
+-- The settings are read and judged, then each schedule for their period, in the order of their names. Then the stations
+-- are made, and take turns.
 abbrev pub fleets : {F K L D : Type 0} → Meanings F K L D → FleetNames → steps.CommandStep (Outside F K L D) Lines
 fleets m names =
     then (over_files (settles m.shelf names.settings)) (λ settings.

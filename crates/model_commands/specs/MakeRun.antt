@@ -30,10 +30,11 @@ rows_line counts = codes "rows " ++ decimal counts.rows ++ codes " days " ++ dec
 abbrev pub counts_lines : ℕ → Counts → List ℕ
 counts_lines records counts = made_line records counts ++ endings_line counts ++ harmed_line counts ++ rows_line counts
 
--- what is given of the schedule that is made from the seed: the counts of a whole run of it, by the rules, of which all is
--- kept and no delivery was unseen; or there was no memory for it
+-- what is given of the schedule that is made from the seed: the counts of a whole run of it, by the rules, of which all
+-- is kept and no delivery was unseen; or there was no memory for it
 abbrev pub MakesRun : ℕ → ℕ → Result Lines Output → Type 0
-MakesRun seed records (Ok text) = (counts : Counts) × CountsRun seed records counts × (text.items ≡ counts_lines records counts)
+MakesRun seed records (Ok text) =
+    (counts : Counts) × CountsRun seed records counts × (text.items ≡ counts_lines records counts)
 MakesRun seed records (Err output) = output ≡ no_memory
 
 -- the schedule is made and run, and nothing outside is touched

@@ -34,7 +34,8 @@ replay_status replay_end.WriteFault = ends.WriteFault
 replay_status replay_end.OutOfMemory = ends.OutOfMemory
 
 -- what is written of a run, by how its replay ends: all its items, those up to a delivery that was unseen, or a prefix
-abbrev pub WritesRun : ReplayEnd → StationSettings → Stage → List ReplayStep → Option (List ℕ) → Option (List ℕ) → Type 0
+abbrev pub WritesRun : ReplayEnd → StationSettings → Stage → List ReplayStep → Option (List ℕ) → Option (List ℕ)
+    → Type 0
 WritesRun replay_end.Done settings from steps old new = IsReplayed false settings from steps old new
 WritesRun replay_end.Unseen settings from steps old new = IsReplayed true settings from steps old new
 WritesRun other settings from steps old new = ReplayIsCutOff settings from steps old new
@@ -44,13 +45,15 @@ WritesRun other settings from steps old new = ReplayIsCutOff settings from steps
 pub record replays {S : Type 0} (outlet : Outlet S) (settings : StationSettings) (steps : List ReplayStep)
     (old : S) (result : Result Lines Output) (new : S) : Type 0 where
   pub end : ReplayEnd
-  pub written : WritesRun end settings (start (new_memory settings.period) blank_packet) steps (outlet.taken old) (outlet.taken new)
+  pub written : WritesRun end settings (start (new_memory settings.period) blank_packet) steps (outlet.taken old)
+      (outlet.taken new)
   pub cause : Cause (outlet.faults old) (outlet.faults new) (end ≡ replay_end.WriteFault)
   pub still : end ≢ replay_end.WriteFault → outlet.faults new ≡ outlet.faults old
   pub given : output_of result ≡ record { text = []; status = replay_status end }
 
 -- The settings are read and judged, then the schedule for their period, and it is replayed.
-abbrev pub replays_files : {F K L D : Type 0} → Meanings F K L D → List ℕ → List ℕ → steps.CommandStep (Outside F K L D) Lines
+abbrev pub replays_files : {F K L D : Type 0} → Meanings F K L D → List ℕ → List ℕ
+    → steps.CommandStep (Outside F K L D) Lines
 replays_files m settings schedule =
     then (over_files (settles m.shelf settings)) (λ settings.
     then (over_files (reads_schedule m.shelf schedule settings.period)) (λ schedule.

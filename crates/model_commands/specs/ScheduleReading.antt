@@ -23,9 +23,11 @@ bad_schedule fault = record { text = schedule_fault_line fault; status = ends.Ba
 
 -- what a text says to a console of this period: a schedule or its first fault, or there was no memory
 abbrev pub SaysSchedule : List ℕ → ℕ → Result Schedule Output → Type 0
-SaysSchedule text period (Ok schedule) = ScheduleReadsAs (said_by_text text period) (Ok schedule) × (schedule.period ≡ period)
+SaysSchedule text period (Ok schedule) =
+    ScheduleReadsAs (said_by_text text period) (Ok schedule) × (schedule.period ≡ period)
 SaysSchedule text period (Err output) =
-    (output ≡ no_memory) ⊎ ((fault : LineFault) × (said_by_text text period ≡ Err fault) × (output ≡ bad_schedule fault))
+    (output ≡ no_memory) ⊎ ((fault : LineFault) × (said_by_text text period ≡ Err fault)
+    × (output ≡ bad_schedule fault))
 
 -- the schedule of a text, without a call
 abbrev pub says_schedule : {F : Type 0} → List ℕ → ℕ → CommandStep F Schedule

@@ -6,7 +6,8 @@ use Rattle.causes.specs.Cause.{Cause}
 use Rattle.serial_link.specs.Traffic.{Traffic}
 use Rattle.station_io.specs.Sink.{Outlet}
 use Rattle.command_words.specs.declared.task.Task.{Task}
-use Rattle.command_words.specs.Command.{CommandLine, ConsoleNames, pages, corrected_pages, soft, task, report, climate, serve, replay, copy, import, station}
+use Rattle.command_words.specs.Command.{CommandLine, ConsoleNames, pages, corrected_pages, soft, task, report, climate}
+use Rattle.command_words.specs.Command.{serve, replay, copy, import, station}
 use Rattle.command_words.specs.Command.{console, fleet, make, stay}
 use Rattle.commands.specs.AnswerRun.{answers_over}
 use Rattle.commands.specs.ClimateRun.{tells_climate}
@@ -61,12 +62,13 @@ performs m (fleet names) = fleets m names
 performs m (make seed records) = makes_run seed records
 
 -- what the words do: those of a command what it does, and other words nothing
-abbrev pub performs_words : {F K L D : Type 0} → Meanings F K L D → Option CommandLine → CommandStep (Outside F K L D) Lines
+abbrev pub performs_words : {F K L D : Type 0} → Meanings F K L D → Option CommandLine
+    → CommandStep (Outside F K L D) Lines
 performs_words m (Some command) = performs m command
 performs_words m None = λ old result new. (result ≡ Err usage) × (new ≡ old)
 
--- the statuses of a run in which a call of a disk may have failed too: that of a write fault, and, of an archive that is served, those
--- of the link
+-- the statuses of a run in which a call of a disk may have failed too: that of a write fault, and, of an archive that
+-- is served, those of the link
 abbrev pub may_hide : CommandLine → List Status
 may_hide (serve archive address turns) = ends.LinkFault ∷ ends.WriteFault ∷ ends.OutOfMemory ∷ []
 may_hide other = ends.WriteFault ∷ []
@@ -85,23 +87,24 @@ pub record Performs {F K L D : Type 0} (m : Meanings F K L D) (command : Command
   pub alone : new ≡ record mid { out = new.out }
   pub written : RunEndsWith m.outlet (output_of ended) mid.out new.out result
 
--- A task that what was said and heard shows as done ends so, unless its line could not be written. It takes no memory: it ends for
--- want of memory only where the link had none.
+-- A task that what was said and heard shows as done ends so, unless its line could not be written. It takes no memory:
+-- it ends for want of memory only where the link had none.
 pub record TaskPromises {L : Type 0} (traffic : Traffic L) (asked : Task) (old new : L) (result : ℕ) : Type 0 where
   pub done : ShowsDone traffic asked old new → IsOneOf (0 ∷ 9 ∷ []) result
   pub shortage : Cause (traffic.shortages old) (traffic.shortages new) (result ≡ 12)
 
--- Under good settings a console is served after a good schedule, unless the outside or the memory fails. A console that was
--- called takes no memory: before a call is waited for there may be none for the files or for the console.
+-- Under good settings a console is served after a good schedule, unless the outside or the memory fails. A console that
+-- was called takes no memory: before a call is waited for there may be none for the files or for the console.
 pub record ConsolePromises {F K L D : Type 0} (m : Meanings F K L D) (names : ConsoleNames) (old new : Outside F K L D)
     (result : ℕ) : Type 0 where
   pub served : HasGoodFiles m.shelf names.settings names.schedule old.files → IsOneOf (0 ∷ 6 ∷ 8 ∷ 9 ∷ 12 ∷ []) result
   pub shortage : result ≡ 12 → IsUntouchedOrShort m.traffic old.link new.link
 
--- What a command comes to by good input, or by a talk that shows it: it is done, a schedule, or each one of a fleet, is replayed to its
--- end or to a delivery that was unseen, and only such a fault of the outside or want of memory keeps the command from that. A stay may end
--- too with a dead line, and a stay or an import with a full archive.
-abbrev pub Promises : {F K L D : Type 0} → Meanings F K L D → CommandLine → Outside F K L D → Outside F K L D → ℕ → Type 0
+-- What a command comes to by good input, or by a talk that shows it: it is done, a schedule, or each one of a fleet, is
+-- replayed to its end or to a delivery that was unseen, and only such a fault of the outside or want of memory keeps
+-- the command from that. A stay may end too with a dead line, and a stay or an import with a full archive.
+abbrev pub Promises : {F K L D : Type 0} → Meanings F K L D → CommandLine → Outside F K L D → Outside F K L D → ℕ
+    → Type 0
 Promises m (pages file) old new result =
     IsSomeAnd (m.shelf.held old.files file) IsGoodFile → IsOneOf (0 ∷ 8 ∷ 9 ∷ 12 ∷ []) result
 Promises m (corrected_pages settings file) old new result =
