@@ -1,149 +1,84 @@
 #!/usr/bin/env python3
 """Tries stays of a built program: round after round over one line, to consoles that are played here.
 
-    tools/try_stay.py PROGRAM [SCALE]
+    tools/try_stay.py [--kills N] [--reports N] [--alike N] [--rounds N] [--asleep N] [--rows N] [--at-once N] \
+        [--first N] [--quick N] [--only CASE ..] PROGRAM
 
-The lines are cut, consoles sleep, fall silent, flood, or set their clocks back, and stays are killed. Behind each run the
-archive has to have the first of the console's records, in order, and at least those that a round counted. SCALE is a whole
-number, and 1 if it is left out: so many times as many runs and rounds are made, and archives are so many times as long.
+The lines are cut, consoles sleep, fall silent, flood, or set their clocks back, and stays are killed. Behind each run the archive
+has to have the first of the console's records, in order, and at least those that were acknowledged and those that a round counted.
+The words choose how many stays are killed, how many reports are made beside one, how many stays are held against runs of `station`,
+how many rounds the memory is looked at for, for how many rounds a console sleeps, how many rows the longer of two archives has
+whose rounds are counted by instructions, how many runs of a case are made at once, the number of the first one, and by what waits
+are divided in the stays that are killed or held against `station`: on a busy machine 1 is best. Left out they are few, and the
+cases take a minute or two.
 
 Waits are made shorter, which takes a C compiler. A case that cannot be run here is named with the reason: one
 takes strace, and one valgrind. The last line is 'N passed, M failed', and the status is 1 if any failed.
 """
+import argparse
 import random
 import re
 import signal
-import socket
-import struct
 import subprocess
 import sys
 import time
 from concurrent.futures import ThreadPoolExecutor
-from contextlib import suppress
-from datetime import datetime, timedelta
+from datetime import datetime
 from pathlib import Path
 from threading import Thread
+from typing import NamedTuple
 
 sys.dont_write_bytecode = True  # nothing is left beside the scripts
 
 import trying
-from fake_console import ACK, CANCEL, FLOOD_BYTES, WAKE_ANSWER, pages_of, record, sealed, words_of
-from trying import Differs, Ended, hold, need, try_all
+from fake_console import FLOOD_BYTES
+from stay_console import FIRST, PERIOD, Console, Fault, Kind
+from trying import LONGEST, MOST_TEXT, Differs, Ended, hold, need, try_all
 
 TOOLS = Path(__file__).resolve().parent
 QUICK_WAITS = TOOLS / 'quick_waits.c'
 MADE_ARCHIVE = TOOLS.parent / 'bench' / 'made_archive.py'
-HERE = '127.0.0.1'
-FIRST = datetime(2024, 7, 1, 0, 5)
-PERIOD = timedelta(minutes=5)
 LAST_OF_MADE = datetime(1999, 12, 31, 23, 55)  # a made archive of N rows ends N periods behind it
-FRAME_BYTES = 6
 MOST_ROUNDS = 1_000_000
-QUICK, QUICKER = 5, 20  # by which waits are divided: where what was said must not come late, and where many pass
+QUIET = 0.4  # seconds of a quiet wait
+QUICK, QUICKER, QUICKEST = 5, 20, 50  # by which waits are divided: where what was said must not come late, and where many pass
 WAKES = 9  # line feeds of a round for which nobody wakes
-LATEST_KILL, ROUNDS_AGAIN = 1.5, 3  # seconds after the start, and rounds of the next stay
+LATEST_KILL, LATEST_BEHIND_PAGE = 40, 0.004  # quiet waits after the start, and seconds after a page was said
+FIRST_PAGES = 12  # pages of a first dump
 GIVE_UPS = 12  # rounds in a row that end a stay
 ROUND = re.compile(r'^round (\w+) attempts \d+ pages \d+ skipped 0 acked (\d+) rows (\d+)$', re.M)
 ROW = re.compile(r'^row (\S+ \S+) 5 ', re.M)
 ALL_ROWS = 'rows 1999-12-31 2127-12-31'
 DONE, DEAD, CUT = 0, 4, 6
 SIGNALS = signal.SIGKILL, signal.SIGTERM
-SCALE = 1
 
-# How much is tried, each times the scale.
-RUNS_CUT, RUNS_KILLED, RUNS_ALIKE, REPORTS = 20, 20, 20, 20
-ROUNDS_TRACED, ROUNDS_OF_MEMORY, LONG_ARCHIVE = 10, 100, 10_000
-RUNS_AT_ONCE = 8
+RUNS_CUT, CUTS_BETWEEN = 20, (1, 2, 4)  # lines that are cut anywhere, and behind so many rounds
+SILENT_WAITS = 20  # quiet waits that pass behind a round before its line is cut
+ANSWERS_OF_ROUND, MOST_LATE = 25, 1.5  # answers of a round that may have a fault, and quiet waits by which one may be late
+TRIES = 4  # of a run that another process may have made unlike
+READS = 'read,readv,pread64,preadv,preadv2,sendfile,splice,copy_file_range'
+LONGEST_BY_HAND = 1800  # seconds that one run may take if more is tried
+ROUNDS_TRACED = 50
 MOST_MEMORY = 4096  # KiB
 SHORT_ARCHIVE = 1000  # rows
 ROUNDS_COUNTED = 4
 MOST_UNLIKE = 0.01  # the part by which the instructions of a round may differ
 
 
-class Gone(Exception):
-    """The line is no more."""
+class Chosen(NamedTuple):
+    """How much is tried."""
+    kills: int = 20
+    reports: int = 20
+    alike: int = 20
+    rounds: int = 100
+    asleep: int = 24
+    rows: int = 10_000
+    at_once: int = 8
+    first: int = 0
+    quick: int = QUICK
 
 
-class Console(Thread):
-    """A console at a port of this machine, for one caller after another. It has some records, and some more behind each dump.
-
-    It ends the line once it has said `cut` bytes. It hears nothing of the line feeds whose numbers are in `deaf`. Behind each
-    dump it says `talk`.
-    """
-
-    def __init__(self, records=12, more=1, cut=None, deaf=(), talk=b'', first=FIRST):
-        super().__init__(daemon=True)
-        self.stamps = [first + number * PERIOD for number in range(records)]
-        self.more, self.left, self.deaf, self.talk = more, cut, deaf, talk
-        self.fed = self.dumps = 0
-        self.door = socket.create_server((HERE, 0))
-        self.door.settimeout(trying.LONGEST)
-        self.address = f'{HERE}:{self.door.getsockname()[1]}'
-        self.start()
-
-    def run(self):
-        with suppress(TimeoutError), self.door:
-            while True:
-                with self.door.accept()[0] as self.line, suppress(OSError, Gone):
-                    self.line.setsockopt(socket.IPPROTO_TCP, socket.TCP_NODELAY, 1)
-                    while True:
-                        self.answer(self.hear_line())
-
-    def hear(self, count):
-        """So many bytes."""
-        heard = self.line.recv(count, socket.MSG_WAITALL)
-        if len(heard) < count:
-            raise Gone
-        return heard
-
-    def hear_line(self):
-        """The bytes up to a line feed, but for the bytes that end a dump."""
-        line = b''
-        while not line.endswith(b'\n'):
-            line += self.hear(1)
-            line = line.lstrip(ACK + CANCEL)
-        return line
-
-    def say(self, data):
-        """Says these bytes, or those up to the cut."""
-        self.line.sendall(data[:self.left])
-        if self.left is not None:
-            self.left -= len(data)
-            if self.left <= 0:
-                raise Gone
-
-    def answer(self, line):
-        """Answers a line."""
-        if line == b'\n':
-            self.fed += 1
-            if self.fed - 1 not in self.deaf:
-                self.say(WAKE_ANSWER)
-        elif line == b'DMPAFT\n':
-            self.dump()
-            self.dumps += 1
-            self.grow()
-            self.say(self.talk)
-
-    def grow(self):
-        """Records fall due."""
-        for _ in range(self.more):
-            self.stamps.append(self.stamps[-1] + PERIOD)
-
-    def behind(self, after):
-        """The stamps of the records behind the last one of this stamp; of all records, where none has it."""
-        places = [place for place, stamp in enumerate(self.stamps) if words_of(stamp) == after]
-        return self.stamps[places[-1] + 1:] if places else list(self.stamps)
-
-    def dump(self):
-        """Sends the pages of the records that are later than the one that is named."""
-        self.say(ACK)
-        after = struct.unpack('<HH', self.hear(FRAME_BYTES)[:4])
-        pages = pages_of([record(stamp) for stamp in self.behind(after)])
-        self.say(ACK + sealed(struct.pack('<HH', len(pages), 0)))
-        for page in pages:
-            if self.hear(1) != ACK:
-                return
-            self.say(page)
+HOW_MUCH = Chosen()
 
 
 def stay(console, rounds, waits=1):
@@ -169,13 +104,16 @@ def shown(program, archive='archive'):
 
 
 def hold_archive(program, console, printed, archive='archive'):
-    """Holds that the rows are the first of the console's records, in order, and at least those that a round counted."""
+    """Holds that the rows are the first of the console's records, in order, and at least those that were acknowledged and those
+    that a round counted."""
+    if not console.idle.wait(LONGEST):
+        raise Differs('the console still talks')
     rows = shown(program, archive)
     wanted = [f'{stamp:%Y-%m-%d %H:%M}' for stamp in console.stamps]
     hold('the rows', rows, wanted[:len(rows)])
-    counted = [int(found[1]) for found in ROUND.findall(printed)]
-    if rows and counted and len(rows) < counted[-1]:
-        raise Differs(f'{len(rows)} rows, and {counted[-1]} were counted')
+    least = max([console.acknowledged, *(int(found[1]) for found in ROUND.findall(printed))])
+    if len(rows) < least:
+        raise Differs(f'{len(rows)} rows, and {least} were acknowledged')
 
 
 def hold_rounds(ended, status, last):
@@ -188,9 +126,17 @@ def hold_rounds(ended, status, last):
 
 
 def many(tries, case):
-    """Makes so many runs, some at once, each by its number."""
-    with ThreadPoolExecutor(RUNS_AT_ONCE) as pool:
-        list(pool.map(case, range(tries)))
+    """Makes so many runs, some at once, each by its number; gives what each gives. A run that fails is named even if all are tried
+    again."""
+    def once(number):
+        try:
+            return case(number)
+        except Exception as reason:
+            print(f'run {number}: {reason!r:.{MOST_TEXT}}', file=sys.stderr)
+            raise
+
+    with ThreadPoolExecutor(HOW_MUCH.at_once) as pool:
+        return list(pool.map(once, range(HOW_MUCH.first, HOW_MUCH.first + tries)))
 
 
 def line_that_is_cut(program):
@@ -205,29 +151,63 @@ def line_that_is_cut(program):
         hold('the rounds before the last one', set(ends[:-1]) - {'ok', 'gaveup'}, set())
         hold_archive(program, console, ended.printed, archive)
 
-    many(RUNS_CUT * SCALE, once)
+    many(RUNS_CUT, once)
+
+
+def line_that_is_cut_between_rounds(program):
+    """A line that ends between two rounds ends the run with 6, and the rounds so far are counted."""
+    environment = quick(program)
+    for rounds in CUTS_BETWEEN:
+        console = Console(more=2, rounds=rounds, pause=SILENT_WAITS * QUIET / QUICK)
+        ended = program.run(stay(console, 20, 2 * SILENT_WAITS), env=environment)
+        hold('the rounds', hold_rounds(ended, CUT, 'link fault\n'), ['ok'] * rounds)
+        hold_archive(program, console, ended.printed)
+        (program.folder / 'archive').unlink()
+
+
+def wait_for_moment(console, draw, with_page):
+    """Waits for a random moment of a stay: some time behind its start, or just behind a page."""
+    latest = LATEST_KILL * QUIET / HOW_MUCH.quick
+    if with_page:
+        console.came.wait(latest)
+        time.sleep(draw.uniform(0, LATEST_BEHIND_PAGE))
+    else:
+        time.sleep(draw.uniform(0, latest))
 
 
 def stay_that_is_killed(program):
-    """A stay that is ended at any moment leaves the rows that it counted, and the next one goes on from there."""
-    environment = quick(program, QUICKER)
+    """A stay that is ended at any moment leaves the rows that were acknowledged or counted, and the next one goes on from there.
+    One half are ended by SIGKILL and one half by SIGTERM; of each a half just behind a page."""
+    environment = quick(program, HOW_MUCH.quick)
 
-    def once(number):
-        console, archive, by = Console(records=60, more=3), f'archive{number}', SIGNALS[number % len(SIGNALS)]
+    def ended_at_random(number, archive, console):
+        draw, with_page, by = random.Random(number), number // 2 % 2 == 0, SIGNALS[number % 2]
+        console.awaited = draw.randint(1, 2 * FIRST_PAGES)
         words = stay(console, MOST_ROUNDS, 0).replace(' archive ', f' {archive} ')
         with program.start(words, env=environment) as run:
-            time.sleep(random.Random(number).uniform(0, LATEST_KILL))
+            wait_for_moment(console, draw, with_page)
             run.process.send_signal(by)
             ended = run.end()
         hold('the status', ended.status, -by)
         if (program.folder / archive).exists():
             hold_archive(program, console, ended.printed, archive)
-        again = Console(records=len(console.stamps), more=0)
-        ended = program.run(stay(again, ROUNDS_AGAIN).replace(' archive ', f' {archive} '), env=environment)
-        hold('the rounds of the next stay', set(hold_rounds(ended, DONE, '')) - {'gaveup'}, {'ok'})  # gaveup: others ran
-        hold('the rows then', len(shown(program, archive)), len(again.stamps))
+        return console.said is not None
 
-    many(RUNS_KILLED * SCALE, once)
+    def once(number):
+        archive = f'archive{number}'
+        with Console(records=60, more=7) as console:
+            is_within = ended_at_random(number, archive, console)
+        with Console(records=len(console.stamps), more=0) as console:
+            for _ in range(TRIES):  # a round gives up if others ran
+                ended = program.run(stay(console, 1).replace(' archive ', f' {archive} '), env=environment)
+                if 'ok' in hold_rounds(ended, DONE, ''):
+                    break
+        hold('the rows then', len(shown(program, archive)), len(console.stamps))
+        (program.folder / archive).unlink()
+        return is_within
+
+    within = many(HOW_MUCH.kills, once)
+    print(f'{len(within)} stays were ended, {sum(within)} of them before they acknowledged a page that was said')
 
 
 def end_by_a_signal(program):
@@ -253,6 +233,26 @@ def sleeping_console(program):
     ends = hold_rounds(program.run(stay(console, GIVE_UPS), env=environment), DONE, '')
     hold('the rounds', ends, ['gaveup'] * (GIVE_UPS - 1) + ['ok'])
     hold('the rows', len(shown(program)), 12)
+
+
+def console_asleep_for_a_day(program):
+    """Stays that are begun again and again, as the unit begins them, take all records once a console that slept answers."""
+    environment = quick(program, QUICKER)
+    console = Console(more=0, deaf=range(1, 1 + HOW_MUCH.asleep * WAKES))
+    statuses, printed = [], ''
+    for _ in range(HOW_MUCH.asleep // GIVE_UPS):
+        ended = program.run(stay(console, 20), env=environment)
+        statuses.append(ended.status)
+        printed += ended.printed
+    hold('the statuses', statuses, [DEAD] * (HOW_MUCH.asleep // GIVE_UPS))
+    hold('the rows', len(shown(program)), 12)
+    for _ in range(HOW_MUCH.asleep):
+        console.stamps.append(console.stamps[-1] + PERIOD)
+    ends = hold_rounds(program.run(stay(console, HOW_MUCH.asleep % GIVE_UPS + 2), env=environment), DONE, '')
+    hold('the last round', ends[-1], 'ok')
+    hold('the rounds that gave up', printed.count('round gaveup') + ends.count('gaveup') >= HOW_MUCH.asleep, True)
+    hold('the rows', len(shown(program)), 12 + HOW_MUCH.asleep)
+    hold_archive(program, console, printed)
 
 
 def silent_line(program):
@@ -288,52 +288,91 @@ def clock_that_goes_back(program):
     hold('the rows', shown(program), [f'{FIRST + number * PERIOD:%Y-%m-%d %H:%M}' for number in range(12)])
 
 
-def runs_of_station(program):
-    """A stay prints the lines of as many runs of `station`, and leaves the same archive."""
+def one_round(program):
+    """A stay of one round prints the lines of `station`, and `stayed 1` behind them."""
     environment = quick(program)
+    for number, faults in enumerate(({}, {2: Fault(Kind.LOST)}, {4: Fault(Kind.CHANGED, 9)})):
+        printed = [program.run(words, env=environment) for words in (
+            stay(Console(records=9, faults=faults), 1, 750).replace(' archive ', f' archive{number} '),
+            f'station settings other{number} {Console(records=9, faults=faults).address}')]
+        hold('the stay', printed[0], Ended(DONE, f'{printed[1].printed}stayed 1\n'))
+        hold('the archive', program.read(f'archive{number}') == program.read(f'other{number}'), True)
+
+
+def random_faults(draw, answers):
+    """Faults of a line at some of so many answers."""
+    def fault():
+        kind = draw.choice(list(Kind))
+        late = draw.uniform(0.1, MOST_LATE) * QUIET / HOW_MUCH.quick
+        return Fault(kind, late if kind is Kind.LATE else draw.randrange(1 << 16))
+
+    often = draw.choice((0, 0.03, 0.1, 0.3))
+    return {number: fault() for number in range(answers) if draw.random() < often}
+
+
+def lines_of_runs(runs):
+    """What a stay has to print in place of runs of `station`."""
+    return ''.join(run.printed for run in runs).replace('gave up\n', '') + f'stayed {len(runs)}\n'
+
+
+def runs_of_station(program):
+    """A stay prints the lines of as many runs of `station`, and leaves the same archive, over a line that loses, cuts, changes and
+    delays answers at random. Records are made between the rounds. A time that another process took can make the two differ, so
+    a difference has to come each time."""
+    environment = quick(program, HOW_MUCH.quick)
 
     def once(number):
         draw = random.Random(number)
-        rounds, chosen = draw.randint(1, 4), {'records': draw.randint(1, 30), 'more': draw.randint(0, 7)}
-        chosen['deaf'] = {draw.randrange(rounds * WAKES) for _ in range(draw.randint(0, 12))}
-        archive, other = f'archive{number}', f'other{number}'
-        ended = program.run(stay(Console(**chosen), rounds).replace(' archive ', f' {archive} '), env=environment)
-        console = Console(**chosen)
-        runs = [program.run(f'station settings {other} {console.address}', env=environment) for _ in range(rounds)]
-        lines = ''.join(run.printed for run in runs).replace('gave up\n', '')
-        hold('the stay', ended, Ended(DONE, f'{lines}stayed {rounds}\n'))
-        hold('the archive', program.read(archive) == program.read(other), True)
+        rounds, chosen = draw.randint(1, 4), {'records': draw.randint(1, 60), 'more': draw.randint(0, 12)}
+        chosen['faults'] = random_faults(draw, ANSWERS_OF_ROUND * rounds)
+        for again in range(TRIES):
+            archive, other = f'archive{number}.{again}', f'other{number}.{again}'
+            with Console(**chosen) as console:
+                ended = program.run(stay(console, rounds).replace(' archive ', f' {archive} '), env=environment)
+            with Console(**chosen) as console:
+                runs = [program.run(f'station settings {other} {console.address}', env=environment) for _ in range(rounds)]
+            wanted = Ended(DONE, lines_of_runs(runs))
+            if ended == wanted and program.read(archive) == program.read(other):
+                return again, wanted.printed
+        raise Differs(f'{ended!r}, in place of {wanted!r}')
 
-    many(RUNS_ALIKE * SCALE, once)
+    told = many(HOW_MUCH.alike, once)
+    lines = ''.join(printed for _, printed in told)
+    print(f"{len(told)} stays of {lines.count('round ')} rounds were alike to runs of station, with {lines.count('attempt ')} "
+          f"failed attempts and {lines.count('round gaveup')} rounds that gave up; {sum(again > 0 for again, _ in told)} were "
+          'tried again')
 
 
 def reports_beside(program):
     """Reports beside a stay show the first rows, and at least those that were there as they began."""
-    environment = quick(program)
-    console = Console(more=3)
+    environment = quick(program, QUICKER)
+    console = Console(more=23)
+    least = grown = 0
     with program.start(stay(console, MOST_ROUNDS, 0), env=environment):
         while console.dumps == 0:
             time.sleep(0.01)
-        least = 0
-        for _ in range(REPORTS * SCALE):
+        for _ in range(HOW_MUCH.reports):
+            acknowledged = console.acknowledged
             rows = shown(program)
             wanted = [f'{stamp:%Y-%m-%d %H:%M}' for stamp in console.stamps]
             hold('the rows', rows, wanted[:len(rows)])
-            if len(rows) < least:
-                raise Differs(f'{len(rows)} rows, and {least} before')
+            if len(rows) < max(least, acknowledged):
+                raise Differs(f'{len(rows)} rows, and {max(least, acknowledged)} before')
+            grown += least < len(rows)
             least = len(rows)
+    print(f'{HOW_MUCH.reports} reports beside a stay, of which {grown} showed more rows than the one before')
 
 
 def archive_that_is_read_once(program):
     """Once the console was called no byte of the archive is read."""
     need('strace', '-o', '/dev/null', 'true')
-    environment = quick(program)
+    environment = quick(program, QUICKER)
     console = Console()
-    under = ['strace', '-f', '-y', '-o', 'trace', '-e', 'trace=connect,read,pread64,openat,mmap']
+    under = ['strace', '-f', '-y', '-o', 'trace', '-e', f'trace=connect,openat,mmap,{READS}']
     words = [f'-E{name}={value}' for name, value in environment.items()]
-    rounds = ROUNDS_TRACED * SCALE
-    ended = program.run(stay(console, rounds), under=[*under, *words])
-    hold('the rounds', hold_rounds(ended, DONE, ''), ['ok'] * rounds)
+    ended = program.run(stay(console, ROUNDS_TRACED), under=[*under, *words])
+    ends = hold_rounds(ended, DONE, '')
+    hold('the rounds', (len(ends), set(ends) - {'gaveup'}), (ROUNDS_TRACED, {'ok'}))  # gaveup: others ran
     before, called, behind = program.read('trace').decode(errors='replace').partition('connect(')
     hold('the calls of the console', (bool(called), behind.count('connect(')), (True, 0))
     read = [line for line in behind.splitlines() if '/archive>' in line or '"archive"' in line]
@@ -344,10 +383,10 @@ def archive_that_is_read_once(program):
 
 def memory_of_many_rounds(program):
     """The memory of a stay does not grow with its rounds."""
-    environment = quick(program, QUICKER)
-    rounds = ROUNDS_OF_MEMORY * SCALE
-    console = Console(more=0)
+    environment = quick(program, QUICKEST)
+    rounds, console = HOW_MUCH.rounds, Console(more=0)
     with program.start(stay(console, MOST_ROUNDS, 0), env=environment) as run:
+        Thread(target=run.process.stdout.read, daemon=True).start()  # what is not read stops it after a thousand rounds
         while console.dumps < rounds:
             if not console.is_alive():
                 raise Differs(f'the stay ended after {console.dumps} rounds')
@@ -372,20 +411,36 @@ def instructions_of_a_round(program):
     need('valgrind', '--version')
     environment = {**quick(program), 'PATH': '/usr/bin:/bin'}
     of_round = []
-    for rows in (SHORT_ARCHIVE, LONG_ARCHIVE * SCALE):
+    for rows in (SHORT_ARCHIVE, HOW_MUCH.rows):
         one, more = (instructions(program, environment, rows, rounds) for rounds in (1, 1 + ROUNDS_COUNTED))
         of_round.append((more - one) / ROUNDS_COUNTED)
     short, long = of_round
     hold(f'{short:.0f} instructions and {long:.0f} are alike', 0 < short and abs(long - short) <= MOST_UNLIKE * short, True)
-    print(f'{short:.0f} instructions for a round over {SHORT_ARCHIVE} rows, {long:.0f} over {LONG_ARCHIVE * SCALE}')
+    print(f'{short:.0f} instructions for a round over {SHORT_ARCHIVE} rows, {long:.0f} over {HOW_MUCH.rows}')
 
 
-CASES = (line_that_is_cut, stay_that_is_killed, end_by_a_signal, sleeping_console, silent_line, talking_line,
-         clock_that_goes_back, runs_of_station, reports_beside, archive_that_is_read_once, memory_of_many_rounds, instructions_of_a_round)
+CASES = (line_that_is_cut, line_that_is_cut_between_rounds, stay_that_is_killed, end_by_a_signal, sleeping_console,
+         console_asleep_for_a_day, silent_line, talking_line, clock_that_goes_back, one_round, runs_of_station, reports_beside,
+         archive_that_is_read_once, memory_of_many_rounds, instructions_of_a_round)
 CASES_AT_ONCE = 3
 
+
+def main():
+    """Tries the cases; gives the status."""
+    global HOW_MUCH
+    words = argparse.ArgumentParser(prog='try_stay', description='Tries stays of a built program.')
+    words.add_argument('program')
+    for name, number in HOW_MUCH._asdict().items():
+        words.add_argument(f"--{name.replace('_', '-')}", type=int, default=number)
+    words.add_argument('--only', nargs='+', metavar='CASE', choices=[case.__name__ for case in CASES])
+    chosen = vars(words.parse_args())
+    program, only = chosen.pop('program'), chosen.pop('only')
+    HOW_MUCH = Chosen(**chosen)
+    if HOW_MUCH != Chosen():
+        trying.LONGEST = LONGEST_BY_HAND
+    cases = [case for case in CASES if not only or case.__name__ in only]
+    return try_all([sys.argv[0], program], __doc__, cases, CASES_AT_ONCE)
+
+
 if __name__ == '__main__':
-    if len(sys.argv) == 3:
-        SCALE = int(sys.argv.pop())
-        trying.LONGEST *= SCALE
-    sys.exit(try_all(sys.argv, __doc__, CASES, CASES_AT_ONCE))
+    sys.exit(main())
