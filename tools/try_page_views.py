@@ -38,6 +38,8 @@ HEATS = (((100, 50), 118), ((96, 40), 101), ((110, 40), 136), ((86, 50), 88), ((
 # By tables of dew points, in degrees Celsius.
 DEW_POINTS = (((20, 50), 9.3), ((30, 80), 26.2), ((25, 60), 16.7), ((0, 100), 0.0), ((-10, 80), -12.8))
 GROWERS = {'radiation': 400, 'UV': 31, 'ET': 9, 'soilTemp1': 50, 'soilTemp3': 57, 'soilMoist2': 32, 'leafTemp1': 61, 'leafWet2': 3}
+# The texts that are the same in both languages.
+ALIKE = ['month_of_year', 'lines.windSpeed', 'charts.wind', 'charts.evaporation', 'climate.wind']
 GROWERS_PANELS = ['sun', 'uv', 'evaporation', 'soil', 'moisture', 'leaf', 'wetness']
 
 
@@ -88,6 +90,23 @@ def rows_that_are_old(program):
     hold('no mark', [tag for tag, attributes in seen(program).elements if attributes.get('class') == 'old'], [])
 
 
+def lengths_of(span, rows, days_there):
+    """The lengths of the charts that are drawn of a span, by how many days there are; none is that of the rows."""
+    lengths, draw = [], page_charts.drawn
+
+    def noted(of_span, of_rows, units, panels, length):
+        lengths.append(length)
+        return draw(of_span, of_rows, units, panels, length)
+
+    page_charts.drawn = noted
+    try:
+        for count in days_there:
+            page_charts.chart_of(span, rows, US, count)
+    finally:
+        page_charts.drawn = draw
+    return lengths
+
+
 def young_archives(program):
     """A year of 13 days says so, in the title of its chart, of its table and of its rain."""
     rows = [row_at(f'2024-07-{day:02} 12:00', outTemp=600, rain=1) for day in range(3, 16)]
@@ -101,6 +120,8 @@ def young_archives(program):
     captions = [text for text in re.findall('<caption>(.*?)</caption>', (program.folder / FOLDER / 'climate-2024.html').read_text())]
     hold('captions', captions, ['2024, since 3 July', 'July 2024, since 3 July'])
     hold('the rain', [title for title, _ in now_of(rows).sums[0].lines], ['15 July', 'July, since 3 July', '2024, since 3 July'])
+    hold('the lengths of a chart of 13 days, and of one of 31', lengths_of('Month', values_read(rows), (13, 31)),
+         [None, timedelta(days=31)])
     picture = page_charts.chart.Picture(values_read(rows), US.shown)
     chart = page_charts.chart_of('Month', values_read(rows), US, 13)
     hold('where its chart begins', chart.svg.count('2024-07-03 12:00 to 2024-07-15 12:00') > 0, True)
@@ -173,6 +194,7 @@ def languages(program):
     hold('the languages', page_texts.LANGUAGES, ['de', 'en'])
     english, german = (dict(all_texts(Texts(language).sections)) for language in ('en', 'de'))
     hold('their texts', [*german], [*english])
+    hold('those that are alike', [key for key in english if english[key] == german[key]], ALIKE)
     for key, text in english.items():
         if is_text(text):
             hold(f'what is put into {key}', sorted(re.findall(r'{\w*}', german[key])), sorted(re.findall(r'{\w*}', text)))
