@@ -7,8 +7,8 @@ use std::process::Abort;
 use std::test::Fail;
 use weather_book::{Purpose, RowAnswer};
 
-// How many calls of the first disk a copy of the seven rows makes: six of a recovery, and a read for each day.
-const FROM_CALLS: u64 = 8;
+// How many calls of the first disk a copy of the seven rows makes: five of a recovery, and a read for each day.
+const FROM_CALLS: u64 = 7;
 
 // The times of seven rows of two days.
 const TIMES: [Time; 7] = [
