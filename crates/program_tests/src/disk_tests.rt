@@ -1,4 +1,6 @@
-use crate::archives::{DAYS, LINE, MANY, MONTHS, READ, TWO_LINES, archive, long_archive, long_lines};
+use crate::archives::{
+    DAYS, LINE, MANY, MONTHS, READ, TWO_LINES, archive, long_archive, long_lines,
+};
 use crate::running::{Given, done, holding, plain};
 use crate::scripts::line;
 use disk_model::{Disk, Stopping};
@@ -105,7 +107,15 @@ fn each_call_that_fails_leaves_whole_lines_and_a_disk_fault(rt: HostRuntime) -> 
         (&COPY, "", &many, false, "copied 40\n", 0, 4),
         // An attach, three changes that make the file, and four of each of eight batches at least.
         (&COPY, "", &many, true, "copied 40\n", 0, 36),
-        (&IMPORT, "", &[], false, "imported 2 passed 0 rows 2\n", 0, 8),
+        (
+            &IMPORT,
+            "",
+            &[],
+            false,
+            "imported 2 passed 0 rows 2\n",
+            0,
+            8,
+        ),
         (&station, five, &[], false, round, 0, 8),
     ];
     for (words, script, old, is_of_second, lines, most, calls) in rows {

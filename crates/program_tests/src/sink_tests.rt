@@ -79,7 +79,12 @@ fn a_sink_that_ends_within_a_line_takes_a_front(rt: HostRuntime) -> Result<(), F
         (&days, "", &two, DAYS),
         (&months, "", &two, MONTHS),
         (&report, "", &many, &listed),
-        (&["import", "rows", "a"], "", &[], "imported 2 passed 0 rows 2\n"),
+        (
+            &["import", "rows", "a"],
+            "",
+            &[],
+            "imported 2 passed 0 rows 2\n",
+        ),
     ];
     for (words, script, bytes, lines) in rows {
         let given = Given {

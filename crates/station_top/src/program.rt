@@ -10,8 +10,8 @@ ghost use Rattle.station_top.specs.Run.{IsUsage, Performs, Promises, may_be_hidd
 
 use command_words::Command;
 use commands::{
-    answer_requests, call_for, catch_up, copy_files, corrected_pages, print_climate, print_file,
-    import_text, report, soft_rows, stay,
+    answer_requests, call_for, catch_up, copy_files, corrected_pages, import_text, print_climate,
+    print_file, report, soft_rows, stay,
 };
 use disk_model::Disk;
 use model_commands::{make_run, replay_files, run_fleet, serve_files};
