@@ -7,9 +7,9 @@ use Rattle.gated_log.specs.Visits.{Visits}
 pub none_counted : (n : ℕ) → n ≡ n + 0
 none_counted n = omega arith
 
-pub counted_join : (n m k : ℕ) (first later : List (List ℕ)) → m ≡ n + length first → k ≡ m + length later
+pub slots_counted_join : (n m k : ℕ) (first later : List (List ℕ)) → m ≡ n + length first → k ≡ m + length later
     → k ≡ n + length (first ++ later)
-counted_join n m k first later one two = omega (arith, one, two, length-append first later)
+slots_counted_join n m k first later one two = omega (arith, one, two, length-append first later)
 
 -- what slots are to visitors that have such a count
 abbrev pub counting : {V : Type 0} → (V → ℕ) → Visits V
@@ -17,6 +17,6 @@ counting count = record {
   saw = λ version old slots new. count new ≡ count old + length slots;
   count = count;
   saw_none = λ version v. none_counted (count v);
-  saw_joins = λ version u v w first later one two. counted_join (count u) (count v) (count w) first later one two;
+  saw_joins = λ version u v w first later one two. slots_counted_join (count u) (count v) (count w) first later one two;
   counts = λ version u v slots counted. counted;
 }

@@ -15,8 +15,8 @@ use Rattle.weather_book.specs.Kept.{KeepsOf}
 use Rattle.packed_rows.specs.Rows.{RowsOf, rows_from, as_read, holds, damaged, slot_total}
 
 -- the rows of the slots of a log of this version
-abbrev pub rows_in : Version → List (List ℕ) → RowsOf
-rows_in version slots = rows_from [] 0 0 (map (as_read version) slots)
+abbrev pub rows_of_slots : Version → List (List ℕ) → RowsOf
+rows_of_slots version slots = rows_from [] 0 0 (map (as_read version) slots)
 
 -- The slots hold the rows that are kept, and behind them so many summary slots stand open: whatever slots follow are
 -- judged by these.
@@ -24,14 +24,14 @@ pub record KeepsSlots (version : Version) (slots : List (List ℕ)) (reading : R
   pub rows : List Row
   pub keeps : KeepsOf reading.kept.days.items reading.kept.count reading.kept.tail rows
   pub total : slot_total rows + reading.shown ≡ length slots
-  pub judged_by : (more : List (List ℕ)) → rows_in version (slots ++ more)
+  pub judged_by : (more : List (List ℕ)) → rows_of_slots version (slots ++ more)
       ≡ rows_from rows reading.shown (length slots) (map (as_read version) more)
 
 -- a reading keeps the slots; or one of them is damaged, whatever slots follow; or there was no memory
 abbrev pub FoundBy : Option Unfit → Version → List (List ℕ) → Reading → Type 0
 FoundBy None version slots reading = KeepsSlots version slots reading
 FoundBy (Some (Damaged place)) version slots reading =
-    (more : List (List ℕ)) → rows_in version (slots ++ more) ≡ damaged place
+    (more : List (List ℕ)) → rows_of_slots version (slots ++ more) ≡ damaged place
 FoundBy (Some OutOfMemory) version slots reading = Unit {0}
 
 -- The reading was shown these slots, from the first of a log on.
@@ -83,4 +83,4 @@ pub record KeepsAll (version : Version) (slots : List (List ℕ)) (kept : Kept) 
   pub rows : List Row
   pub keeps : KeepsOf kept.days.items kept.count kept.tail rows
   pub total : slot_total rows ≡ length slots
-  pub holds_them : rows_in version slots ≡ holds rows
+  pub holds_them : rows_of_slots version slots ≡ holds rows
