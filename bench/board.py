@@ -6,7 +6,7 @@
 PROGRAM and ARM64 are the built programs for x86-64 and for arm64. The instructions are those outside the system, as a plugin of the
 emulator counts them. The memory is the greatest resident one of PROGRAM, since the emulator has memory of its own. What the disk is
 asked are the calls of PROGRAM by strace, and the sectors that Linux writes to a file with ext4 as a disk, which takes root. With
-DEBIAN, a folder of tools/arm64/try_root.sh --keep, the instructions of its Python are counted too. The files are made in out/bench.
+DEBIAN, a folder of tools/build/arm64/try_root.sh --keep, the instructions of its Python are counted too. The files are made in out/bench.
 It takes some minutes, and is no test.
 """
 import os
@@ -83,7 +83,7 @@ def console(rows, more):
     """The address of a console that has the last of so many rows and some more records."""
     last = made_archive.FIRST + timedelta(minutes=made_archive.MINUTES * (rows - 1))
     with held_port() as port:
-        words = [f'{TOP}/tools/fake_console.py', '--run', f'{last:%Y-%m-%d %H:%M}', str(1 + more), str(port)]
+        words = [f'{TOP}/tools/checks/fake_console.py', '--run', f'{last:%Y-%m-%d %H:%M}', str(1 + more), str(port)]
         with subprocess.Popen(words, stdout=subprocess.DEVNULL) as process:
             time.sleep(SERVES_WITHIN)
             try:
@@ -122,7 +122,7 @@ def count_stay(board, inputs, rows):
 
 def page_words(program, archive):
     """The words that make a page of an archive, but for its folder."""
-    return [f'{TOP}/tools/page.py', '--metric', '--name', 'Roof', '--program', program, archive]
+    return [f'{TOP}/tools/product/page.py', '--metric', '--name', 'Roof', '--program', program, archive]
 
 
 def make_round(board, archive, rows, more):
@@ -135,7 +135,7 @@ def count_tools(board, source, program, what, python=()):
     """What the tools are asked over a year's archive: by a first page, one behind a new row, and a check."""
     archive = shutil.copyfile(source, board.archive)
     page = [*page_words(program, archive), f'{board.folder}/page_of_{what}']
-    check = [f'{TOP}/tools/check.py', '-p', program, archive]
+    check = [f'{TOP}/tools/product/check.py', '-p', program, archive]
     environment = {**os.environ, 'MPLCONFIGDIR': f'{board.folder}/letters'}
     for name, words in (('a first page', page), ('a page behind a new row', page), ('a check', check)):
         if name.endswith('row'):

@@ -162,7 +162,7 @@ copy_crates driver_before "$CRATES" "$tree"
 build
 copy_crates driver "$CRATES"
 build
-PYTHONPATH=bench:tools python3 - out/bench/driver_before out/bench/driver <<'MEASURE'
+PYTHONPATH=bench:tools/checks python3 - out/bench/driver_before out/bench/driver <<'MEASURE'
 import binascii
 import statistics
 import sys

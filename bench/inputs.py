@@ -8,8 +8,9 @@ import sys
 from datetime import datetime, timedelta
 
 TOP = os.path.dirname(os.path.dirname(os.path.realpath(__file__)))
-sys.path.insert(0, f'{TOP}/tools')
+sys.path.insert(0, f'{TOP}/tools/checks')
 
+import rooms  # first: some imports are of other rooms
 import made_archive
 from model.packets import ENTRY_BYTES, MEMBERS, PACKET_BYTES, entry_bytes, packet_of
 from model.records import NAMES
@@ -74,7 +75,7 @@ class Inputs:
         def make(path):
             records = self.text(f'{count}.records', lambda: ''.join(
                 f'{stamp_text(5 * n)} outTemp={n * 37 % 1500 - 300} rain={n % 3}\n' for n in range(SLOTS_OF_A_PAGE * count)))
-            subprocess.run([f'{TOP}/tools/make_pages.py', records, path], check=True, stdout=subprocess.DEVNULL)
+            subprocess.run([f'{TOP}/tools/checks/make_pages.py', records, path], check=True, stdout=subprocess.DEVNULL)
         return self.made(f'{count}.pages', make)
 
     def archive(self, rows, batch_rows):

@@ -23,7 +23,7 @@ from typing import NamedTuple
 
 sys.dont_write_bytecode = True  # nothing is left beside the scripts
 TOP = Path(__file__).resolve().parent.parent
-sys.path.insert(0, str(TOP / 'tools'))
+sys.path.insert(0, str(TOP / 'tools/checks'))
 
 from fake_console import ACK, CANCEL, WAKE_ANSWER, sealed
 

@@ -22,7 +22,7 @@ from typing import NamedTuple
 
 sys.dont_write_bytecode = True  # nothing is left beside the scripts
 TOOLS = Path(__file__).resolve().parent.parent / 'tools'
-sys.path.insert(0, str(TOOLS))
+sys.path.insert(0, str(TOOLS / 'checks'))
 
 import psycopg2
 
@@ -150,7 +150,7 @@ def main():
     words.add_argument('writers', type=int, nargs='*')
     words.add_argument('--rows', type=int, default=ROWS, help='of a fill')
     words.add_argument('--stations', type=int, default=STATIONS, help='of a writer in a round')
-    words.add_argument('--tool', default=str(TOOLS / 'sql.py'), help='another sql.py')
+    words.add_argument('--tool', default=str(TOOLS / 'product/sql.py'), help='another sql.py')
     chosen = words.parse_args()
     commands = newest()
     if commands is None:
