@@ -6,7 +6,6 @@
 The rain was worked out by hand. A script of the model is in the program's place where an archive of chosen rows is wanted. The last
 line is 'N passed, M failed', and the status is 1 if any failed.
 """
-import glob
 import os
 import re
 import socket
@@ -27,6 +26,7 @@ from model.archive import CLOSED_GATE, THIS_VERSION, head_slot, sealed_batch, sl
 from model.records import NAMES
 from model.rows import Row, row_line
 from model.stamps import stamp_of_texts
+from sql_server import Server, newest
 from stand_in import write_archive
 from trying import LONGEST, NAP, SLEEPER, LeftOut, Missed, hold, try_all
 from zones import zone_named
@@ -214,17 +214,17 @@ print(*(f'{height:.3f}' for height, _ in bars.values()))"""
 def rain_of_a_database(program):
     """The database has each station's own bucket and zone, also of stations in one input."""
     need_module('psycopg2')
-    if not glob.glob('/usr/lib/postgresql/*/bin/initdb'):
+    if newest() is None:
         raise LeftOut('postgresql is missing')
     import try_sql  # pylint: disable=import-outside-toplevel  # it ends where psycopg2 is missing
     write_environment(program)
     write_environment(program, 'TZ=Etc/GMT+5\nBUCKET=0.1mm\n', 'barn')
     write_rows(program, rainy_rows())
     with tempfile.TemporaryDirectory() as folder:
-        server = try_sql.Server(glob.glob('/usr/lib/postgresql/*/bin')[-1], folder)
+        server = Server(newest(), folder, try_sql.OPTIONS)
         try:
             database = try_sql.Database(server, 'stations')
-            place = database.place + database.name
+            place = database.place(database.name)
             hold('days of the archive', run(program, 'sql.py', '--station', 'roof', '--days', '2025-01-01', '2025-12-31', place),
                  (GOOD, 'station roof rows 7 added 7 changed 0 left out 0\n', ''))
             hold('days to report from', run(program, 'sql.py', '--since', '--station', 'roof', place),
