@@ -23,7 +23,7 @@ import rooms  # first: the imports below are of other rooms too
 from stand_in import write_archive
 from trying import Differs, hold, need, try_all
 from try_fields import band_of, lines_of, texts
-from try_page import (ARCHIVE, FOLDER, PERIOD, Quiet, Texts, Units, make_tables, made, now_of, page, page_charts, page_now,
+from try_page import (ARCHIVE, FOLDER, PERIOD, TOOLS, Quiet, Texts, Units, make_tables, made, now_of, page, page_charts, page_now,
                       row_at, row_lines, rows_from, seen, table, values_read)
 
 import derived
