@@ -50,7 +50,7 @@ serve() {
 
 program=$(type -P "${1-jofitrana}") || lack "the program is missing: ${1-jofitrana}"
 program=$(readlink -f "$program")
-for examples in "$here/../examples" "$here/../doc/jofitrana/examples"; do
+for examples in "$here/../../examples" "$here/../doc/jofitrana/examples"; do
     [ ! -r "$examples/week.schedule" ] || break
 done
 [ -r "$examples/week.schedule" ] || lack 'the examples are missing: week.toml and week.schedule'
