@@ -1,9 +1,10 @@
 -- The texts of the fields, as the code has them.
-use Rattle.std.proofs.Common.{◌≡◌, ℕ, ◌<◌, List, [], map, length, get_or, Bor, refl, sym, ◌∙◌, ap, arith, Option, Some, None, bytes_eq, position, nat_le, true, ◌≤◌}
+use Rattle.std.proofs.Common.{◌≡◌, ℕ, ◌+◌, ◌<◌, ◌++◌, List, [], codes, take, map, length, get_or, Bor, refl, sym, ◌∙◌, ap, arith, Option, Some, None, bytes_eq, position, nat_le, true, ◌≤◌}
 use Rattle.std.proofs.lemmas.Bool.Decides.{nat_tests}
 use Rattle.std.specs.List.{range_with_len}
 use Rattle.std.proofs.lemmas.List.FromFn.{get_or-map-range_with_len}
 use Rattle.std.proofs.lemmas.List.{get_or-map}
+use Rattle.station_base.specs.declared.field.TheConstants.{HEADS}
 use Rattle.station_base.specs.Fields.{FieldText, fields, field, field_text, name_of, field_unit, field_count}
 
 -- a name and a unit, which stand in the code's table
@@ -55,3 +56,14 @@ name_width i small =
     ∙ ap (λ all. get_or all i true) names_short
     ∙ get_or-map-range_with_len (λ _. true) 0 field_count i i true small (omega arith) in
     grind (arith, nat_tests)
+
+-- each head begins with ` NAME=`
+heads_begin : (d : List ℕ) → map (λ index. take (length (name_of index) + 2) (get_or HEADS index d)) (range_with_len 0 field_count) ≡ map (λ index. codes " " ++ name_of index ++ codes "=") (range_with_len 0 field_count)
+unfolding fields
+heads_begin d = refl
+
+pub head_at : (i : ℕ) (d : List ℕ) → i < field_count → take (length (name_of i) + 2) (get_or HEADS i d) ≡ codes " " ++ name_of i ++ codes "="
+head_at i d small =
+    sym (get_or-map-range_with_len (λ index. take (length (name_of index) + 2) (get_or HEADS index d)) 0 field_count i i [] small (omega arith))
+    ∙ ap (λ all. get_or all i []) (heads_begin d)
+    ∙ get_or-map-range_with_len (λ index. codes " " ++ name_of index ++ codes "=") 0 field_count i i [] small (omega arith)

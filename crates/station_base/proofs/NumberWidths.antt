@@ -1,5 +1,7 @@
 -- Numbers in text: their digits, and how long they are.
-use Rattle.std.proofs.Common.{◌≡◌, ℕ, suc, ℤ, pos, negsuc, ◌^◌, ◌<◌, ◌≤◌, length, refl, arith, lit<, to_z, of_z, w32}
+use lib.IntN.{nat_abs}
+use Rattle.std.proofs.Common.{◌≡◌, ℕ, suc, ℤ, pos, negsuc, codes, ◌≤ℤ◌, ◌<ℤ◌, ◌++◌, ◌+◌, ◌/◌, ◌^◌, ◌<◌, ◌≤◌, length, refl, arith, lit<, to_z, of_z, w32}
+use Rattle.itoa.proofs.Decimal.{length_one, length_two, length_pair, length_four}
 use Rattle.std.proofs.lemmas.Fmt.{length-decimal-le}
 use Rattle.std.specs.Fmt.{signed_decimal}
 use Rattle.jiff.specs.Words.{IsWithin}
@@ -12,6 +14,38 @@ pub signed_text_is : (z : ℤ) → signed_text z ≡ signed_decimal z
 unfolding number_text
 signed_text_is (pos n) = refl
 signed_text_is (negsuc n) = refl
+
+-- a value below 0 is written with `-` before its number without a sign, and another one as this number alone
+pub text_below : (z : ℤ) → z <ℤ pos 0 → codes "-" ++ number_text (nat_abs z) ≡ signed_text z
+text_below (pos n) below = absurd (omega (arith, signed_arith))
+text_below (negsuc n) below = refl
+
+pub text_from : (z : ℤ) → pos 0 ≤ℤ z → number_text (nat_abs z) ≡ signed_text z
+text_from (pos n) above = refl
+text_from (negsuc n) above = absurd (omega (arith, signed_arith))
+
+-- how many digits a number has, by where it lies
+pub width_one : (n : ℕ) → n < 10 → length (number_text n) ≡ 1
+unfolding number_text
+width_one n small = length_one n small
+
+pub width_two : (n : ℕ) → 10 ≤ n → n < 100 → length (number_text n) ≡ 2
+unfolding number_text
+width_two n large small = length_two n large small
+
+pub width_three : (n : ℕ) → 100 ≤ n → n < 1000 → length (number_text n) ≡ 3
+unfolding number_text
+width_three n large small = omega (arith, length_pair n large (omega arith), length_one (n / 100) (omega arith))
+
+pub width_four : (n : ℕ) → 1000 ≤ n → n < 10000 → length (number_text n) ≡ 4
+unfolding number_text
+width_four n large small = omega (arith, length_pair n (omega arith) (omega arith), length_two (n / 100) (omega arith) (omega arith))
+
+pub ruleset few_widths = (width_one, width_two, width_three, width_four)
+
+pub width_more : (n : ℕ) → 10000 ≤ n → n < 2 ^ 32 → length (number_text n) ≡ length (number_text (n / 10000)) + 4
+unfolding number_text
+width_more n large small = length_four n large (omega arith)
 
 -- a number of 32 bits has at most ten digits
 pub number_text_width : (n : ℕ) → n < 2 ^ 32 → length (number_text n) ≤ 10

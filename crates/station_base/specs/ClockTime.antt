@@ -13,7 +13,7 @@ unfoldable pub is_civil_second : ClockTime → Bool
 is_civil_second time =
     nat_lt time.second 60 && nat_lt time.minute 60 && nat_lt time.hour 24 && is_civil_day time.year time.month time.day
 
--- it is a second of the calendar, of a year from 1900 to 2155, which one byte can tell
+-- whether the calendar has this second, of a year from 1900 to 2155, which one byte can tell
 abbrev pub can_be_shown : ClockTime → Bool
 can_be_shown time = nat_le 1900 time.year && nat_le time.year 2155 && is_civil_second time
 

@@ -6,6 +6,6 @@ use Rattle.std.specs.List.{list_any}
 abbrev pub is_period : ℕ → Bool
 is_period minutes = list_any (λ period. minutes == period) (1 ∷ 5 ∷ 10 ∷ 15 ∷ 30 ∷ 60 ∷ 120 ∷ [])
 
--- it is one of these periods
+-- the minutes are a period of a console
 abbrev pub IsPeriod : ℕ → Type 0
 IsPeriod minutes = IsTrue (is_period minutes)

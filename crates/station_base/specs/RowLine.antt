@@ -29,7 +29,7 @@ value_text limited index (Some value) = codes " " ++ name_of index ++ codes "=" 
 value_text true index None = codes " " ++ name_of index ++ codes "=limit"
 value_text false index None = []
 
--- the same of all fields from a number on
+-- what a row line tells of all fields from a number on
 abbrev pub values_text : ℕ → ℕ → List (Option ℤ) → List ℕ
 values_text limited index [] = []
 values_text limited index (value ∷ values) =

@@ -1,4 +1,4 @@
-ghost use Rattle.std.specs.Prelude.{◌≡◌, ◌<◌, ℕ, IfSome};
+ghost use Rattle.std.specs.Prelude.{◌≡◌, ◌<◌, ◌+◌, ◌++◌, ℕ, IfSome, codes, length, take};
 ghost use Rattle.std.specs.Option.{SomeIff};
 ghost use Rattle.station_base.specs.Fields.{field_named, name_of, field_unit, field_count};
 
@@ -46,6 +46,53 @@ static TEXTS: [(&str, &str); FIELD_COUNT] = [
     ("soilMoist2", "centibar"),
     ("soilMoist3", "centibar"),
     ("soilMoist4", "centibar"),
+];
+
+/// The bytes that hold what stands before a field's value in a line.
+pub const HEAD_ROOM: usize = 16;
+
+/// How much longer this is than the name of the field: the blank before it, and the `=`.
+pub const AROUND: usize = 2;
+
+// ` NAME=` of each field, with blanks behind it.
+static HEADS: [[u8; HEAD_ROOM]; FIELD_COUNT] = [
+    *b" outTemp=       ",
+    *b" highOutTemp=   ",
+    *b" lowOutTemp=    ",
+    *b" rain=          ",
+    *b" highRainRate=  ",
+    *b" barometer=     ",
+    *b" radiation=     ",
+    *b" windSamples=   ",
+    *b" inTemp=        ",
+    *b" inHumidity=    ",
+    *b" outHumidity=   ",
+    *b" windSpeed=     ",
+    *b" windGust=      ",
+    *b" windGustDir=   ",
+    *b" windDir=       ",
+    *b" UV=            ",
+    *b" ET=            ",
+    *b" highRadiation= ",
+    *b" highUV=        ",
+    *b" forecastRule=  ",
+    *b" leafTemp1=     ",
+    *b" leafTemp2=     ",
+    *b" leafWet1=      ",
+    *b" leafWet2=      ",
+    *b" soilTemp1=     ",
+    *b" soilTemp2=     ",
+    *b" soilTemp3=     ",
+    *b" soilTemp4=     ",
+    *b" extraHumid1=   ",
+    *b" extraHumid2=   ",
+    *b" extraTemp1=    ",
+    *b" extraTemp2=    ",
+    *b" extraTemp3=    ",
+    *b" soilMoist1=    ",
+    *b" soilMoist2=    ",
+    *b" soilMoist3=    ",
+    *b" soilMoist4=    ",
 ];
 
 /// A field of an archive record, by its number from 0 to 36 in the order of this project's table.
@@ -116,6 +163,13 @@ impl FieldId {
         ensures { result.now ≡ name_of self.now }
     {
         TEXTS[self.index].0
+    }
+
+    // What stands before its value in a line: these bytes begin with ` NAME=`.
+    pub(crate) fn head(&self) -> &'static [u8; HEAD_ROOM]
+        ensures { take (length (name_of self.now) + AROUND) result.now ≡ codes " " ++ name_of self.now ++ codes "=" }
+    {
+        &HEADS[self.index]
     }
 
     /// In what the field is counted.

@@ -8,6 +8,7 @@ mod digits;
 mod field;
 mod field_set;
 mod laws;
+mod line;
 mod period;
 mod row;
 mod stamp;

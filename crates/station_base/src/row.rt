@@ -1,14 +1,16 @@
-ghost use Rattle.std.specs.Prelude.{◌≡◌, ◌+◌, ◌*◌, ◌<◌, ◌≤◌, ◌++◌, All};
+ghost use Rattle.std.specs.Prelude.{◌≡◌, ◌+◌, ◌*◌, ◌<◌, ◌≤◌, ◌++◌, All, codes};
 ghost use Rattle.arrayvec.specs.ArrayVec.{array_vec_len};
 ghost use Rattle.station_base.specs.FieldSet.{AreMissing};
-ghost use Rattle.station_base.specs.Fields.{field_count};
+ghost use Rattle.station_base.specs.Fields.{field_count, name_of};
+ghost use Rattle.station_base.specs.Line.{line_so_far};
 ghost use Rattle.station_base.specs.RowLine.{IsPrintable, value_text, values_text};
 
-use crate::field::{FIELD_COUNT, FieldId};
+use crate::field::{AROUND, FIELD_COUNT, FieldId, HEAD_ROOM};
 use crate::field_set::FieldSet;
+use crate::line::Line;
 use crate::period::Period;
 use crate::stamp::Stamp;
-use crate::text::{push_bytes, push_number, push_signed};
+use crate::text::push_bytes;
 use arrayvec::ArrayVec;
 
 /// How far a value may be from 0, in the unit of its field.
@@ -49,12 +51,14 @@ impl Row {
         ensures length { array_vec_len text.new ≤ array_vec_len text.old + 876 }
     {
         let limited = FieldSet::from_bits(self.limited).unwrap();
-        push_bytes(text, b"row ");
-        push_bytes(text, &self.stamp.text());
-        text.push(b' ');
-        push_number(text, u32::from(self.interval.minutes()));
-        push_values(text, &self.values, limited);
-        text.push(b'\n');
+        let mut line = Line::new();
+        line.put(b"row ");
+        line.put(&self.stamp.text());
+        line.put(b" ");
+        line.put_number(u32::from(self.interval.minutes()));
+        push_values(&mut line, &self.values, limited);
+        line.put(b"\n");
+        push_bytes(text, line.text());
     }
 }
 
@@ -75,15 +79,11 @@ impl Default for Row {
 }
 
 // Appends each value with the name of its field, and the names of those that limits made missing.
-fn push_values<const ROOM: usize>(
-    line: &mut ArrayVec<u8, ROOM>,
-    values: &[Option<i32>; FIELD_COUNT],
-    limited: FieldSet,
-)
-    requires room { array_vec_len line.old + 23 * FIELD_COUNT ≤ ROOM }
+fn push_values(line: &mut Line, values: &[Option<i32>; FIELD_COUNT], limited: FieldSet)
+    requires room { line.old.end + 23 * FIELD_COUNT + HEAD_ROOM ≤ LINE_ROOM }
     requires printable { All IsPrintable values.now }
-    ensures text { line.new.items ≡ line.old.items ++ values_text limited 0 values.now }
-    ensures length { array_vec_len line.new ≤ array_vec_len line.old + 23 * FIELD_COUNT }
+    ensures text { line_so_far line.new ≡ line_so_far line.old ++ values_text limited 0 values.now }
+    ensures length { line.new.end ≤ line.old.end + 23 * FIELD_COUNT }
 {
     for (index, value) in values.iter().enumerate() {
         let field = FieldId::from_index(index).unwrap();
@@ -92,30 +92,32 @@ fn push_values<const ROOM: usize>(
 }
 
 // Appends a value with the name of its field, or the name alone where limits made it missing.
-fn push_value<const ROOM: usize>(
-    line: &mut ArrayVec<u8, ROOM>,
-    field: FieldId,
-    value: Option<i32>,
-    is_limited: bool,
-)
-    requires room { array_vec_len line.old + 23 ≤ ROOM }
+fn push_value(line: &mut Line, field: FieldId, value: Option<i32>, is_limited: bool)
+    requires room { line.old.end + 23 + HEAD_ROOM ≤ LINE_ROOM }
     requires field { field < field_count }
     requires printable { IsPrintable value }
-    ensures text { line.new.items ≡ line.old.items ++ value_text is_limited field value }
-    ensures length { array_vec_len line.new ≤ array_vec_len line.old + 23 }
+    ensures text { line_so_far line.new ≡ line_so_far line.old ++ value_text is_limited field value }
+    ensures length { line.new.end ≤ line.old.end + 23 }
 {
     match value {
         Some(value) => {
-            line.push(b' ');
-            push_bytes(line, field.name().as_bytes());
-            line.push(b'=');
-            push_signed(line, value);
+            push_head(line, field);
+            line.put_signed(value);
         }
         None if is_limited => {
-            line.push(b' ');
-            push_bytes(line, field.name().as_bytes());
-            push_bytes(line, b"=limit");
+            push_head(line, field);
+            line.put(b"limit");
         }
         None => {}
     }
+}
+
+// Appends what stands before the value of a field.
+fn push_head(line: &mut Line, field: FieldId)
+    requires room { line.old.end + HEAD_ROOM ≤ LINE_ROOM }
+    requires field { field < field_count }
+    ensures text { line_so_far line.new ≡ line_so_far line.old ++ codes " " ++ name_of field ++ codes "=" }
+    ensures length { line.new.end ≤ line.old.end + 15 }
+{
+    line.put_front(field.head(), field.name().len() + AROUND);
 }

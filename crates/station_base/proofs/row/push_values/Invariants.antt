@@ -1,12 +1,10 @@
 use Rattle.std.proofs.Common.{◌≡◌, ◌≤◌, ◌+◌, ◌*◌, ◌++◌, drop}
-use Rattle.arrayvec.specs.ArrayVec.{array_vec_len}
+use Rattle.station_base.specs.Line.{line_so_far}
 use Rattle.station_base.specs.RowLine.{values_text}
-use Rattle.station_base.specs.declared.field.TheConstants.{FIELD_COUNT}
 use Rattle.station_base.proofs.row.push_values.Given as goal
 
 abbrev pub invariant-loop-index : goal.invariant-loop-index
-invariant-loop-index g l = record {
-  text : l.line.items ++ values_text l.limited l.index (drop l.index l.values) ≡ l.initial.line.items ++ values_text l.limited 0 l.values;
-  length : array_vec_len l.line ≤ array_vec_len l.initial.line + 23 * l.index;
-  room : array_vec_len l.initial.line + 23 * FIELD_COUNT ≤ g.row.ROOM;
+invariant-loop-index l = record {
+  text : line_so_far l.line ++ values_text l.limited l.index (drop l.index l.values) ≡ line_so_far l.initial.line ++ values_text l.limited 0 l.values;
+  length : l.line.end ≤ l.initial.line.end + 23 * l.index;
 }

@@ -1,7 +1,8 @@
-use Rattle.std.proofs.Common.{◌≡◌, ◌≤◌, append_assoc, arith, rules, length}
-use Rattle.arrayvec.specs.ArrayVec.{array_vec_len}
+use Rattle.std.proofs.Common.{◌≡◌, ◌≤◌, ◌++◌, ◌∙◌, ℕ, List, ap, arith, codes, length, rules}
 use Rattle.station_base.specs.NumberText.{number_text}
-use Rattle.station_base.specs.RowLine.{row_line}
+use Rattle.station_base.specs.Line.{line_so_far}
+use Rattle.station_base.specs.RowLine.{row_line, values_text}
+use Rattle.station_base.specs.Stamp.{stamp_text}
 use Rattle.station_base.proofs.FieldSets.{missing_below}
 use Rattle.station_base.proofs.NumberWidths.{number_text_short}
 use Rattle.station_base.proofs.Periods.{period_bound}
@@ -12,27 +13,50 @@ unwrap-limited-requires g c =
     let below = missing_below c.args.self.now.limited c.args.self.now.values c.requires.limited in
     search rules
 
-pub push_number-requires : goal.push_number-requires
-push_number-requires g c =
+pub put_number-requires : goal.put_number-requires
+put_number-requires g c =
+    let short : length (number_text c.from.result) ≤ 3 = number_text_short c.from.result (omega (arith, period_bound c.minutes.result c.minutes.ensures.period)) in
+    omega arith
+
+pub push_values-requires-clause-room : goal.push_values-requires-clause-room
+push_values-requires-clause-room g c =
+    let short : length (number_text c.from.result) ≤ 3 = number_text_short c.from.result (omega (arith, period_bound c.minutes.result c.minutes.ensures.period)) in
+    omega arith
+
+pub put-requires-4 : goal.put-requires-4
+put-requires-4 g c =
     let short : length (number_text c.from.result) ≤ 3 = number_text_short c.from.result (omega (arith, period_bound c.minutes.result c.minutes.ensures.period)) in
     (search rules, omega arith)
 
-pub push_values-requires : goal.push_values-requires
-push_values-requires g c =
+pub text-requires-2 : goal.text-requires-2
+text-requires-2 g c =
     let short : length (number_text c.from.result) ≤ 3 = number_text_short c.from.result (omega (arith, period_bound c.minutes.result c.minutes.ensures.period)) in
-    (search rules, (omega arith, search rules))
+    omega arith
 
-pub push-requires-2 : goal.push-requires-2
-push-requires-2 g c =
+pub push_bytes-requires : goal.push_bytes-requires
+push_bytes-requires g c =
     let short : length (number_text c.from.result) ≤ 3 = number_text_short c.from.result (omega (arith, period_bound c.minutes.result c.minutes.ensures.period)) in
     (search rules, omega arith)
 
 pub returns-clause-text : goal.returns-clause-text
 unfolding row_line
 returns-clause-text g c =
-    let limited : c.unwrap-limited.result ≡ c.args.self.now.limited = search rules in
-    rw (c.push-2.ensures.items, c.push_values.ensures.text, c.push_number.ensures.digits, c.push.ensures.items, c.push_bytes-2.ensures.bytes, c.push_bytes.ensures.bytes, limited, c.text.ensures, c.from.ensures, c.minutes.ensures.minutes)
-    (simp append_assoc)
+    let row = c.args.self.now in
+    let limited : c.unwrap-limited.result ≡ row.limited = search rules in
+    let head : line_so_far c.put.new.self ≡ codes "row " = c.put.ensures.text ∙ ap (λ xs. xs ++ codes "row ") c.new-line.ensures.text in
+    let stamp : line_so_far c.put-2.new.self ≡ codes "row " ++ stamp_text row.stamp =
+    c.put-2.ensures.text ∙ ap (λ xs. xs ++ c.text.result) head ∙ ap (λ xs. codes "row " ++ xs) c.text.ensures in
+    let ahead : line_so_far c.put-3.new.self ≡ codes "row " ++ stamp_text row.stamp ++ codes " " = c.put-3.ensures.text ∙ ap (λ xs. xs ++ codes " ") stamp in
+    let interval : number_text c.from.result ≡ number_text row.interval = ap number_text (c.from.ensures ∙ c.minutes.ensures.minutes) in
+    let front : List ℕ = codes "row " ++ stamp_text row.stamp ++ codes " " in
+    let begun : line_so_far c.put_number.new.self ≡ front ++ number_text row.interval =
+    c.put_number.ensures.text ∙ ap (λ xs. xs ++ number_text c.from.result) ahead ∙ ap (λ xs. front ++ xs) interval in
+    let told : line_so_far c.push_values.new.line ≡ front ++ number_text row.interval ++ values_text row.limited 0 row.values =
+    c.push_values.ensures.text
+    ∙ ap (λ xs. xs ++ values_text c.unwrap-limited.result 0 row.values) begun
+    ∙ ap (λ n. front ++ number_text row.interval ++ values_text n 0 row.values) limited in
+    c.push_bytes.ensures.bytes
+    ∙ ap (λ xs. c.args.text.now.items ++ xs) (c.text-2.ensures.text ∙ c.put-4.ensures.text ∙ ap (λ xs. xs ++ codes "\n") told)
 
 pub returns-clause-length : goal.returns-clause-length
 returns-clause-length g c =
