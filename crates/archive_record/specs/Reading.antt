@@ -34,7 +34,8 @@ abbrev pub dated : List ℕ → ℕ → Option CivilMinute → RecordRead
 dated bytes interval None = BadStamp (word_at bytes 0) (word_at bytes 2)
 dated bytes interval (Some stamp) = ReadRow (row_of_record bytes interval stamp)
 
--- what the 52 bytes of a slot say, where records are written at that interval (Davis serial manual)
+-- What the 52 bytes of a slot say, if records are written at that interval (Davis serial manual). Byte 42 tells the
+-- revision, and 0 is revision B.
 unfoldable pub reading : List ℕ → ℕ → RecordRead
 reading bytes interval =
     if is_unwritten bytes then Empty

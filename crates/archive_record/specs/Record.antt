@@ -30,11 +30,11 @@ IfRow Empty P = Unit {0}
 IfRow (OtherRevision revision) P = Unit {0}
 IfRow (BadStamp date time) P = Unit {0}
 
--- the bytes read as a row, at whatever interval
+-- the bytes read as a row, at whatever interval, for which 1 stands here
 abbrev pub ReadsAsRow : List ℕ → Type 0
 ReadsAsRow bytes = IsRow (reading bytes 1)
 
--- whether the bytes read as a row, at whatever interval
+-- whether the bytes read as a row, at whatever interval, for which 1 stands here
 abbrev pub reads_as_row : List ℕ → Bool
 reads_as_row bytes = is_row (reading bytes 1)
 

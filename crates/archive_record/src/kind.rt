@@ -9,7 +9,7 @@ pub enum Kind {
     Word,
     /// One byte: 0 to 255.
     Byte,
-    /// One byte, which is 90 more than the degrees: -90 to 165.
+    /// One byte, which is 90 more than the degrees Fahrenheit: -90 to 165.
     Degrees,
 }
 

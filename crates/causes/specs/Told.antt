@@ -1,7 +1,7 @@
 -- A meaning that need not be told.
 use Rattle.std.specs.Prelude.{◌≡◌, Option, Some, None}
 
--- it holds of the value, where that is told
+-- something holds of the value, if that is told
 abbrev pub WhereTold : {A : Type 0} → Option A → (A → Type 0) → Type 0
 WhereTold told P = (x : _) → told ≡ Some x → P x
 

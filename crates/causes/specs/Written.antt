@@ -3,7 +3,7 @@ use Rattle.std.specs.Prelude.{ℕ, ◌≡◌, List, ◌++◌}
 use Rattle.std.specs.declared.option.Option.{Option}
 use Rattle.std.specs.Io.KnownBytes.{Appends}
 
--- Of all that is to be written this is left.
+-- A prefix of `all` was written, and `left` is what is left of it.
 pub record Leaves (old new : Option (List ℕ)) (all left : List ℕ) : Type 0 where
   pub written : List ℕ
   pub appended : Appends old new written

@@ -1,5 +1,5 @@
-/// How what was to be stored was taken: a batch of slots by a log, rows by an archive, records by a keeper.
-/// (This project's own.)
+/// How what was to be stored was taken: a batch of slots by a log, rows by an archive, records by a keeper. A log is an
+/// archive's file as slots of 176 bytes, and a keeper takes the batches of an attempt. (This project's own.)
 #[derive(Clone, Copy, Debug, PartialEq, Eq)]
 pub enum Stored {
     /// It is stored, and a crash leaves it.

@@ -1,6 +1,6 @@
--- The history of a console's archive: every record put since it was last emptied, each as its 52 bytes.
--- The size of the archive is the Davis manual's. That a record is put only where its stamp exceeds the newest, and that
--- newer is told by the words of a stamp, is this project's profile.
+-- The history of a ring, the archive memory of a console: every record put since it was last emptied, each as its 52
+-- bytes. The size of the ring is the Davis manual's. That a record is put only if its stamp exceeds the newest, and
+-- that newer is told by the words of a stamp, is this project's profile.
 use Rattle.std.specs.Prelude.{ℕ, ◌-◌, ◌<◌, ◌≤◌, Bool, List, length, take, drop}
 use Rattle.std.specs.Prelude.{slice_index_or, filter, option_and_then, IsSomeAnd}
 use Rattle.std.specs.declared.option.Option.{Option}
@@ -11,15 +11,15 @@ use Rattle.station_base.specs.Stamp.{words_exceed}
 use Rattle.archive_record.specs.Kind.{word_at}
 use Rattle.archive_record.specs.Reading.{stamp_in}
 
--- the pages of the archive (Davis serial manual, "DMPAFT")
+-- the pages of the ring (Davis serial manual, "DMPAFT")
 abbrev pub ring_pages : ℕ
 ring_pages = 512
 
--- the records that the archive has at most, five a page
+-- the records that the ring has at most, five a page
 abbrev pub ring_size : ℕ
 ring_size = 2560
 
--- the records that the archive still has: the last ones that it has room for
+-- the records that the ring still has: the last ones that it has room for
 abbrev pub retained : List (List ℕ) → List (List ℕ)
 retained history = drop (length history - ring_size) history
 
@@ -39,7 +39,7 @@ newest_stamp history = option_and_then stamp_in (last_item history)
 abbrev pub CanExtend : List (List ℕ) → List ℕ → Type 0
 CanExtend history bytes = CanFollow (newest_stamp history) (stamp_in bytes)
 
--- its stamp does not exceed this one
+-- the stamp of the record does not exceed this one
 abbrev pub IsNotAfter : CivilMinute → List ℕ → Type 0
 IsNotAfter newest bytes = IsSomeAnd (stamp_in bytes) (λ stamp. minute_of stamp ≤ minute_of newest)
 

@@ -60,7 +60,7 @@ plan_of history date time =
 abbrev pub slot_on : List (List ℕ) → Plan → ℕ → ℕ → List ℕ
 slot_on history plan page place = shown (ring_slot history (5 * ((plan.first_page + page) % ring_pages) + place))
 
--- those below a place, one behind the other
+-- the slots below a place, one behind the other
 unfoldable pub slots_before : (ℕ → List ℕ) → ℕ → List ℕ
 slots_before slot zero = []
 slots_before slot (suc place) = slots_before slot place ++ slot place

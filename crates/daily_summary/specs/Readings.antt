@@ -5,7 +5,7 @@ use Rattle.std.specs.declared.option.Option.{Option}
 use Rattle.station_base.specs.CivilMinute.{CivilMinute}
 use Rattle.station_base.specs.declared.row.Row.{Row}
 
--- a value, with the stamp of its row and the seconds of the row's interval
+-- a value of a field, with the stamp of its row and the seconds of the row's interval
 pub record Reading : Type 0 where
   pub value : ℤ
   pub stamp : CivilMinute

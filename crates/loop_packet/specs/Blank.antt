@@ -6,7 +6,7 @@ use Rattle.loop_packet.specs.Part.{Value}
 use Rattle.loop_packet.specs.Part.Value.{Number, Signed, Many}
 use Rattle.loop_packet.specs.Layout.{values}
 
--- it is 0, or nothing but zeros
+-- a value that is 0, or nothing but zeros
 abbrev pub IsZero : Value → Type 0
 IsZero (Number n) = n ≡ 0
 IsZero (Signed z) = z ≡ pos 0

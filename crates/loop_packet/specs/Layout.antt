@@ -12,27 +12,27 @@ pub record PacketField : Type 0 where
   pub part : PacketPart
   pub value : LoopPacket → List Value
 
--- bytes that every packet has
+-- a field of fixed bytes, which every packet has
 abbrev pub fixed : ℕ → List ℕ → PacketField
 fixed offset text = record { offset = offset; part = Fixed text; value = λ packet. [] }
 
--- a number of one byte or of two
+-- a field of one byte
 abbrev pub byte : ℕ → (LoopPacket → ℕ) → PacketField
 byte offset number = record { offset = offset; part = Byte; value = λ packet. Number (number packet) ∷ [] }
 
--- a number of two bytes
+-- a field of two bytes
 abbrev pub word : ℕ → (LoopPacket → ℕ) → PacketField
 word offset number = record { offset = offset; part = Word; value = λ packet. Number (number packet) ∷ [] }
 
--- the same with a sign
+-- a field of one byte with a sign
 abbrev pub signed_byte : ℕ → (LoopPacket → ℤ) → PacketField
 signed_byte offset number = record { offset = offset; part = SignedByte; value = λ packet. Signed (number packet) ∷ [] }
 
--- a number of two bytes with a sign
+-- a field of two bytes with a sign
 abbrev pub signed_word : ℕ → (LoopPacket → ℤ) → PacketField
 signed_word offset number = record { offset = offset; part = SignedWord; value = λ packet. Signed (number packet) ∷ [] }
 
--- so many bytes
+-- a field of so many bytes
 abbrev pub bytes : ℕ → ℕ → (LoopPacket → List ℕ) → PacketField
 bytes offset count many = record { offset = offset; part = Bytes count; value = λ packet. Many (many packet) ∷ [] }
 

@@ -18,21 +18,23 @@ pub data Value : Type 0 where
   Signed : (z : ℤ) → Value
   Many : (bytes : List ℕ) → Value
 
--- the number of one byte at the front, unsigned or signed
+-- the number of one byte at the front
 unfoldable pub byte_in : List ℕ → ℕ
 byte_in bytes = slice_index bytes 0
 
+-- the number of one byte at the front, with a sign
 unfoldable pub signed_byte_in : List ℕ → ℤ
 signed_byte_in bytes = cast_signed w8 (slice_index bytes 0)
 
--- the number of two bytes at the front, unsigned or signed
+-- the number of two bytes at the front
 unfoldable pub word_in : List ℕ → ℕ
 word_in bytes = from_le_bytes w16 bytes
 
+-- the number of two bytes at the front, with a sign
 unfoldable pub signed_word_in : List ℕ → ℤ
 signed_word_in bytes = cast_signed w16 (from_le_bytes w16 bytes)
 
--- the bytes of such numbers
+-- the byte of a number of one byte with a sign
 unfoldable pub signed_byte_of : ℤ → List ℕ
 signed_byte_of z = to_le_bytes w8 (cast_unsigned w8 z)
 

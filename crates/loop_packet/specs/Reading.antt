@@ -26,13 +26,14 @@ HasValues packet bytes = values packet ≡ values_of_parts layout bytes
 
 -- the packet, or the first fault in this order
 abbrev pub TellsPacket : List ℕ → Result LoopPacket LoopFault → Type 0
-TellsPacket bytes (Ok packet) = HasLoopMark bytes × IsLoop bytes × IsEnded bytes × (check bytes ≡ 0) × HasValues packet bytes
+TellsPacket bytes (Ok packet) =
+    HasLoopMark bytes × IsLoop bytes × IsEnded bytes × (check bytes ≡ 0) × HasValues packet bytes
 TellsPacket bytes (Err BadMark) = ¬ HasLoopMark bytes
 TellsPacket bytes (Err (BadType kind)) = HasLoopMark bytes × (slice_index bytes 4 ≡ kind) × (kind ≢ 0)
 TellsPacket bytes (Err BadEnd) = HasLoopMark bytes × IsLoop bytes × (¬ IsEnded bytes)
 TellsPacket bytes (Err BadCheck) = HasLoopMark bytes × IsLoop bytes × IsEnded bytes × (check bytes ≢ 0)
 
--- a body with its check behind it
+-- a body with its check behind it, under a name that proofs leave closed
 unfoldable pub frame_of : List ℕ → List ℕ
 frame_of body = sealed body
 

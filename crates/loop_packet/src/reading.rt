@@ -25,7 +25,7 @@ pub fn read(bytes: &[u8; PACKET_SIZE]) -> Result<LoopPacket, LoopFault>
     ensures only { (packet : LoopPacket) → TellsPacket bytes.now (Ok packet) → result ≡ Ok packet }
     ensures again { IfOk result (λ packet. bytes.now ≡ packet_bytes packet) }
 {
-    if !is_marked(bytes) {
+    if !is_row_slot(bytes) {
         return Err(LoopFault::BadMark);
     }
     if bytes[places::TYPE] != LOOP_TYPE {
@@ -41,7 +41,7 @@ pub fn read(bytes: &[u8; PACKET_SIZE]) -> Result<LoopPacket, LoopFault>
 }
 
 // Whether the bytes begin as a packet does.
-fn is_marked(bytes: &[u8; PACKET_SIZE]) -> bool
+fn is_row_slot(bytes: &[u8; PACKET_SIZE]) -> bool
     ensures { IsTrue result ↔ HasLoopMark bytes.now }
 {
     &bytes[..MARK.len()] == MARK

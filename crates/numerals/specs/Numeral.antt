@@ -12,12 +12,12 @@ pub record WritesNumber (base most : ℕ) (digits : List ℕ) (number : ℕ) : T
   pub short : length digits ≤ most
   pub value : digits_value base digits ≡ number
 
--- these are such digits
+-- whether these are digits of this base, one at least and so many at most
 abbrev pub is_short_numeral : ℕ → ℕ → List ℕ → Bool
 is_short_numeral base most digits =
     nat_lt 0 (length digits) && nat_le (length digits) most && list_all (λ digit. is_digit digit base) digits
 
--- the number that they write
+-- the number that these digits write, if they are digits of this base and not too many
 abbrev pub number_in : ℕ → ℕ → List ℕ → Option ℕ
 number_in base most digits = if is_short_numeral base most digits then Some (digits_value base digits) else None
 

@@ -16,15 +16,15 @@ use Rattle.settings_file.specs.StationSettings.{StationSettings, calibration_of,
 abbrev pub IsReading : Option ℤ → Type 0
 IsReading = IsValueWithin 65535
 
--- times `num`, divided by `den` and rounded towards the lesser number
+-- the value times `num`, divided by `den` and rounded towards the lesser number
 abbrev pub scaled : Calibration → ℤ → ℤ
 scaled c value = int_div_euclid (value *ℤ c.num) c.den
 
--- and `add` more
+-- the value times `num`, divided by `den`, rounded towards the lesser number, and `add` more
 abbrev pub calibrated : Calibration → ℤ → ℤ
 calibrated c value = scaled c value +ℤ c.add
 
--- at least the least and at most the greatest, where there are such
+-- whether the value is at least the least and at most the greatest, if there are such
 abbrev pub is_kept : Limits → ℤ → Bool
 is_kept l value =
     option_map_or (λ least. int_le least value) l.least true
@@ -46,11 +46,11 @@ corrected_values settings stamp field (value ∷ values) =
     corrected_value (calibration_of settings field stamp) (limits_of settings field stamp) value
     ∷ corrected_values settings stamp (field + 1) values
 
--- there was a value, and is none now
+-- whether there was a value before, and is none after
 abbrev pub is_taken : Option ℤ → Option ℤ → Bool
 is_taken before after = is_some before && not (is_some after)
 
--- the fields of which that is so, as the bits of a number: the first is the lowest
+-- the fields that had a value before and have none after, as the bits of a number: the first is the lowest
 abbrev pub taken : List (Option ℤ) → List (Option ℤ) → ℕ
 taken [] after = 0
 taken (value ∷ before) [] = 0

@@ -12,10 +12,10 @@ use Rattle.station_base.proofs.FieldSets.{missing_below, missing_free, missing_w
 use Rattle.station_base.specs.Period.{is_period}
 use Rattle.station_base.specs.declared.row.Row.{Row}
 use Rattle.row_slot.specs.Values.{signed_number_in, is_allowed}
-use Rattle.row_slot.specs.Slot.{is_marked, stamp_in_slot, interval_in, presence_in, values_in, limited_in, row_of, row_in_slot}
+use Rattle.row_slot.specs.Slot.{is_row_slot, stamp_in_slot, interval_in, presence_in, values_in, limited_in, row_of, row_in_slot}
 use Rattle.row_slot.specs.WellFormed.{IsWellFormed}
 use Rattle.row_slot.proofs.Fields.{AreFields, has_value, number_of, fields_of, some_at, some_read}
-use Rattle.row_slot.proofs.Slots.{AreMarks, AreParts, is_marked-marks, marks-is_marked, parts-row_in}
+use Rattle.row_slot.proofs.Slots.{AreMarks, AreParts, is_row_slot-marks, marks-is_row_slot, parts-row_in}
 use Rattle.station_base.specs.Fields.{field_count}
 
 -- the number of a field, by its place in the slot
@@ -47,7 +47,7 @@ missing_in slot row parts field within member =
 read_formed : (slot : List ℕ) (row : Row) → row_in_slot slot ≡ Some row → IsWellFormed slot
 read_formed slot row is =
     let parts : AreParts slot row = parts-row_in slot row is in
-    let marks : AreMarks slot = marks-is_marked slot parts.marked in
+    let marks : AreMarks slot = marks-is_row_slot slot parts.marked in
     let fields : AreFields field_count (presence_in slot) (drop 20 slot) = fields_of field_count (presence_in slot) (drop 20 slot) row.values parts.values in
     record {
       gate = marks.gate;
@@ -90,8 +90,8 @@ formed_read slot is =
       allowed = λ field within. ap (is_allowed (has_value (presence_in slot) field)) (place_of slot field) ∙ is.values field within;
     }
     in
-    some_row (is_marked slot) (is_period (interval_in slot)) (stamp_in_slot slot) (interval_in slot) (values_in slot) (limited_in slot)
-    (is_marked-marks slot marks) is.stamp is.interval (some_read field_count (presence_in slot) (drop 20 slot) fields) (missing_of slot is)
+    some_row (is_row_slot slot) (is_period (interval_in slot)) (stamp_in_slot slot) (interval_in slot) (values_in slot) (limited_in slot)
+    (is_row_slot-marks slot marks) is.stamp is.interval (some_read field_count (presence_in slot) (drop 20 slot) fields) (missing_of slot is)
 
 -- a slot is read as a row exactly where it is well-formed
 pub read_where_formed : (slot : List ℕ) (is_row : Bool) (row : Row) → row_in_slot slot ≡ then_some is_row row → (is_row ≡ true) ↔ IsWellFormed slot

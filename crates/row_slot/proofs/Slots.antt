@@ -18,7 +18,7 @@ use Rattle.station_base.proofs.FieldSets.{missing_below}
 use Rattle.station_base.proofs.Periods.{period_bound}
 use Rattle.station_base.proofs.Words.{stamp_of_words-of, words_of-stamp}
 use Rattle.row_slot.specs.Values.{presence_of, numbers_of, spelled_numbers, slot_values_in}
-use Rattle.row_slot.specs.Slot.{slot_of, number_at, is_marked, stamp_in_slot, interval_in, presence_in, values_in, limited_in, row_of, row_in_slot, row_size}
+use Rattle.row_slot.specs.Slot.{slot_of, number_at, is_row_slot, stamp_in_slot, interval_in, presence_in, values_in, limited_in, row_of, row_in_slot, row_size}
 use Rattle.causes.specs.Lists.{AreBytes}
 use Rattle.causes.proofs.Bytes.{bytes_behind}
 use Rattle.row_slot.proofs.Bytes.{bytes_again}
@@ -76,8 +76,8 @@ pub record AreMarks (slot : List ℕ) : Type 0 where
 marks_by : (kind gate batch spare : ℕ) → kind ≡ 1 → gate ≡ 0 → batch ≡ 0 → spare ≡ 0 → ((kind == 1) && (gate == 0) && (batch == 0) && (spare == 0)) ≡ true
 marks_by kind gate batch spare k g b s = rw (k, g, b, s) refl
 
-pub is_marked-marks : (slot : List ℕ) → AreMarks slot → is_marked slot ≡ true
-is_marked-marks slot are = marks_by _ _ _ _ are.kind are.gate are.batch are.spare
+pub is_row_slot-marks : (slot : List ℕ) → AreMarks slot → is_row_slot slot ≡ true
+is_row_slot-marks slot are = marks_by _ _ _ _ are.kind are.gate are.batch are.spare
 
 parts_marked : (kind gate batch spare : ℕ) → ((kind == 1) && (gate == 0) && (batch == 0) && (spare == 0)) ≡ true → (kind ≡ 1) × (gate ≡ 0) × (batch ≡ 0) × (spare ≡ 0)
 parts_marked kind gate batch spare all =
@@ -86,8 +86,8 @@ parts_marked kind gate batch spare all =
     let last = and_parts (kind == 1) (gate == 0) second.0 in
     (eqb-true kind 1 last.0, eqb-true gate 0 last.1, eqb-true batch 0 second.1, eqb-true spare 0 first.1)
 
-pub marks-is_marked : (slot : List ℕ) → is_marked slot ≡ true → AreMarks slot
-marks-is_marked slot marked =
+pub marks-is_row_slot : (slot : List ℕ) → is_row_slot slot ≡ true → AreMarks slot
+marks-is_row_slot slot marked =
     let parts = parts_marked (slice_index slot 1) (slice_index slot 0) (number_at 2 2 slot) (number_at 2 10 slot) marked in
     record { kind = parts.0; gate = parts.1; batch = parts.2; spare = parts.3 }
 
@@ -133,13 +133,13 @@ unfolding row_in_slot
 row_in-slot_of row is =
     let slot : List ℕ = slot_of row in
     let interval = interval_written row is.period in
-    parts_row (is_marked slot) (is_period (interval_in slot)) (stamp_in_slot slot) (interval_in slot) (values_in slot) (limited_in slot) row
-    (is_marked-marks slot (marks_written row is.long)) (stamp_written row is.civil) (ap is_period interval ∙ is.period) interval
+    parts_row (is_row_slot slot) (is_period (interval_in slot)) (stamp_in_slot slot) (interval_in slot) (values_in slot) (limited_in slot) row
+    (is_row_slot-marks slot (marks_written row is.long)) (stamp_written row is.civil) (ap is_period interval ∙ is.period) interval
     (values_written row is.long is.printable) (limited_written row is.long (missing_below row.limited row.values is.missing)) is.missing
 
 -- the parts of a slot that is read as a row
 pub record AreParts (slot : List ℕ) (row : Row) : Type 0 where
-  pub marked : is_marked slot ≡ true
+  pub marked : is_row_slot slot ≡ true
   pub stamp : stamp_in_slot slot ≡ Some row.stamp
   pub period : is_period (interval_in slot) ≡ true
   pub interval : interval_in slot ≡ row.interval
@@ -168,7 +168,7 @@ parts_by true true (Some stamp) interval (Some values) limited row is = go (are_
 pub parts-row_in : (slot : List ℕ) (row : Row) → row_in_slot slot ≡ Some row → AreParts slot row
 unfolding row_in_slot
 parts-row_in slot row is =
-    let parts = parts_by (is_marked slot) (is_period (interval_in slot)) (stamp_in_slot slot) (interval_in slot) (values_in slot) (limited_in slot) row is in
+    let parts = parts_by (is_row_slot slot) (is_period (interval_in slot)) (stamp_in_slot slot) (interval_in slot) (values_in slot) (limited_in slot) row is in
     record { marked = parts.0; stamp = parts.1; period = parts.2; interval = parts.3; values = parts.4; limited = parts.5; missing = parts.6 }
 
 -- one part of a slot, and what stands behind it
@@ -192,7 +192,7 @@ pub slot_of-row_in : (slot : List ℕ) (row : Row) → length slot ≡ row_size 
 unfolding slot_of
 slot_of-row_in slot row long fits is =
     let parts : AreParts slot row = parts-row_in slot row is in
-    let marks : AreMarks slot = marks-is_marked slot parts.marked in
+    let marks : AreMarks slot = marks-is_row_slot slot parts.marked in
     let words = words_of-stamp (number_at 2 4 slot) (number_at 2 6 slot) row.stamp parts.stamp in
     let told : AreTold field_count (presence_in slot) (drop 20 slot) row.values =
     values_again field_count (presence_in slot) (drop 20 slot) row.values (omega (arith, length-drop 20 slot)) (bytes_behind 20 slot fits) parts.values in

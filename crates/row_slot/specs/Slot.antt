@@ -30,9 +30,9 @@ slot_of row = head_of row ++ (spelled_numbers (numbers_of row.values) ++ little_
 abbrev pub number_at : ℕ → ℕ → List ℕ → ℕ
 number_at count place slot = little_number count (drop place slot)
 
--- a slot of a row, whose bytes that belong to no part are 0
-abbrev pub is_marked : List ℕ → Bool
-is_marked slot =
+-- whether the slot is one of a row, whose bytes that belong to no part are 0
+abbrev pub is_row_slot : List ℕ → Bool
+is_row_slot slot =
     (slice_index slot 1 == 1) && (slice_index slot 0 == 0) && (number_at 2 2 slot == 0) && (number_at 2 10 slot == 0)
 
 -- the stamp that the two words name, if they name one
@@ -68,5 +68,5 @@ row_of true (Some stamp) true interval (Some values) limited =
 -- the row of a slot, and none where it is ill-formed
 unfoldable pub row_in_slot : List ℕ → Option Row
 row_in_slot slot =
-    row_of (is_marked slot) (stamp_in_slot slot) (is_period (interval_in slot)) (interval_in slot) (values_in slot)
+    row_of (is_row_slot slot) (stamp_in_slot slot) (is_period (interval_in slot)) (interval_in slot) (values_in slot)
     (limited_in slot)

@@ -35,7 +35,7 @@ abbrev pub is_allowed : Bool → ℤ → Bool
 is_allowed true number = nat_le (unsigned_abs number) farthest_value
 is_allowed false number = unsigned_abs number == 0
 
--- a value that is allowed before the others, where these are
+-- the value in front of the others, if it is allowed and they are
 abbrev pub before : Bool → Option ℤ → Option (List (Option ℤ)) → Option (List (Option ℤ))
 before false value others = None
 before true value None = None
@@ -51,5 +51,6 @@ at_end false = None
 unfoldable pub slot_values_in : ℕ → ℕ → List ℕ → Option (List (Option ℤ))
 slot_values_in zero presence bytes = at_end (presence == 0)
 slot_values_in (suc count) presence bytes =
-    before (is_allowed (presence % 2 == 1) (signed_number_in bytes)) (then_some (presence % 2 == 1) (signed_number_in bytes))
+    before (is_allowed (presence % 2 == 1) (signed_number_in bytes))
+    (then_some (presence % 2 == 1) (signed_number_in bytes))
     (slot_values_in count (presence / 2) (drop 4 bytes))

@@ -2,7 +2,7 @@ ghost use Rattle.std.specs.Prelude.{◌≡◌, ◌+◌, ◌≤◌, ◌↔◌, Al
 ghost use Rattle.std.specs.Bool.{then_some};
 ghost use Rattle.station_base.specs.FieldSet.{AreMissing};
 ghost use Rattle.station_base.specs.RowLine.{IsPrintable};
-ghost use Rattle.row_slot.specs.Slot.{is_marked, number_at, row_in_slot, slot_of};
+ghost use Rattle.row_slot.specs.Slot.{is_row_slot, number_at, row_in_slot, slot_of};
 ghost use Rattle.row_slot.specs.WellFormed.{IsWellFormed};
 
 use crate::layout::{BATCH, DATE, GATE, INTERVAL, KIND, ROW, ROW_SIZE, SPARE, TIME};
@@ -32,7 +32,7 @@ pub fn read_into(slot: &[u8; ROW_SIZE], row: &mut Row) -> bool
 fn read_parts(slot: &[u8; ROW_SIZE], row: &mut Row) -> bool
     ensures { row_in_slot slot.now ≡ then_some result row.new }
 {
-    if !is_marked(slot) {
+    if !is_row_slot(slot) {
         return false;
     }
     let Some(stamp) = Stamp::from_words(word_at(slot, DATE), word_at(slot, TIME)) else {
@@ -52,8 +52,8 @@ fn read_parts(slot: &[u8; ROW_SIZE], row: &mut Row) -> bool
 }
 
 // Whether the slot is one of a row, and its bytes that belong to no part are 0.
-fn is_marked(slot: &[u8; ROW_SIZE]) -> bool
-    ensures { result ≡ is_marked slot.now }
+fn is_row_slot(slot: &[u8; ROW_SIZE]) -> bool
+    ensures { result ≡ is_row_slot slot.now }
 {
     slot[KIND] == ROW && slot[GATE] == 0 && word_at(slot, BATCH) == 0 && word_at(slot, SPARE) == 0
 }

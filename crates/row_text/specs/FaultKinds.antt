@@ -1,7 +1,8 @@
 -- The kinds of the faults of a line, as they are printed.
 use Rattle.std.specs.Prelude.{ℕ}
 use Rattle.row_text.specs.declared.fault.RowFault.{RowFault}
-use Rattle.row_text.specs.declared.fault.RowFault.TheVariants.{NoRow, NoStamp, NoPeriod, NoField, NotRising, NoNumber, TooFar}
+use Rattle.row_text.specs.declared.fault.RowFault.TheVariants.{NoRow, NoStamp, NoPeriod, NoField, NotRising, NoNumber}
+use Rattle.row_text.specs.declared.fault.RowFault.TheVariants.{TooFar}
 use Rattle.row_text.specs.declared.bad_line.LineFault.{LineFault}
 use Rattle.row_text.specs.declared.bad_line.LineFault.TheVariants.{NoRowLine, NotAfter, NotEnded}
 

@@ -29,7 +29,8 @@ plain_number most digits = if is_padded digits then None else number_in 10 most 
 
 -- the period in minutes of which this is the text
 unfoldable pub period_of_text : List ℕ → Option ℕ
-period_of_text word = option_and_then (λ minutes. only_if (is_period minutes) minutes) (plain_number most_period_digits word)
+period_of_text word =
+    option_and_then (λ minutes. only_if (is_period minutes) minutes) (plain_number most_period_digits word)
 
 -- the size of at most ten digits, or why it is none of a value
 unfoldable pub size_of_text : List ℕ → Result ℕ RowFault

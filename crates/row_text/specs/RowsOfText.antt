@@ -47,14 +47,15 @@ abbrev pub not_ended : ℕ → Result Row BadLine → Result (List Row) BadLine
 not_ended line (Ok row) = bad_line line NotEnded
 not_ended line (Err bad) = Err bad
 
--- The rows of the parts between line feeds, the first of which is the line of this number, behind a row of this stamp. A last
--- part that is not empty has no line feed; any other fault of it comes before that.
+-- The rows of the parts between line feeds, the first of which is the line of this number, behind a row of this stamp.
+-- A last part that is not empty has no line feed; any other fault of it comes before that.
 unfoldable pub rows_of_parts : Option CivilMinute → ℕ → List (List ℕ) → Result (List Row) BadLine
 rows_of_parts last line [] = Ok []
 rows_of_parts last line ([] ∷ []) = Ok []
 rows_of_parts last line ((byte ∷ part) ∷ []) = not_ended line (row_following last line (row_of_line (byte ∷ part)))
 rows_of_parts last line (part ∷ next ∷ parts) =
-    row_then (row_following last line (row_of_line part)) (λ row. rows_of_parts (Some row.stamp) (line + 1) (next ∷ parts))
+    row_then (row_following last line (row_of_line part))
+    (λ row. rows_of_parts (Some row.stamp) (line + 1) (next ∷ parts))
 
 -- the rows of a text whose first line has this number, behind a row of this stamp
 abbrev pub rows_behind : Option CivilMinute → ℕ → List ℕ → Result (List Row) BadLine

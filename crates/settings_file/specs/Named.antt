@@ -11,7 +11,7 @@ pub record AreCalibrations (all : List (Option Calibration)) : Type 0 where
   pub count : length all ≡ field_count
   pub each : (field : ℕ) → IfSome (slice_index_or all field None) IsCalibration
 
--- the same of limits
+-- there is a place for each of the 37 fields, and the limits that are named are in their ranges
 pub record AreAllLimits (all : List (Option Limits)) : Type 0 where
   pub count : length all ≡ field_count
   pub each : (field : ℕ) → IfSome (slice_index_or all field None) AreLimits

@@ -20,14 +20,16 @@ pub record StationSettings : Type 0 where
   pub own : Corrections
   pub changes : List Change
 
--- the calibration in force at a stamp: by the last change not later that names one of the field, by the file, or none
+-- The calibration in force at a stamp. It is that of the last change up to the stamp that names one of the field, else
+-- the file's, else none.
 unfoldable pub calibration_of : StationSettings → ℕ → CivilMinute → Calibration
 calibration_of settings field stamp =
     unwrap_or (option_or
     (last_given (named_by (calibration_in field) stamp) settings.changes) (calibration_in field settings.own))
     uncalibrated
 
--- the limits in force at a stamp: by the last change not later that names some of the field, by the file, or none
+-- The limits in force at a stamp. They are those of the last change up to it that names limits of the field, else the
+-- file's, else none.
 unfoldable pub limits_of : StationSettings → ℕ → CivilMinute → Limits
 limits_of settings field stamp =
     unwrap_or (option_or

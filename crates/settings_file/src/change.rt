@@ -8,9 +8,9 @@ use station_base::{FieldId, Stamp};
 use std::marker::Model;
 
 // How many changes a file has at most.
-pub(crate) const MOST_CHANGES: usize = 16;
+pub(crate) const MOST_SETTINGS_CHANGES: usize = 16;
 
-// Corrections that are in force from a stamp on.
+// Corrections that are in force from a stamp on. (A change of settings: no change of a disk.)
 #[derive(Clone, Copy, Debug)]
 pub(crate) struct Change {
     pub from: Stamp,
@@ -60,7 +60,7 @@ impl Change {
 // The changes of a file, in order. Places past their count hold a blank change.
 #[derive(Clone, Copy, Debug)]
 pub(crate) struct Changes {
-    all: [Change; MOST_CHANGES],
+    all: [Change; MOST_SETTINGS_CHANGES],
     count: usize,
 }
 
@@ -105,14 +105,14 @@ impl Changes {
             named: Corrections::NONE,
         };
         Changes {
-            all: [blank; MOST_CHANGES],
+            all: [blank; MOST_SETTINGS_CHANGES],
             count: 0,
         }
     }
 
     // Adds a change behind the others.
     pub fn push(&mut self, change: &Change)
-        requires room { length self.old < MOST_CHANGES }
+        requires room { length self.old < MOST_SETTINGS_CHANGES }
         requires change { IsChange change.now }
         requires later { exceeds (last_start self.old) (Some change.now.from) ≡ true }
         ensures more { self.new ≡ self.old ++ change.now ∷ [] }

@@ -6,7 +6,7 @@ ghost use Rattle.settings_file.specs.Values.{stamp_of};
 ghost use Rattle.settings_file.specs.Changes.{AreChanges, IsChange};
 ghost use Rattle.settings_file.specs.ChangesRead.{change_of, changes_of};
 
-use crate::change::{Change, Changes, MOST_CHANGES};
+use crate::change::{Change, Changes, MOST_SETTINGS_CHANGES};
 use crate::corrections::Corrections;
 use crate::fault::{Section, SettingsFault};
 use crate::key_place::KeyPlace;
@@ -106,7 +106,7 @@ pub(crate) fn read_changes(at: &KeyPlace, value: &Value) -> Result<Changes, Sett
     let Some(tables) = value.as_array() else {
         return Err(at.bad_number());
     };
-    if tables.len() > MOST_CHANGES {
+    if tables.len() > MOST_SETTINGS_CHANGES {
         return Err(SettingsFault::TooManyChanges);
     }
     let mut changes = Changes::none();

@@ -10,8 +10,8 @@ use Rattle.soft_record.specs.Entry.{SpellsEntry, interval_end, moment}
 use Rattle.soft_record.specs.Interval.{interval_of, last_entry}
 use Rattle.soft_record.specs.SoftRow.{IsSoftRow}
 
--- The entry's second is one of a minute, it comes later than the entry before, if there is one, and its interval ends at a
--- stamp.
+-- The entry's second is one of a minute, it comes later than the entry before, if there is one, and its interval ends
+-- at a stamp.
 pub record EntryCanFollow (period : ℕ) (before : Option Entry) (e : Entry) : Type 0 where
   pub civil : e.second < 60
   pub later : ForSome before (λ b. moment b < moment e)

@@ -33,7 +33,7 @@ abbrev pub last_entry : Option Entry → List Entry → Option Entry
 last_entry before [] = before
 last_entry before (e ∷ es) = last_entry (Some e) es
 
--- its interval ends at this minute
+-- whether the interval of the entry ends at this minute
 abbrev pub is_of : ℕ → ℕ → Rising → Bool
 is_of period end r = interval_end period r.entry == end
 

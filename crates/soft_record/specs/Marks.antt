@@ -1,5 +1,5 @@
--- The numbers of a packet that mean that a sensor told none. (The marks of the archive record, Davis serial manual; that
--- packets have the same is this project's profile.)
+-- The numbers of a packet that mean that a sensor told none. (The marks of the archive record, Davis serial manual;
+-- that packets have the same is this project's profile.)
 use Rattle.std.specs.Prelude.{ℤ, pos, Some, None, if◌then◌else◌}
 use Rattle.std.specs.Ordering.{int_eq}
 use Rattle.std.specs.declared.option.Option.{Option}
@@ -13,7 +13,7 @@ no_barometer = pos 0
 abbrev pub no_radiation : ℤ
 no_radiation = pos 32767
 
--- of a humidity, the wind, or the UV index
+-- the mark of a humidity, the wind, or the UV index
 abbrev pub no_byte : ℤ
 no_byte = pos 255
 

@@ -22,7 +22,8 @@ pub record SoftRecordStandsFor (r : SoftRecord) (period : ℕ) (entries : List E
   pub last : KeepsLast period entries r.open
   pub given : AreRowsSoFar period entries rows
 
--- what became of an entry: it is taken, and the row of an interval given that it ends; or it is bad, and nothing changed
+-- what became of an entry: it is taken, and the row of an interval given that it ends; or it is bad, and nothing
+-- changed
 abbrev pub TakesEntry : SoftRecord → ℕ → List Entry → List Row → List ℕ → Took → SoftRecord → Type 0
 TakesEntry old period entries rows bytes Joined new =
     (e : Entry) × IsGood period entries bytes e × SoftRecordStandsFor new period (entries ++ e ∷ []) rows

@@ -3,7 +3,8 @@ use Rattle.std.specs.Prelude.{ℕ, ◌≡◌, ◌≤◌, ◌*◌, List, sum_by}
 use Rattle.soft_record.specs.Interval.{Rising}
 use Rattle.soft_record.specs.Numbers.{last_of_numbers}
 use Rattle.soft_record.specs.Readings.{IsPacketReading}
-use Rattle.soft_record.specs.SoftRow.{out_temps, in_temps, barometers, radiations, winds, uvs, rain_rates, in_humidities, out_humidities}
+use Rattle.soft_record.specs.SoftRow.{out_temps, in_temps, barometers, radiations, winds, uvs, rain_rates}
+use Rattle.soft_record.specs.SoftRow.{in_humidities, out_humidities}
 use Rattle.soft_record.specs.Spread.{IsSpreadOf, IsSmallOf}
 use Rattle.soft_record.specs.declared.sums.Sums.{Sums}
 

@@ -23,7 +23,7 @@ LineReadsAs line None = (command : Command) → IsLineOf command line → ⊥
 abbrev pub begins_with : List ℕ → List ℕ → Bool
 begins_with line name = bytes_eq (take (length name) line) name
 
--- the command whose name stands alone
+-- the command whose name stands alone (WRD is followed by 0x12 0x4D, Davis serial manual)
 unfoldable pub plain_command_of : List ℕ → Option Command
 plain_command_of line =
     if bytes_eq line (codes "TEST") then Some Test
@@ -55,7 +55,7 @@ period_in digits = do
   minutes ← number_in 10 3 digits
   only_if (not (slice_index digits 0 == 48) && is_period minutes) minutes
 
--- the command that reads bytes, so many from a place on, and the one that writes them
+-- the command that reads so many bytes from a place on
 abbrev pub read_from : ℕ × ℕ → Command
 read_from bytes = EepromRead bytes.0 bytes.1
 
@@ -72,6 +72,6 @@ numbered_command_of line =
     else if begins_with line (codes "SETPER ") then option_map SetPeriod (period_in (drop 7 line))
     else None
 
--- the one command of which the line is one, as `IsLineOf` says
+-- the command that a line is, if it is one
 unfoldable pub command_of : List ℕ → Option Command
 command_of line = option_or (plain_command_of line) (numbered_command_of line)

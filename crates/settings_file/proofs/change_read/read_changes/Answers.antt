@@ -8,8 +8,8 @@ use Rattle.settings_file.specs.ChangesRead.{change_of}
 use Rattle.settings_file.proofs.ChangesWalk.{changes_of-many, changes_of-walked, walk-goes, walk-faults, walk-over}
 use Rattle.settings_file.proofs.change_read.read_changes.Goals as goal
 
-pub returns-then-len-gt-MOST_CHANGES-clause-exact : goal.returns-then-len-gt-MOST_CHANGES-clause-exact
-returns-then-len-gt-MOST_CHANGES-clause-exact c =
+pub returns-then-len-gt-MOST_SETTINGS_CHANGES-clause-exact : goal.returns-then-len-gt-MOST_SETTINGS_CHANGES-clause-exact
+returns-then-len-gt-MOST_SETTINGS_CHANGES-clause-exact c =
     let is : as_array (view c.args.value.now) ≡ Some (array_view c.in-Some.tables.now) = search rules in
     sym (changes_of-many c.args.at.now (view c.args.value.now) c.in-Some.tables.now.items is (omega arith))
 
