@@ -1,5 +1,0 @@
-use Rattle.one_run.proofs.OneRun.{one_text}
-use Rattle.one_run.proofs.one_run_laws.a_run_has_one_text.Goals as goal
-
-pub returns : goal.returns
-returns c = one_text

@@ -1,5 +1,0 @@
-use Rattle.station_replay.proofs.WholeDump.{whole_attempt}
-use Rattle.station_replay.proofs.premise_laws.an_attempt_can_be_whole.Goals as goal
-
-pub returns : goal.returns
-returns c = λ console state held idle records after. whole_attempt console state held idle records after

@@ -1,5 +1,0 @@
-use Rattle.station_replay.proofs.WholeDump.{overflow_taken}
-use Rattle.station_replay.proofs.premise_laws.an_overflowed_archive_can_be_taken.Goals as goal
-
-pub returns : goal.returns
-returns c = overflow_taken
