@@ -20,7 +20,7 @@ EndsBy status (Err output) = output.status ≡ status
 abbrev pub Lines : Type 0
 Lines = ArrayVec ℕ
 
--- it is one of these
+-- the value is one of these
 abbrev pub IsOneOf : {A : Type 0} → List A → A → Type 0
 IsOneOf [] it = ⊥
 IsOneOf (one ∷ []) it = it ≡ one

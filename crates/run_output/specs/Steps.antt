@@ -13,7 +13,8 @@ Behind (Ok a) next mid result new = next a mid result new
 Behind (Err output) next mid result new = (result ≡ Err output) × (new ≡ mid)
 
 -- the one step, and then the next
-pub record then {W A B : Type 0} (one : CommandStep W A) (next : A → CommandStep W B) (old : W) (result : Result B Output) (new : W) : Type 0 where
+pub record then {W A B : Type 0} (one : CommandStep W A) (next : A → CommandStep W B) (old : W)
+    (result : Result B Output) (new : W) : Type 0 where
   pub answer : Result A Output
   pub mid : W
   pub first : one old answer mid
