@@ -3,14 +3,14 @@ use Rattle.std.proofs.Common.{◌≡◌, ℕ, zero, suc, ◌+◌, ◌-◌, ◌*�
 use Rattle.std.specs.Prelude.{slice_index}
 use Rattle.std.specs.Simd.{first_chunks}
 use Rattle.std.proofs.lemmas.List.{drop-drop, drop-take, take-take, append-nil, nil_from_length}
-use Rattle.gated_log.specs.Log.{in_slots, unmarked}
+use Rattle.gated_log.specs.Log.{in_slots, as_handed}
 use Rattle.gated_log.specs.Visits.{Visits, IsShown}
 use Rattle.gated_log.specs.Walk.{BeginWith, IsOpenAt, OnBatches, OnFound, WalkEnds, Walks, WalksOn}
 use Rattle.gated_log.specs.declared.walk.Found.{Found}
 use Rattle.gated_log.specs.declared.walk.Found.TheVariants.{Batches, ClosedGate, NoBatch, Fault}
 use Rattle.gated_log.specs.declared.version.Version.{Version}
 use Rattle.gated_log.proofs.Chains.{length-in_slots}
-use Rattle.gated_log.proofs.SlotAt.{in_slots_at, unmarked_back, unmarked_front}
+use Rattle.gated_log.proofs.SlotAt.{in_slots_at, as_handed_back, as_handed_front}
 use Rattle.gated_log.proofs.Walks.{open_in, same_walk, walk_more}
 use Rattle.gated_log.specs.Layout.{slot_size}
 
@@ -27,27 +27,27 @@ in_slots_more (suc n) xs =
     ∙ ap (λ (zs : List ℕ). in_slots n (drop slot_size xs) ++ take slot_size zs ∷ []) (drop-drop (slot_size * n) slot_size xs
     ∙ ap (λ (k : ℕ). drop k xs) (let e : slot_size + slot_size * n ≡ slot_size * suc n = omega arith in e)))
 
--- behind the first slot of a batch nothing is unmarked
-unmarked_behind : (n : ℕ) (xs : List ℕ) → 0 < n → drop (slot_size * n) (unmarked xs) ≡ drop (slot_size * n) xs
+-- behind the first slot of a batch nothing is as_handed
+unmarked_behind : (n : ℕ) (xs : List ℕ) → 0 < n → drop (slot_size * n) (as_handed xs) ≡ drop (slot_size * n) xs
 unmarked_behind zero xs some = absurd (omega arith)
 unmarked_behind (suc n) xs some =
     let e : slot_size * suc n ≡ suc (suc (suc (suc ((slot_size - 4) + slot_size * n)))) = omega arith in
-    ap (λ (j : ℕ). drop j (unmarked xs)) e ∙ unmarked_back ((slot_size - 4) + slot_size * n) xs ∙ ap (λ (j : ℕ). drop j xs) (sym e)
+    ap (λ (j : ℕ). drop j (as_handed xs)) e ∙ as_handed_back ((slot_size - 4) + slot_size * n) xs ∙ ap (λ (j : ℕ). drop j xs) (sym e)
 
 module _ (n : ℕ) (batch : List ℕ) (chunks : List (List ℕ)) (chunks_is : chunks ≡ first_chunks slot_size n batch) where
   chunk_at : (k : ℕ) → k < n → get_or chunks k [] ≡ take slot_size (drop (slot_size * k) batch)
   chunk_at k lt = ap (λ (ys : List (List ℕ)). get_or ys k []) (chunks_is ∙ chunks_are n batch) ∙ in_slots_at n k batch lt
 
   -- the first slot of a batch, and each behind it
-  pub first_slot : 0 < n → unmarked (get_or chunks 0 []) ∷ [] ≡ in_slots 1 (unmarked batch)
-  first_slot some = ap (λ (x : List ℕ). unmarked x ∷ []) (chunk_at 0 some) ∙ ap (λ (x : List ℕ). x ∷ []) (sym (unmarked_front batch))
+  pub first_slot : 0 < n → as_handed (get_or chunks 0 []) ∷ [] ≡ in_slots 1 (as_handed batch)
+  first_slot some = ap (λ (x : List ℕ). as_handed x ∷ []) (chunk_at 0 some) ∙ ap (λ (x : List ℕ). x ∷ []) (sym (as_handed_front batch))
 
-  pub next_slot : (k : ℕ) → 0 < k → k < n → in_slots k (unmarked batch) ++ get_or chunks k [] ∷ [] ≡ in_slots (k + 1) (unmarked batch)
+  pub next_slot : (k : ℕ) → 0 < k → k < n → in_slots k (as_handed batch) ++ get_or chunks k [] ∷ [] ≡ in_slots (k + 1) (as_handed batch)
   next_slot k some lt =
-      ap (λ (x : List ℕ). in_slots k (unmarked batch) ++ x ∷ []) (chunk_at k lt)
-      ∙ ap (λ (xs : List ℕ). in_slots k (unmarked batch) ++ take slot_size xs ∷ []) (sym (unmarked_behind k batch some))
-      ∙ sym (in_slots_more k (unmarked batch))
-      ∙ ap (λ (j : ℕ). in_slots j (unmarked batch)) (let e : suc k ≡ k + 1 = omega arith in e)
+      ap (λ (x : List ℕ). in_slots k (as_handed batch) ++ x ∷ []) (chunk_at k lt)
+      ∙ ap (λ (xs : List ℕ). in_slots k (as_handed batch) ++ take slot_size xs ∷ []) (sym (unmarked_behind k batch some))
+      ∙ sym (in_slots_more k (as_handed batch))
+      ∙ ap (λ (j : ℕ). in_slots j (as_handed batch)) (let e : suc k ≡ k + 1 = omega arith in e)
 
 -- what was shown, and then more
 module _ {V : Type 0} (visits : Visits V) (version : Version) where
@@ -102,23 +102,23 @@ module _ (c piece : List ℕ) (p left : ℕ) (long : length c ≡ p + left) (is 
       ∙ ap (take m) (drop-drop at p c)
 
   pub batch_more : (at n : ℕ) (slots : List (List ℕ)) → at ≡ slot_size * length slots → at + 4 ≤ length piece → at + slot_size * n ≤ length piece → at < left
-      → BeginWith (drop at piece) (left - at) n → WalksOn c p slots → WalksOn c p (slots ++ in_slots n (unmarked (take (slot_size * n) (drop at piece))))
+      → BeginWith (drop at piece) (left - at) n → WalksOn c p slots → WalksOn c p (slots ++ in_slots n (as_handed (take (slot_size * n) (drop at piece))))
   batch_more at n slots place some fits within head on before walks =
-      let more : List (List ℕ) = in_slots n (unmarked (take (slot_size * n) (drop at piece))) in
+      let more : List (List ℕ) = in_slots n (as_handed (take (slot_size * n) (drop at piece))) in
       let so_far : Walks c (p + at) (before ++ slots) = same_walk c (p + slot_size * length slots) (p + at) (before ++ slots) (before ++ slots) (omega (arith, place)) refl (on before walks) in
-      let same : in_slots n (unmarked (take (slot_size * n) (drop (p + at) c))) ≡ more = ap (λ (xs : List ℕ). in_slots n (unmarked xs)) (sym (part_read at (slot_size * n) fits)) in
-      same_walk c (p + at + slot_size * n) (p + slot_size * length (slots ++ more)) ((before ++ slots) ++ in_slots n (unmarked (take (slot_size * n) (drop (p + at) c)))) (before ++ (slots ++ more))
-      (omega (arith, place, length-append slots more, length-in_slots n (unmarked (take (slot_size * n) (drop at piece)))))
+      let same : in_slots n (as_handed (take (slot_size * n) (drop (p + at) c))) ≡ more = ap (λ (xs : List ℕ). in_slots n (as_handed xs)) (sym (part_read at (slot_size * n) fits)) in
+      same_walk c (p + at + slot_size * n) (p + slot_size * length (slots ++ more)) ((before ++ slots) ++ in_slots n (as_handed (take (slot_size * n) (drop (p + at) c)))) (before ++ (slots ++ more))
+      (omega (arith, place, length-append slots more, length-in_slots n (as_handed (take (slot_size * n) (drop at piece)))))
       (ap (λ (xs : List (List ℕ)). (before ++ slots) ++ xs) same ∙ append_assoc before slots more)
       (walk_more c (p + at) (before ++ slots) so_far (omega (arith, long, within)) n (open_in c piece p at left n is long some head))
 
 -- the slots of a batch that was read alone
 pub batch_alone : (c buf : List ℕ) (p n : ℕ) → p < length c → buf ≡ take (length buf) (drop p c) → length buf ≡ slot_size * n → IsOpenAt c p n false
-    → WalksOn c p (in_slots n (unmarked buf))
+    → WalksOn c p (in_slots n (as_handed buf))
 batch_alone c buf p n within is long there before walks =
-    let same : in_slots n (unmarked (take (slot_size * n) (drop p c))) ≡ in_slots n (unmarked buf) = ap (λ (xs : List ℕ). in_slots n (unmarked xs)) (sym (is ∙ ap (λ (k : ℕ). take k (drop p c)) long)) in
-    same_walk c (p + slot_size * n) (p + slot_size * length (in_slots n (unmarked buf))) (before ++ in_slots n (unmarked (take (slot_size * n) (drop p c)))) (before ++ in_slots n (unmarked buf))
-    (omega (arith, length-in_slots n (unmarked buf))) (ap (λ (xs : List (List ℕ)). before ++ xs) same) (walk_more c p before walks within n there)
+    let same : in_slots n (as_handed (take (slot_size * n) (drop p c))) ≡ in_slots n (as_handed buf) = ap (λ (xs : List ℕ). in_slots n (as_handed xs)) (sym (is ∙ ap (λ (k : ℕ). take k (drop p c)) long)) in
+    same_walk c (p + slot_size * n) (p + slot_size * length (in_slots n (as_handed buf))) (before ++ in_slots n (as_handed (take (slot_size * n) (drop p c)))) (before ++ in_slots n (as_handed buf))
+    (omega (arith, length-in_slots n (as_handed buf))) (ap (λ (xs : List (List ℕ)). before ++ xs) same) (walk_more c p before walks within n there)
 
 -- a walk that has gone through no batch, that goes on, and that ends
 pub no_walk : (c : List ℕ) → Walks c slot_size []

@@ -1,6 +1,6 @@
 -- What the calls of a recovery and of an append make of a disk that stops within one of them.
 use Rattle.std.proofs.Common.{◌≡◌, ℕ, zero, suc, ◌+◌, ◌-◌, ◌<◌, ◌≤◌, ◌==◌, max, Bool, true, false, if◌then◌else◌, List, ◌∷◌, Option, Some, None, refl, sym, ◌∙◌, ap, arith}
-use Rattle.gated_log.specs.Calls.{up_to, four_changes}
+use Rattle.gated_log.specs.Calls.{up_to, append_changes}
 use Rattle.std.specs.Prelude.{take, ◌&&◌}
 use Rattle.std.proofs.lemmas.Bool.Decides.{nat_tests}
 use Rattle.std.proofs.lemmas.Option.{same_Some}
@@ -147,7 +147,7 @@ pub is_one : (k : ℕ) → (k == 1) ≡ true → k ≡ 1
 is_one k h = grind (arith, nat_tests, h)
 
 -- a batch that was kept
-pub batch_done : (s u : StoppingState) (gate len size k pick capacity changes bytes : ℕ) → IsArmed s size k pick capacity (changes + 4) (bytes + (len + 1)) → after_stops (Some s) (up_to (four_changes gate len) Done) ≡ Some u
+pub batch_done : (s u : StoppingState) (gate len size k pick capacity changes bytes : ℕ) → IsArmed s size k pick capacity (changes + 4) (bytes + (len + 1)) → after_stops (Some s) (up_to (append_changes gate len) Done) ≡ Some u
     → (1 ≤ k → 4 < k) × IsArmed u (max size (gate + 1 + len)) (k - 4) pick capacity changes bytes
 batch_done s u gate len size k pick capacity changes bytes r h =
     let a = wrote (gate + 1) len None Done in
@@ -194,7 +194,7 @@ pub record Halts (u : StoppingState) (gate size larger k pick j : ℕ) : Type 0 
   pub late : 3 ≤ j → (u.inner.synced_size ≡ larger) × ((more : List (ℕ × ℕ)) × (u.inner.singles ≡ (gate, 1) ∷ more))
 
 pub batch_stopped : (s u : StoppingState) (gate len size k pick capacity j : ℕ) → IsArmed s size k pick capacity 4 (len + 1) → gate + 1 + len ≤ capacity → 1 ≤ j → j ≤ 4
-    → after_stops (Some s) (up_to (take j (four_changes gate len)) Failed) ≡ Some u → u.stopped ≡ true → Halts u gate size (max size (gate + 1 + len)) k pick j
+    → after_stops (Some s) (up_to (take j (append_changes gate len)) Failed) ≡ Some u → u.stopped ≡ true → Halts u gate size (max size (gate + 1 + len)) k pick j
 batch_stopped s u gate len size k pick capacity zero r room low high h stop = absurd (omega (arith, low))
 batch_stopped s u gate len size k pick capacity (suc zero) r room low high h stop =
     let q = wrote_stopped s u (gate + 1) len None h r.goes stop in
@@ -295,7 +295,7 @@ synced_fails s u h ok fit = go s.stopped (s.armed == 1) (must_fail s.inner (sync
 
 -- a batch that has room fails by a stop alone
 pub batch_fails : (s u : StoppingState) (gate len size k pick capacity j : ℕ) → IsArmed s size k pick capacity 4 (len + 1) → gate + 1 + len ≤ capacity → 1 ≤ j → j ≤ 4
-    → after_stops (Some s) (up_to (take j (four_changes gate len)) Failed) ≡ Some u → u.stopped ≡ true
+    → after_stops (Some s) (up_to (take j (append_changes gate len)) Failed) ≡ Some u → u.stopped ≡ true
 batch_fails s u gate len size k pick capacity zero r room low high h = absurd (omega (arith, low))
 batch_fails s u gate len size k pick capacity (suc zero) r room low high h =
     wrote_fails s u (gate + 1) len None h r.goes (no_misfit s.inner (gate + 1) len None r.sure (omega (arith, room, r.capacity_is)) (omega (arith, r.changes_are)) (omega (arith, r.bytes_are)))

@@ -5,9 +5,13 @@ use Rattle.std.specs.Prelude.{ℕ, ◌+◌}
 abbrev pub slot_size : ℕ
 slot_size = 176
 
--- the slots of a batch, at most
+-- the slots of a batch, at most: five rows, and thirteen summary slots before each
 abbrev pub most_in_a_batch : ℕ
 most_in_a_batch = 70
+
+-- the slots of a log, at most
+abbrev pub most_slots : ℕ
+most_slots = 2097152
 
 -- the bytes of an archive without slots: the head and a closed gate
 abbrev pub empty_size : ℕ

@@ -12,9 +12,12 @@ use crate::show::show;
 use crate::{Version, Visitor};
 use disk_model::{Disk, DiskFault};
 
-// How many bytes of the chain one read brings, at most: those of four batches that are as long as they may be. A batch
-// that the last bytes cut is read again, so that few bytes are read twice where batches are shorter.
-pub(crate) const PIECE_SIZE: usize = 4 * LONGEST_BATCH;
+// So many batches, as long as they may be, one read of the chain brings at most.
+const PIECE_BATCHES: usize = 4;
+
+// How many bytes of the chain one read brings, at most. A batch that the last bytes cut is read again, so that few bytes
+// are read twice where batches are shorter.
+pub(crate) const PIECE_SIZE: usize = PIECE_BATCHES * LONGEST_BATCH;
 
 // Shows a visitor the slots of the batches that stand whole in these bytes, one behind another, in a file of so many
 // bytes from there on. How many they are. A batch with a closed gate ends them, and so does a place where no batch is.

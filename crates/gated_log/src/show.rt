@@ -1,5 +1,5 @@
 ghost use Rattle.std.specs.Prelude.{◌≡◌, ◌<◌, ◌+◌, ◌*◌, ◌/◌, ◌^◌, length};
-ghost use Rattle.gated_log.specs.Log.{in_slots, unmarked};
+ghost use Rattle.gated_log.specs.Log.{in_slots, as_handed};
 ghost use Rattle.gated_log.specs.Layout.{slot_size};
 
 use crate::head::SIZE_FROM;
@@ -8,7 +8,7 @@ use crate::{Version, Visitor};
 
 /// A slot with its gate and the number of its batch's slots 0, as it was handed to a log.
 pub fn without_marks(slot: &[u8; SLOT_SIZE]) -> [u8; SLOT_SIZE]
-    ensures { result ≡ unmarked slot.now }
+    ensures { result ≡ as_handed slot.now }
 {
     let mut bytes = *slot;
     bytes[0] = 0;
@@ -23,7 +23,7 @@ pub(crate) fn show<V: Visitor>(visitor: &mut V, version: Version, place: u64, ba
     requires some { 0 < length batch.now }
     requires whole { length batch.now ≡ slot_size * (length batch.now / slot_size) }
     requires fits { place + length batch.now < 2 ^ 64 }
-    ensures { V.visits.saw version visitor.old (in_slots (length batch.now / slot_size) (unmarked batch.now))
+    ensures { V.visits.saw version visitor.old (in_slots (length batch.now / slot_size) (as_handed batch.now))
         visitor.new }
 {
     let (slots, _) = batch.as_chunks::<SLOT_SIZE>();

@@ -1,5 +1,5 @@
 ghost use Rattle.std.specs.Prelude.{◌≡◌};
-ghost use Rattle.gated_log.specs.Log.{begins_first, has_mark};
+ghost use Rattle.gated_log.specs.Log.{begins_first, has_head};
 ghost use Rattle.gated_log.specs.Version.{version_in};
 
 /// Which form of slots an archive has, by the last digit of its head.
@@ -26,7 +26,7 @@ fn is_first(head: &[u8; 8]) -> bool
 
 // Whether these are the first bytes of an archive.
 pub(crate) fn is_mark(head: &[u8; 8]) -> bool
-    ensures { result ≡ has_mark head.now }
+    ensures { result ≡ has_head head.now }
 {
     let first = is_first(head);
     let second = *head == *MARK;

@@ -11,7 +11,7 @@ use Rattle.station_base.specs.declared.row.Row.{Row}
 use Rattle.station_base.specs.CivilMinute.{CivilMinute, archive_day_of}
 use Rattle.daily_summary.specs.declared.summary.DaySummary.{DaySummary}
 use Rattle.row_slot.specs.Slot.{slot_of, row_in_slot}
-use Rattle.gated_log.specs.Log.{unmarked}
+use Rattle.gated_log.specs.Log.{as_handed}
 use Rattle.gated_log.specs.Layout.{slot_size}
 use Rattle.packed_rows.specs.Closing.{closing_before, closing_slot, closings, begins_day, summary_slot}
 use Rattle.packed_rows.specs.Days.{day_of_row, is_day, with_day, days_from, days_of}
@@ -95,9 +95,9 @@ pub no_row : (day : ℤ) (k : ℕ) (s : DaySummary) → row_in_slot (summary_slo
 unfolding row_in_slot summary_slot
 no_row day k s = refl
 
-pub unmarked_summary : (day : ℤ) (k : ℕ) (s : DaySummary) → unmarked (summary_slot day k s) ≡ summary_slot day k s
+pub as_handed_summary : (day : ℤ) (k : ℕ) (s : DaySummary) → as_handed (summary_slot day k s) ≡ summary_slot day k s
 unfolding summary_slot
-unmarked_summary day k s = refl
+as_handed_summary day k s = refl
 
 same_bytes : (xs ys : List ℕ) → xs ≡ ys → bytes_eq xs ys ≡ true
 same_bytes xs ys e = (bytes_eq-Decides xs ys).1 e
@@ -119,8 +119,8 @@ closing_right rows k zero more some few right = subst (λ (n : ℕ). AreRight ro
 closing_right rows k (suc m) more some few right =
     let slot : List ℕ = closing_slot rows k in
     step_none rows k slot (map (λ j. closing_slot rows j) (range_with_len (k + 1) m) ++ more) (no_row _ k _)
-    (and_from (nat_lt 0 (length rows) && nat_lt k part_count) (bytes_eq (unmarked slot) slot)
-    (and_from (nat_lt 0 (length rows)) (nat_lt k part_count) (lt-ltb 0 (length rows) some) (lt-ltb k part_count (omega arith))) (same_bytes _ _ (unmarked_summary _ k _)))
+    (and_from (nat_lt 0 (length rows) && nat_lt k part_count) (bytes_eq (as_handed slot) slot)
+    (and_from (nat_lt 0 (length rows)) (nat_lt k part_count) (lt-ltb 0 (length rows) some) (lt-ltb k part_count (omega arith))) (same_bytes _ _ (as_handed_summary _ k _)))
     (closing_right rows (k + 1) m more some (omega arith) (subst (λ (n : ℕ). AreRight rows n more) (let e : k + suc m ≡ k + 1 + m = omega arith in e) right))
 
 closing_rows : (rows : List Row) (k m : ℕ) (more : List (List ℕ)) → rows_to rows (map (λ j. closing_slot rows j) (range_with_len k m) ++ more) ≡ rows_to rows more

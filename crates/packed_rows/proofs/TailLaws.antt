@@ -11,7 +11,7 @@ use Rattle.daily_summary.specs.declared.summary.DaySummary.{DaySummary}
 use Rattle.daily_summary.specs.Summary.{summary_of, is_of_day}
 use Rattle.packed_rows.specs.declared.tail.Tail.{Tail}
 use Rattle.std.specs.Str.{bytes_eq}
-use Rattle.gated_log.specs.Log.{unmarked}
+use Rattle.gated_log.specs.Log.{as_handed}
 use Rattle.packed_rows.specs.Closing.{closing_slot, begins_day, day_of_stamp, last_day, last_day_rows}
 use Rattle.packed_rows.specs.Rising.{stamp_exceeds, rows_rise, last_stamp_after, last_row_stamp}
 use Rattle.packed_rows.specs.Rows.{is_closing}
@@ -163,8 +163,8 @@ few_more last running before after row rises few some same later one = by (begin
 
 -- nothing closes where no row stands, or thirteen slots do
 pub not_closing : (rows : List Row) (shown : ℕ) (slot : List ℕ) → (rows ≡ []) ⊎ (part_count ≤ shown) → false ≡ is_closing rows shown slot
-not_closing rows shown slot (inl e) = ap (λ (r : List Row). nat_lt 0 (length r) && nat_lt shown part_count && bytes_eq (unmarked slot) (closing_slot r shown)) (sym e)
-not_closing rows shown slot (inr le) = by (nat_lt 0 (length rows)) (nat_lt shown part_count) (bytes_eq (unmarked slot) (closing_slot rows shown)) (let e : nat_lt shown part_count ≡ false = grind (arith, nat_tests) in e)
+not_closing rows shown slot (inl e) = ap (λ (r : List Row). nat_lt 0 (length r) && nat_lt shown part_count && bytes_eq (as_handed slot) (closing_slot r shown)) (sym e)
+not_closing rows shown slot (inr le) = by (nat_lt 0 (length rows)) (nat_lt shown part_count) (bytes_eq (as_handed slot) (closing_slot rows shown)) (let e : nat_lt shown part_count ≡ false = grind (arith, nat_tests) in e)
   where
     by : (a b c : Bool) → b ≡ false → false ≡ (a && b && c)
     by true true c e = absurd cc

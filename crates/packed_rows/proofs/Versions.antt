@@ -6,7 +6,7 @@ use Rattle.std.proofs.lemmas.Bool.{and_right}
 use Rattle.daily_summary.specs.declared.summary.DaySummary.{DaySummary}
 use Rattle.station_base.specs.declared.row.Row.{Row}
 use Rattle.row_slot.specs.Slot.{row_in_slot}
-use Rattle.gated_log.specs.Log.{log_of, unmarked}
+use Rattle.gated_log.specs.Log.{log_of, as_handed}
 use Rattle.gated_log.specs.Log as log
 use Rattle.gated_log.specs.Version.{version_of}
 use Rattle.gated_log.specs.declared.version.Version.{Version}
@@ -52,7 +52,7 @@ row_by false slot row is = absurd (let e : None ≡ Some row = sym no_row ∙ is
 pub row_read : (v : Version) (slot : List ℕ) (row : Row) → row_in_slot (as_read v slot) ≡ Some row → row_in_slot slot ≡ Some row
 row_read v slot row is = row_by (is_known v slot) slot row is
 
-summary_by : (known : Bool) (slot : List ℕ) (day : ℤ) (k : ℕ) (s : DaySummary) → unmarked (cond known slot []) ≡ summary_slot day k s → unmarked slot ≡ summary_slot day k s
+summary_by : (known : Bool) (slot : List ℕ) (day : ℤ) (k : ℕ) (s : DaySummary) → as_handed (cond known slot []) ≡ summary_slot day k s → as_handed slot ≡ summary_slot day k s
 unfolding summary_slot
 summary_by true slot day k s is = is
 summary_by false slot day k s is = cc
@@ -60,7 +60,7 @@ summary_by false slot day k s is = cc
 -- and so does a summary
 pub closed_read : (v : Version) (slots : List (List ℕ)) (place : ℕ) (day : ℤ) (s : DaySummary) → IsClosedAt (map (as_read v) slots) place day s → IsClosedAt slots place day s
 closed_read v slots place day s closed = record {
-  each = λ k small. summary_by (is_known v (get_or slots (place + k) [])) (get_or slots (place + k) []) day k s (ap unmarked (sym (read_at v slots (place + k))) ∙ closed.each k small);
+  each = λ k small. summary_by (is_known v (get_or slots (place + k) [])) (get_or slots (place + k) []) day k s (ap as_handed (sym (read_at v slots (place + k))) ∙ closed.each k small);
   bounds = closed.bounds;
   typed = closed.typed;
 }

@@ -4,7 +4,7 @@ use Rattle.std.specs.List.{range_with_len}
 use Rattle.daily_summary.specs.declared.summary.DaySummary.{DaySummary}
 use Rattle.daily_summary.specs.Bounds.{IsInBounds}
 use Rattle.daily_summary.specs.Parts.{AreTyped, part_size, part_count}
-use Rattle.gated_log.specs.Log.{unmarked}
+use Rattle.gated_log.specs.Log.{as_handed}
 use Rattle.gated_log.specs.Layout.{slot_size}
 use Rattle.packed_rows.specs.Closing.{part_place, summary_slot}
 
@@ -18,6 +18,6 @@ parts_at bytes = flat_map (part_at bytes) (range_with_len 0 part_count)
 
 -- the thirteen slots from a place on close this day, whose summary is one that can be read back
 pub record IsClosedAt (slots : List (List ℕ)) (place : ℕ) (day : ℤ) (s : DaySummary) : Type 0 where
-  pub each : (k : ℕ) → k < part_count → unmarked (slice_index_or slots (place + k) []) ≡ summary_slot day k s
+  pub each : (k : ℕ) → k < part_count → as_handed (slice_index_or slots (place + k) []) ≡ summary_slot day k s
   pub bounds : IsInBounds s
   pub typed : AreTyped s

@@ -41,7 +41,7 @@ summary_slot day k s =
 abbrev pub closing_slot : List Row → ℕ → List ℕ
 closing_slot rows k = summary_slot (last_day rows) k (summary_of (last_day_rows rows))
 
--- all thirteen
+-- all thirteen slots that close the day of the last of these rows
 abbrev pub closing_slots : List Row → List (List ℕ)
 closing_slots rows = map (λ k. closing_slot rows k) (range_with_len 0 part_count)
 
@@ -50,11 +50,12 @@ abbrev pub begins_day : Option CivilMinute → CivilMinute → Bool
 begins_day None stamp = false
 begins_day (Some last) stamp = not (nat_eq (archive_day_of last) (archive_day_of stamp))
 
--- how many summary slots stand before a row of this stamp
+-- how many summary slots stand before a row, by whether it begins a later day
 abbrev pub closings : Bool → ℕ
 closings true = part_count
 closings false = 0
 
--- those that stand before a row behind these rows
+-- the summary slots that stand before a row behind these rows
 abbrev pub closing_before : List Row → Row → List (List ℕ)
-closing_before rows row = map (λ k. closing_slot rows k) (range_with_len 0 (closings (begins_day (last_row_stamp rows) row.stamp)))
+closing_before rows row =
+    map (λ k. closing_slot rows k) (range_with_len 0 (closings (begins_day (last_row_stamp rows) row.stamp)))

@@ -16,7 +16,7 @@ pub record IsReadBack (row : Row) : Type 0 where
   pub back : row_in_slot (slot_of row) ≡ Some row
   pub size : length (slot_of row) ≡ slot_size
 
--- each of them is
+-- each of these rows is what is read back of its slot
 abbrev pub AreReadBack : List Row → Type 0
 AreReadBack [] = Unit {0}
 AreReadBack (row ∷ rows) = IsReadBack row × AreReadBack rows

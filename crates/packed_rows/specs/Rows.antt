@@ -5,7 +5,7 @@ use Rattle.std.specs.declared.option.Option.{Option}
 use Rattle.std.specs.Str.{bytes_eq}
 use Rattle.station_base.specs.declared.row.Row.{Row}
 use Rattle.row_slot.specs.Slot.{slot_of, row_in_slot, limited_in}
-use Rattle.gated_log.specs.Log.{LogOf, log_of, unmarked}
+use Rattle.gated_log.specs.Log.{LogOf, log_of, as_handed}
 use Rattle.gated_log.specs.Log as log
 use Rattle.gated_log.specs.Version.{version_of}
 use Rattle.gated_log.specs.declared.version.Version.{Version}
@@ -31,19 +31,19 @@ may_follow rows shown row =
 -- the slot is the next of the thirteen that close the last row's day; gate and batch word are not tested
 abbrev pub is_closing : List Row → ℕ → List ℕ → Bool
 is_closing rows shown slot =
-    nat_lt 0 (length rows) && nat_lt shown part_count && bytes_eq (unmarked slot) (closing_slot rows shown)
+    nat_lt 0 (length rows) && nat_lt shown part_count && bytes_eq (as_handed slot) (closing_slot rows shown)
 
 -- the slot may stand behind these rows and so many summary slots
 abbrev pub is_right : List Row → ℕ → List ℕ → Option Row → Bool
 is_right rows shown slot (Some row) = may_follow rows shown row
 is_right rows shown slot None = is_closing rows shown slot
 
--- the rows then
+-- the rows behind this slot: a row is added, and a summary slot adds none
 abbrev pub rows_with_row : List Row → Option Row → List Row
 rows_with_row rows (Some row) = rows ++ row ∷ []
 rows_with_row rows None = rows
 
--- how many summary slots stand behind the last row then
+-- how many summary slots stand behind the last row, with this slot
 abbrev pub shown_with : ℕ → Option Row → ℕ
 shown_with shown (Some row) = 0
 shown_with shown None = shown + 1
@@ -53,7 +53,7 @@ abbrev pub slot_judged : Bool → ℕ → RowsOf → RowsOf
 slot_judged true n more = more
 slot_judged false n more = damaged (slot_size * (n + 1))
 
--- at the end, at slot n, no summary slots may stand open
+-- the rows at the end, at slot n, if no summary slots stand open there
 abbrev pub rows_ended : List Row → ℕ → ℕ → RowsOf
 rows_ended rows shown n = slot_judged (shown == 0) n (holds rows)
 

@@ -5,7 +5,7 @@ ghost use Rattle.station_base.specs.FieldSet.{AreMissing};
 ghost use Rattle.station_base.specs.RowLine.{IsPrintable};
 ghost use Rattle.station_base.specs.declared.row.Row.{Row};
 ghost use Rattle.gated_log.specs.Layout.{slot_size};
-ghost use Rattle.packed_rows.specs.Adding.{ArePrintable, AreLimited};
+ghost use Rattle.packed_rows.specs.Adding.{rows_in_a_batch, ArePrintable, AreLimited};
 ghost use Rattle.packed_rows.specs.Closing.{closing_before};
 ghost use Rattle.packed_rows.specs.Packed.{joined_slots, IsReadBack, AreReadBack};
 ghost use Rattle.packed_rows.specs.Rising.{rows_rise};
@@ -25,7 +25,7 @@ pub const LONGEST_BATCH: usize = MOST_SLOTS * SLOT_SIZE;
 
 /// The slots of rows one behind another, where they stand behind others that end so.
 pub fn pack(tail: &Tail, rows: &[Row]) -> ArrayVec<u8, LONGEST_BATCH>
-    requires few { length rows.now ≤ 5 }
+    requires few { length rows.now ≤ rows_in_a_batch }
     requires printable { ArePrintable rows.now }
     requires limited { AreLimited rows.now }
     requires rising { rows_rise tail.now.last rows.now ≡ true }

@@ -29,6 +29,7 @@ pub const PART: usize = 24;
 pub struct Tail {
     pub last: Option<Stamp>,
     pub running: DaySummary,
+    // Bounds that keep the sums from running over: no promise speaks of them.
     ghost bounds: { IsInBounds running } by { Prim.hlevel props },
     ghost few: { running.rows ≤ minutes_into last },
 }

@@ -9,7 +9,7 @@ use Rattle.std.proofs.Math.Seq.{take-suc, take-append_seam}
 use Rattle.std.proofs.lemmas.Bool.{and_parts}
 use Rattle.station_base.specs.declared.row.Row.{Row}
 use Rattle.row_slot.specs.Slot.{row_in_slot}
-use Rattle.gated_log.specs.Log.{unmarked}
+use Rattle.gated_log.specs.Log.{as_handed}
 use Rattle.packed_rows.specs.Closing.{closing_slot, closings, begins_day}
 use Rattle.packed_rows.specs.Rising.{last_row_stamp}
 use Rattle.packed_rows.specs.Rows.{may_follow, is_closing, is_right, rows_with_row, shown_with, slot_total, rows_from, holds}
@@ -70,17 +70,17 @@ front_take front n row rows lt is =
     let m : length (take n rows) ≡ n = (let c = length-take n rows in omega (arith, c, lt)) in
     sym (take-append_seam front (row ∷ [])) ∙ ap (λ (k : ℕ). take k (front ++ row ∷ [])) (l ∙ sym m) ∙ ap (take (length (take n rows))) e ∙ take-append_seam (take n rows) (get_or rows n row ∷ [])
 
-closing_is : (rows : List Row) (j : ℕ) (slot : List ℕ) → is_closing rows j slot ≡ true → unmarked slot ≡ closing_slot rows j
-closing_is rows j slot is = (bytes_eq-Decides (unmarked slot) (closing_slot rows j)).0 (and_parts (nat_lt 0 (length rows) && nat_lt j part_count) (bytes_eq (unmarked slot) (closing_slot rows j)) is).1
+closing_is : (rows : List Row) (j : ℕ) (slot : List ℕ) → is_closing rows j slot ≡ true → as_handed slot ≡ closing_slot rows j
+closing_is rows j slot is = (bytes_eq-Decides (as_handed slot) (closing_slot rows j)).0 (and_parts (nat_lt 0 (length rows) && nat_lt j part_count) (bytes_eq (as_handed slot) (closing_slot rows j)) is).1
 
 no_rows : (rows : List Row) (j : ℕ) (slot : List ℕ) → rows ≡ [] → is_closing rows j slot ≡ true → ⊥
 no_rows rows j slot none is =
-    let some : nat_lt 0 (length rows) ≡ true = (and_parts (nat_lt 0 (length rows)) (nat_lt j part_count) (and_parts (nat_lt 0 (length rows) && nat_lt j part_count) (bytes_eq (unmarked slot) (closing_slot rows j)) is).0).0 in
+    let some : nat_lt 0 (length rows) ≡ true = (and_parts (nat_lt 0 (length rows)) (nat_lt j part_count) (and_parts (nat_lt 0 (length rows) && nat_lt j part_count) (bytes_eq (as_handed slot) (closing_slot rows j)) is).0).0 in
     let zero_is : nat_lt 0 (length rows) ≡ false = ap (λ (rs : List Row). nat_lt 0 (length rs)) none in cc
 
 -- the thirteen slots before a row that begins a later day close the day of the rows before it
 pub record AreClosing (slots : List (List ℕ)) (place : ℕ) (rows : List Row) : Type 0 where
-  pub each : (j : ℕ) → j < part_count → unmarked (get_or slots (place + j) []) ≡ closing_slot rows j
+  pub each : (j : ℕ) → j < part_count → as_handed (get_or slots (place + j) []) ≡ closing_slot rows j
   pub within : place + part_count ≤ length slots
 
 pub closing_at : (slots : List (List ℕ)) (rows : List Row) (n place : ℕ) → rows_from [] 0 0 slots ≡ holds rows → n < length rows →
@@ -115,6 +115,6 @@ closing_at slots rows n place are lt begins at =
               ap (λ (xs : List (List ℕ)). get_or xs (place + j) []) (parts ∙ ap (λ (xs : List (List ℕ)). xs ++ slot ∷ behind) c.parts ∙ append_assoc c.front c.closing (slot ∷ behind))
               ∙ ap (λ (k : ℕ). get_or (c.front ++ (c.closing ++ slot ∷ behind)) (k + j) []) (sym l)
               ∙ get_or-append-add c.front (c.closing ++ slot ∷ behind) j [] ∙ get_or-append c.closing (slot ∷ behind) [] j inside in
-              ap unmarked there ∙ closing_is (rows_to [] front) j (get_or c.closing j []) (c.each j (omega (arith, thirteen, small))) ∙ ap (λ (rs : List Row). closing_slot rs j) before;
+              ap as_handed there ∙ closing_is (rows_to [] front) j (get_or c.closing j []) (c.each j (omega (arith, thirteen, small))) ∙ ap (λ (rs : List Row). closing_slot rs j) before;
           within = (let a = ap length parts in let b = length-append front (slot ∷ behind) in omega (arith, a, b, long));
         }

@@ -6,9 +6,9 @@ use Rattle.std.proofs.lemmas.Option.{slice_get-get_or, slice_get_within, get_or_
 use Rattle.std.proofs.Math.Seq.{get_or-append_seam, take-suc}
 use Rattle.std.proofs.lemmas.List.{length-take, get_or-drop}
 use Rattle.station_base.specs.declared.row.Row.{Row}
-use Rattle.row_slot.specs.Slot.{row_in_slot, is_marked, row_of}
+use Rattle.row_slot.specs.Slot.{row_in_slot, is_row_slot, row_of}
 use Rattle.byteorder.specs.Endian.{little_number}
-use Rattle.gated_log.specs.Log.{unmarked}
+use Rattle.gated_log.specs.Log.{as_handed}
 use Rattle.gated_log.specs.Stands.{IsSlot}
 use Rattle.gated_log.specs.declared.version.Version.{Version}
 use Rattle.station_base.specs.CivilMinute.{CivilMinute}
@@ -141,9 +141,9 @@ place_is slots rows n place are lt at =
     plus_none k = omega arith
 
 -- a slot with a row is as it was handed in
-pub row_unmarked : (slot : List ℕ) (row : Row) → row_in_slot slot ≡ Some row → unmarked slot ≡ slot
+pub row_as_handed : (slot : List ℕ) (row : Row) → row_in_slot slot ≡ Some row → as_handed slot ≡ slot
 unfolding row_in_slot
-row_unmarked slot row is = by slot (marked (is_marked slot) _ _ _ _ _ is)
+row_as_handed slot row is = by slot (marked (is_row_slot slot) _ _ _ _ _ is)
   where
     marked : (b : Bool) (stamp : Option CivilMinute) (periodic : Bool) (interval : ℕ) (values : Option (List (Option ℤ))) (limited : ℕ) → row_of b stamp periodic interval values limited ≡ Some row → b ≡ true
     marked true stamp periodic interval values limited e = refl
@@ -155,7 +155,7 @@ row_unmarked slot row is = by slot (marked (is_marked slot) _ _ _ _ _ is)
     parts true false C D e = absurd cc
     parts false B C D e = absurd cc
 
-    by : (s : List ℕ) → is_marked s ≡ true → unmarked s ≡ s
+    by : (s : List ℕ) → is_row_slot s ≡ true → as_handed s ≡ s
     by [] e = refl
     by (a ∷ []) e = refl
     by (a ∷ b ∷ []) e = refl
@@ -170,8 +170,8 @@ row_unmarked slot row is = by slot (marked (is_marked slot) _ _ _ _ _ is)
         ap (λ (x : ℕ). x ∷ b ∷ 0 ∷ 0 ∷ rest) (sym a0) ∙ ap (λ (x : ℕ). a ∷ b ∷ x ∷ 0 ∷ rest) (sym c0) ∙ ap (λ (x : ℕ). a ∷ b ∷ c ∷ x ∷ rest) (sym d0)
 
 -- so the bytes that a log gives are the slot's, with gate and number aside
-slot_unmarked : (slot bytes : List ℕ) (row : Row) → IsSlot slot bytes → row_in_slot slot ≡ Some row → unmarked bytes ≡ slot
-slot_unmarked slot bytes row (inl same) is = ap unmarked (sym same) ∙ row_unmarked slot row is
+slot_unmarked : (slot bytes : List ℕ) (row : Row) → IsSlot slot bytes → row_in_slot slot ≡ Some row → as_handed bytes ≡ slot
+slot_unmarked slot bytes row (inl same) is = ap as_handed (sym same) ∙ row_as_handed slot row is
 slot_unmarked slot bytes row (inr same) is = sym same
 
 -- and its row is read back of them

@@ -12,7 +12,7 @@ use Rattle.daily_summary.specs.Bounds.{IsInBounds}
 use Rattle.daily_summary.specs.Parts.{part_size, summary_part, summary_parts, part_count}
 use Rattle.daily_summary.specs.WellFormed.{IsStoredAs}
 use Rattle.daily_summary.proofs.PartsLaws.{part_long}
-use Rattle.gated_log.specs.Log.{unmarked}
+use Rattle.gated_log.specs.Log.{as_handed}
 use Rattle.gated_log.specs.Stands.{AreSlots, IsSlot}
 use Rattle.gated_log.specs.Layout.{slot_size}
 use Rattle.packed_rows.specs.Closing.{part_place, summary_slot}
@@ -21,7 +21,7 @@ use Rattle.packed_rows.specs.Closing.{part_place, summary_slot}
 pub part_in : List ℕ → List ℕ
 part_in slot = take part_size (drop part_place slot)
 
-same_part : (slot : List ℕ) → part_in (unmarked slot) ≡ part_in slot
+same_part : (slot : List ℕ) → part_in (as_handed slot) ≡ part_in slot
 unfolding part_in
 same_part [] = refl
 same_part (a ∷ []) = refl
@@ -35,7 +35,7 @@ part_written day k s =
     ap (λ (n : ℕ). take n (summary_part k s ++ replicate (slot_size - part_place - part_size) 0)) (sym (part_long k s)) ∙ take-append_seam (summary_part k s) (replicate (slot_size - part_place - part_size) 0)
 
 -- what is read of a slot that closes a day has its part
-pub part_read : (day : ℤ) (k : ℕ) (s : DaySummary) (slot bytes : List ℕ) → IsSlot slot bytes → unmarked slot ≡ summary_slot day k s → take part_size (drop part_place bytes) ≡ summary_part k s
+pub part_read : (day : ℤ) (k : ℕ) (s : DaySummary) (slot bytes : List ℕ) → IsSlot slot bytes → as_handed slot ≡ summary_slot day k s → take part_size (drop part_place bytes) ≡ summary_part k s
 unfolding part_in
 part_read day k s slot bytes (inl same) is = ap part_in (sym same) ∙ sym (same_part slot) ∙ ap part_in is ∙ part_written day k s
 part_read day k s slot bytes (inr same) is = sym (same_part bytes) ∙ ap part_in (sym same) ∙ sym (same_part slot) ∙ ap part_in is ∙ part_written day k s

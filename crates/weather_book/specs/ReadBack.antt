@@ -4,7 +4,7 @@ use Rattle.std.specs.Option.{unwrap_or}
 use Rattle.station_base.specs.declared.row.Row.{Row}
 use Rattle.station_base.specs.RowLine.{blank_row}
 use Rattle.row_slot.specs.Slot.{row_in_slot}
-use Rattle.gated_log.specs.Log.{unmarked}
+use Rattle.gated_log.specs.Log.{as_handed}
 use Rattle.gated_log.specs.declared.version.Version.{Version}
 use Rattle.gated_log.specs.Layout.{slot_size}
 use Rattle.packed_rows.specs.Rows.{as_read, slot_total}
@@ -12,7 +12,7 @@ use Rattle.packed_rows.specs.Rows.{as_read, slot_total}
 -- the row of a slot as its version reads it, its gate and the number of its batch's slots aside, and the default row of
 -- a slot that is ill-formed
 abbrev pub row_back : Version → List ℕ → Row
-row_back version slot = unwrap_or (row_in_slot (as_read version (unmarked slot))) blank_row
+row_back version slot = unwrap_or (row_in_slot (as_read version (as_handed slot))) blank_row
 
 -- slot n of the log of a file
 abbrev pub slot_in : List ℕ → ℕ → List ℕ

@@ -1,6 +1,6 @@
 use Rattle.std.proofs.Common.{◌≡◌, ◌+◌, ◌-◌, ◌*◌, ◌/◌, ◌<◌, ◌≤◌, List, ◌++◌, ℕ, length, take, drop, refl, sym, subst, arith, length-take}
 use Rattle.std.proofs.lemmas.List.{length-drop, take_all}
-use Rattle.gated_log.specs.Log.{in_slots, unmarked}
+use Rattle.gated_log.specs.Log.{in_slots, as_handed}
 use Rattle.gated_log.specs.Visits.{IsShown}
 use Rattle.gated_log.specs.Walk.{BeginWith, WalksOn}
 use Rattle.gated_log.proofs.Chains.{length-in_slots}
@@ -28,10 +28,10 @@ loop-at-preserved g c =
     let size : at + slot_size * n - at ≡ slot_size * n = omega arith in
     let long : length batch ≡ slot_size * n = omega (arith, length-take (slot_size * n) (drop at piece), length-drop at piece, within) in
     let count : length batch / slot_size ≡ n = omega (arith, long) in
-    let saw : visits.saw version v (in_slots n (unmarked batch)) w =
-    subst (λ (k : ℕ). visits.saw version v (in_slots k (unmarked batch)) w) count
-    (subst (λ (k : ℕ). visits.saw version v (in_slots (length (take k (drop at piece)) / slot_size) (unmarked (take k (drop at piece)))) w) size c.show.ensures) in
-    let more : IsShown visits version v n (λ ys. ys ≡ in_slots n (unmarked batch)) w = record { slots = in_slots n (unmarked batch); saw = saw; count_is = sym (length-in_slots n (unmarked batch)); are = refl } in
+    let saw : visits.saw version v (in_slots n (as_handed batch)) w =
+    subst (λ (k : ℕ). visits.saw version v (in_slots k (as_handed batch)) w) count
+    (subst (λ (k : ℕ). visits.saw version v (in_slots (length (take k (drop at piece)) / slot_size) (as_handed (take k (drop at piece)))) w) size c.show.ensures) in
+    let more : IsShown visits version v n (λ ys. ys ≡ in_slots n (as_handed batch)) w = record { slots = in_slots n (as_handed batch); saw = saw; count_is = sym (length-in_slots n (as_handed batch)); are = refl } in
     record {
       place = omega (arith, i.place);
       held = within;

@@ -1,5 +1,5 @@
 use Rattle.std.proofs.Common.{◌≡◌, ◌∷◌, [], List, ℕ, length, ◌/◌, ◌<◌, ◌∙◌, ap, subst, arith}
-use Rattle.gated_log.specs.Log.{in_slots, unmarked}
+use Rattle.gated_log.specs.Log.{in_slots, as_handed}
 use Rattle.gated_log.specs.Layout.{slot_size}
 use Rattle.gated_log.proofs.SlotsShown.{first_slot, next_slot}
 use Rattle.gated_log.proofs.show.show.Goals as goal
@@ -10,7 +10,7 @@ loop-k-init g c =
     let some : 0 < length batch / slot_size = omega (arith, c.requires.some, c.requires.whole) in
     let saw = subst (λ (xs : List (List ℕ)). visits.saw c.args.version u xs v)
     (ap (λ (x : List ℕ). x ∷ []) c.without_marks.ensures ∙ first_slot (length batch / slot_size) batch c.as_chunks.result.0.now c.as_chunks.ensures.front some) c.visit.ensures in
-    record { saw = saw; count = visits.counts c.args.version u v (in_slots 1 (unmarked batch)) saw }
+    record { saw = saw; count = visits.counts c.args.version u v (in_slots 1 (as_handed batch)) saw }
 
 pub visit-requires-in-loop-k-clause-order : goal.visit-requires-in-loop-k-clause-order
 visit-requires-in-loop-k-clause-order g c = omega (arith, c.requires.order, c.loop-k.invariant.count)
@@ -24,7 +24,7 @@ loop-k-preserved g c =
     record {
       saw = subst (λ (xs : List (List ℕ)). visits.saw c.args.version u xs w)
           (next_slot (length batch / slot_size) batch c.as_chunks.result.0.now c.as_chunks.ensures.front k c.loop-k.auto.k lt)
-          (visits.saw_joins c.args.version u v w (in_slots k (unmarked batch)) _ i.saw c.visit-in-loop-k.ensures);
+          (visits.saw_joins c.args.version u v w (in_slots k (as_handed batch)) _ i.saw c.visit-in-loop-k.ensures);
       count = omega (arith, i.count, last);
     }
 
@@ -32,4 +32,4 @@ pub returns : goal.returns
 returns g c =
     let n : ℕ = length c.args.batch.now / slot_size in
     let e : c.loop-k.k ≡ n = omega (arith, c.loop-k-test.false, c.loop-k.auto.k-end, c.as_chunks.ensures.front_len, c.requires.some, c.requires.whole) in
-    subst (λ (j : ℕ). g.V.Visitor.visits.saw c.args.version c.args.visitor.now (in_slots j (unmarked c.args.batch.now)) c.loop-k.visitor) e c.loop-k.invariant.saw
+    subst (λ (j : ℕ). g.V.Visitor.visits.saw c.args.version c.args.visitor.now (in_slots j (as_handed c.args.batch.now)) c.loop-k.visitor) e c.loop-k.invariant.saw
