@@ -7,7 +7,7 @@ use Rattle.archive_copy.specs.declared.end.CopyEnd.{CopyEnd}
 use Rattle.archive_copy.specs.declared.end.CopyEnd.TheVariants.{Done, FromNotArchive, FromDamaged, Full, ToNotArchive, ToOldVersion, ToDamaged, NotPrefix, FromFault, ToFault, OutOfMemory}
 use Rattle.batch_adding.specs.Adding.{batch_count}
 use Rattle.batch_adding.specs.Calls.{is_opening_fault}
-use Rattle.batch_adding.specs.Opening.{CanBeAddedTo, CannotBeAddedTo}
+use Rattle.batch_adding.specs.Opening.{CanBeAddedTo, CannotBeAddedTo, OnJudged}
 use Rattle.batch_adding.specs.declared.opening.NotOpened.{NotOpened}
 use Rattle.batch_adding.specs.declared.opening.NotOpened.TheVariants as to_open
 use Rattle.archive_copy.specs.Adding.{IsOfAdding, CopyMoves, next_rows, to_add}
@@ -115,7 +115,7 @@ opening_faults (to_open.Damaged place) = refl
 opening_faults to_open.Fault = refl
 opening_faults to_open.OutOfMemory = refl
 
--- neither says how far the moment came
+-- where the first file refuses, nothing is said of how far the moment came
 pub from_moves : (end : CopyEnd) (old new : ℕ) (to : List ℕ) → IsOfFrom end → CopyMoves end old new to
 from_moves (FromNotArchive bytes) old new to is = tt
 from_moves (FromDamaged place) old new to is = tt
@@ -123,20 +123,22 @@ from_moves (Full n) old new to is = tt
 from_moves FromFault old new to is = tt
 from_moves OutOfMemory old new to is = tt
 from_moves (Done n) old new to is = absurd is
-from_moves (ToNotArchive bytes) old new to is = tt
-from_moves ToOldVersion old new to is = tt
-from_moves (ToDamaged place) old new to is = tt
+from_moves (ToNotArchive bytes) old new to is = absurd is
+from_moves ToOldVersion old new to is = absurd is
+from_moves (ToDamaged place) old new to is = absurd is
 from_moves (NotPrefix n) old new to is = absurd is
 from_moves ToFault old new to is = tt
 
-pub to_moves : (why : NotOpened) (old new : ℕ) (to : List ℕ) → CopyMoves (end_not_opened why) old new to
-to_moves (to_open.NotArchive bytes) old new to = tt
-to_moves to_open.OldVersion old new to = tt
-to_moves (to_open.Damaged place) old new to = tt
-to_moves to_open.Fault old new to = tt
-to_moves to_open.OutOfMemory old new to = tt
+-- one that refuses is only synced
+pub to_moves : (why : NotOpened) (told : Type 0) (old new : ℕ) (to : List ℕ) → OnJudged why told → (told → MovedToWrite old new to)
+    → CopyMoves (end_not_opened why) old new to
+to_moves (to_open.NotArchive bytes) told old new to moved by = by moved
+to_moves to_open.OldVersion told old new to moved by = by moved
+to_moves (to_open.Damaged place) told old new to moved by = by moved
+to_moves to_open.Fault told old new to moved by = tt
+to_moves to_open.OutOfMemory told old new to moved by = tt
 
--- an adding that was done took four changes for each batch
+-- an adding that was done took the changes of each batch
 pub adding_moves : (end : CopyEnd) (old opened new count : ℕ) (to : List ℕ) (mine : List Row) → IsOfAdding end count → rows_of to ≡ holds mine → MovedToWrite old opened to
     → (end ≡ Done count → new ≡ opened + 4 * batch_count (count - length mine)) → CopyMoves end old new to
 adding_moves (Done n) old opened new count to mine is has moved on =
@@ -147,7 +149,7 @@ adding_moves ToFault old opened new count to mine is has moved on = tt
 adding_moves OutOfMemory old opened new count to mine is has moved on = tt
 adding_moves (FromNotArchive bytes) old opened new count to mine is has moved on = tt
 adding_moves (Full n) old opened new count to mine is has moved on = tt
-adding_moves (ToNotArchive bytes) old opened new count to mine is has moved on = tt
-adding_moves ToOldVersion old opened new count to mine is has moved on = tt
-adding_moves (ToDamaged place) old opened new count to mine is has moved on = tt
+adding_moves (ToNotArchive bytes) old opened new count to mine is has moved on = absurd is
+adding_moves ToOldVersion old opened new count to mine is has moved on = absurd is
+adding_moves (ToDamaged place) old opened new count to mine is has moved on = absurd is
 adding_moves (NotPrefix n) old opened new count to mine is has moved on = absurd is

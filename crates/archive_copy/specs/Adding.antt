@@ -1,11 +1,12 @@
 -- The rows that a copy adds, and how far the moment comes.
-use Rattle.std.specs.Prelude.{◌≡◌, ℕ, ◌+◌, ◌-◌, ◌*◌, List, [], length, drop}
+use Rattle.std.specs.Prelude.{◌≡◌, ℕ, ◌+◌, ◌-◌, List, [], length, drop}
 use Rattle.station_base.specs.declared.row.Row.{Row}
 use Rattle.gated_log.specs.Start.{MovedToWrite}
 use Rattle.packed_rows.specs.Rows.{RowsOf, holds, rows_of}
-use Rattle.batch_adding.specs.Adding.{batch_count}
+use Rattle.batch_adding.specs.Adding.{changes_for_rows}
 use Rattle.archive_copy.specs.declared.end.CopyEnd.{CopyEnd}
-use Rattle.archive_copy.specs.declared.end.CopyEnd.TheVariants.{Done, FromDamaged, NotPrefix}
+use Rattle.archive_copy.specs.declared.end.CopyEnd.TheVariants.{Done, FromDamaged, NotPrefix, ToDamaged, ToNotArchive}
+use Rattle.archive_copy.specs.declared.end.CopyEnd.TheVariants.{ToOldVersion}
 use Rattle.archive_copy.specs.declared.end.CopyEnd.TheVariants.{FromFault, ToFault, OutOfMemory}
 
 -- the rows of an archive behind those that the other one has
@@ -27,11 +28,14 @@ IsOfAdding ToFault count = Unit {0}
 IsOfAdding OutOfMemory count = Unit {0}
 IsOfAdding other count = ⊥
 
--- How far the moment comes: a recovery makes three changes where it makes the file anew, and else one; each batch takes
--- four. (A copy that stops says less.)
+-- How far the moment comes: by the changes of a recovery, and by those of the batches. A file that is refused is only
+-- synced, since it is not made anew. (A copy that stops says less.)
 abbrev pub CopyMoves : CopyEnd → ℕ → ℕ → List ℕ → Type 0
 CopyMoves (Done n) old new to =
     (mine : List Row) × (opened : ℕ) × (rows_of to ≡ holds mine) × MovedToWrite old opened to
-    × (new ≡ opened + 4 * batch_count (n - length mine))
+    × (new ≡ opened + changes_for_rows (n - length mine))
 CopyMoves (NotPrefix n) old new to = MovedToWrite old new to
+CopyMoves (ToNotArchive bytes) old new to = MovedToWrite old new to
+CopyMoves ToOldVersion old new to = MovedToWrite old new to
+CopyMoves (ToDamaged place) old new to = MovedToWrite old new to
 CopyMoves other old new to = Unit {0}

@@ -43,9 +43,11 @@ abbrev pub CopyAnswers : CopyEnd → List ℕ → List ℕ → Type 0
 CopyAnswers (FromNotArchive bytes) from to = RefusesFrom (FromNotArchive bytes) from
 CopyAnswers (FromDamaged place) from to = RefusesFrom (FromDamaged place) from
 CopyAnswers (Full n) from to = RefusesFrom (Full n) from
-CopyAnswers (ToNotArchive bytes) from to = (theirs : List Row) × CanBeCopied from theirs × CannotBeAddedTo (to_open.NotArchive bytes) to
+CopyAnswers (ToNotArchive bytes) from to =
+    (theirs : List Row) × CanBeCopied from theirs × CannotBeAddedTo (to_open.NotArchive bytes) to
 CopyAnswers ToOldVersion from to = (theirs : List Row) × CanBeCopied from theirs × CannotBeAddedTo to_open.OldVersion to
-CopyAnswers (ToDamaged place) from to = (theirs : List Row) × CanBeCopied from theirs × CannotBeAddedTo (to_open.Damaged place) to
+CopyAnswers (ToDamaged place) from to =
+    (theirs : List Row) × CanBeCopied from theirs × CannotBeAddedTo (to_open.Damaged place) to
 CopyAnswers (NotPrefix n) from to =
     (theirs mine : List Row) × CanBeCopied from theirs × CanBeAddedTo to mine × CopyEndsWith (NotPrefix n) mine theirs
 CopyAnswers (Done n) from to =

@@ -7,7 +7,7 @@ use Rattle.disk_model.specs.Medium.{Medium}
 use Rattle.station_base.specs.declared.row.Row.{Row}
 use Rattle.packed_rows.specs.Rows.{holds, rows_of}
 use Rattle.weather_book.specs.Stands.{NowHasRows}
-use Rattle.batch_adding.specs.Adding.{HasSome}
+use Rattle.batch_adding.specs.Adding.{changes_to_fill, HasSome}
 use Rattle.batch_adding.specs.Calls.{ToCalls}
 use Rattle.archive_copy.specs.Adding.{CopyMoves, next_rows, to_add}
 use Rattle.archive_copy.specs.Answers.{CopyAnswers, IsCopied, OnFromDamaged, OnFromRefused}
@@ -35,7 +35,7 @@ pub record Copies {D E : Type 0} (one : Medium D) (other : Medium E) (end : Copy
   pub from_stays : Stays one from from'
   pub from_fault : Faults one from from' (end ≡ FromFault)
   pub to_fault : Faults other to to' (end ≡ ToFault)
-  pub begun : BeginsChanges other 838867 to to'
+  pub begun : BeginsChanges other changes_to_fill to to'
   pub from_went : OnlyReads one (is_from_fault end) from from'
   pub to_went : AddsNext one other end from to to'
   pub moved : WhereTold (one.seen from) (λ _. WhereTold (other.seen to)

@@ -1,4 +1,4 @@
-ghost use Rattle.std.specs.Prelude.{ℕ, ◌≡◌, ◌≤◌, ◌+◌, ◌-◌, ◌*◌, ◌++◌, false, List, drop, length};
+ghost use Rattle.std.specs.Prelude.{ℕ, ◌≡◌, ◌≤◌, ◌+◌, ◌-◌, ◌++◌, false, List, drop, length};
 ghost use Rattle.causes.specs.Lists.{IsFrontOf};
 ghost use Rattle.causes.specs.Told.{WhereTold};
 ghost use Rattle.disk_model.specs.Disk.{BeginsChanges, Faults, LeavesOnly, MayBegin, Stays};
@@ -8,7 +8,7 @@ ghost use Rattle.weather_book.specs.Book.{BookStandsFor, book_is_stale, len_of, 
 ghost use Rattle.packed_rows.specs.Rows.{slot_total};
 ghost use Rattle.weather_book.specs.Stands.{StandsOn, StandsToReadOn};
 ghost use Rattle.archive_copy.specs.Adding.{IsOfAdding};
-ghost use Rattle.batch_adding.specs.Adding.{HasSome, batch_count};
+ghost use Rattle.batch_adding.specs.Adding.{HasSome, changes_for_rows};
 ghost use Rattle.batch_adding.specs.Calls.{AddsBatches, slots_end};
 ghost use Rattle.archive_copy.specs.Calls.{is_from_fault, is_to_fault};
 ghost use Rattle.station_base.specs.Limits.{most_rows};
@@ -21,14 +21,14 @@ use batch_adding::{BatchEnd, add_batch};
 use disk_model::Disk;
 use weather_book::Book;
 
-// Adds the rows that a book lacks, five a batch and the last batch with what is left.
+// Adds the rows that a book lacks, batch by batch.
 pub fn add_missing<D: Disk, E: Disk>(
     theirs: &Book,
     from: &mut D,
     mine: &mut Book,
     to: &mut E,
 ) -> CopyEnd
-    requires room { MayBegin E.medium (4 * batch_count (len_of theirs.now - len_of mine.old)) to.old }
+    requires room { MayBegin E.medium (changes_for_rows (len_of theirs.now - len_of mine.old)) to.old }
     requires fresh { book_is_stale mine.old ≡ false }
     requires most { most_rows_of mine.old ≡ most_rows }
     requires few { len_of theirs.now ≤ most_rows }
@@ -46,9 +46,9 @@ pub fn add_missing<D: Disk, E: Disk>(
         → AddsBatches E.medium mine_rows (is_to_fault result) (λ next. (theirs_rows : List Row)
         → StandsToReadOn D.medium theirs.now from.old theirs_rows → WhereTold (D.medium.seen from.old) (λ _.
         IsFrontOf next (drop (length mine_rows) theirs_rows))) to.old to.new }
-    ensures begun { BeginsChanges E.medium (4 * batch_count (len_of theirs.now - len_of mine.old)) to.old to.new }
+    ensures begun { BeginsChanges E.medium (changes_for_rows (len_of theirs.now - len_of mine.old)) to.old to.new }
     ensures moved { result ≡ CopyEnd.Done (len_of theirs.now)
-        → E.medium.moment to.new ≡ E.medium.moment to.old + 4 * batch_count (len_of theirs.now - len_of mine.old) }
+        → E.medium.moment to.new ≡ E.medium.moment to.old + changes_for_rows (len_of theirs.now - len_of mine.old) }
     ensures images { (theirs_rows mine_rows : List Row) → StandsToReadOn D.medium theirs.now from.old theirs_rows
         → StandsOn E.medium mine.old to.old mine_rows → WhereTold (D.medium.seen from.old) (λ _.
         LeavesOnly E.medium (HasSome mine_rows (drop (length mine_rows) theirs_rows)) to.old to.new) }

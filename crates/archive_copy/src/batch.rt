@@ -3,7 +3,7 @@ ghost use Rattle.causes.specs.Told.{WhereTold};
 ghost use Rattle.disk_model.specs.Disk.{Faults, Stays};
 ghost use Rattle.gated_log.specs.Calls.{Looked};
 ghost use Rattle.station_base.specs.declared.row.Row.{Row};
-ghost use Rattle.packed_rows.specs.Adding.{AreLimited, ArePrintable};
+ghost use Rattle.packed_rows.specs.Adding.{AreLimited, ArePrintable, rows_in_a_batch};
 ghost use Rattle.weather_book.specs.Book.{BookStandsFor, len_of};
 ghost use Rattle.packed_rows.specs.Rows.{slot_total};
 ghost use Rattle.packed_rows.specs.Rising.{rows_rise, RowsRiseAfter};
@@ -42,12 +42,12 @@ pub fn next_batch<D: Disk>(
     requires ahead { IsAhead D.medium theirs.now from.old reader.old }
     requires empty { batch.old.items ≡ [] }
     ensures ready { result ≡ BatchRead.Ready → (rows : List Row) → StandsToReadOn D.medium theirs.now from.old rows
-        → WhereTold (D.medium.seen from.old) (λ _. batch.new.items ≡ take 5 (drop reader.old.at rows)) }
-    ensures count { result ≡ BatchRead.Ready → length batch.new.items ≡ min 5 (len_of theirs.now - reader.old.at) }
+        → WhereTold (D.medium.seen from.old) (λ _. batch.new.items ≡ take rows_in_a_batch (drop reader.old.at rows)) }
+    ensures count { result ≡ BatchRead.Ready → length batch.new.items ≡ min rows_in_a_batch (len_of theirs.now - reader.old.at) }
     ensures rising { result ≡ BatchRead.Ready → RowsRiseAfter last batch.new.items }
     ensures out_of_order { result ≡ BatchRead.OutOfOrder → (rows : List Row)
         → StandsToReadOn D.medium theirs.now from.old rows
-        → WhereTold (D.medium.seen from.old) (λ _. rows_rise last (take 5 (drop reader.old.at rows)) ≡ false) }
+        → WhereTold (D.medium.seen from.old) (λ _. rows_rise last (take rows_in_a_batch (drop reader.old.at rows)) ≡ false) }
     ensures printable { ArePrintable batch.new.items }
     ensures limited { AreLimited batch.new.items }
     ensures at { result ≡ BatchRead.Ready → reader.new.at ≡ reader.old.at + length batch.new.items }

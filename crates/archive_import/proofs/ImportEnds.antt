@@ -2,7 +2,8 @@
 use Rattle.std.proofs.Common.{◌≡◌, ℕ, List, refl}
 use Rattle.station_base.specs.declared.row.Row.{Row}
 use Rattle.batch_adding.specs.Calls.{is_opening_fault}
-use Rattle.batch_adding.specs.Opening.{CannotBeAddedTo}
+use Rattle.gated_log.specs.Start.{MovedToWrite}
+use Rattle.batch_adding.specs.Opening.{CannotBeAddedTo, OnJudged}
 use Rattle.batch_adding.specs.declared.opening.NotOpened.{NotOpened}
 use Rattle.batch_adding.specs.declared.opening.NotOpened.TheVariants as to_open
 use Rattle.archive_import.specs.Ends.{import_not_opened, is_import_fault}
@@ -22,9 +23,10 @@ refused_faults (to_open.Damaged place) = refl
 refused_faults to_open.Fault = refl
 refused_faults to_open.OutOfMemory = refl
 
-pub refused_moves : (why : NotOpened) (old new : ℕ) (to : List ℕ) → ImportMoves (import_not_opened why) old new to
-refused_moves (to_open.NotArchive bytes) old new to = tt
-refused_moves to_open.OldVersion old new to = tt
-refused_moves (to_open.Damaged place) old new to = tt
-refused_moves to_open.Fault old new to = tt
-refused_moves to_open.OutOfMemory old new to = tt
+pub refused_moves : (why : NotOpened) (told : Type 0) (old new : ℕ) (to : List ℕ) → OnJudged why told → (told → MovedToWrite old new to)
+    → ImportMoves (import_not_opened why) old new to
+refused_moves (to_open.NotArchive bytes) told old new to moved by = by moved
+refused_moves to_open.OldVersion told old new to moved by = by moved
+refused_moves (to_open.Damaged place) told old new to moved by = by moved
+refused_moves to_open.Fault told old new to moved by = tt
+refused_moves to_open.OutOfMemory told old new to moved by = tt

@@ -1,13 +1,13 @@
-ghost use Rattle.std.specs.Prelude.{◌≡◌, ◌≤◌, ◌+◌, ◌*◌, ◌++◌, false, List, length};
+ghost use Rattle.std.specs.Prelude.{◌≡◌, ◌≤◌, ◌+◌, ◌++◌, false, List, length};
 ghost use Rattle.causes.specs.Lists.{IsFrontOf};
 ghost use Rattle.disk_model.specs.Disk.{BeginsChanges, Faults, LeavesOnly, MayBegin};
 ghost use Rattle.station_base.specs.Limits.{most_rows};
 ghost use Rattle.station_base.specs.declared.row.Row.{Row};
-ghost use Rattle.packed_rows.specs.Adding.{AreLimited, ArePrintable};
+ghost use Rattle.packed_rows.specs.Adding.{AreLimited, ArePrintable, rows_in_a_batch};
 ghost use Rattle.packed_rows.specs.Rising.{RowsRiseAfter};
 ghost use Rattle.weather_book.specs.Book.{BookStandsFor, book_is_stale, last_stamp_of, len_of, most_rows_of};
 ghost use Rattle.weather_book.specs.Stands.{StandsOn};
-ghost use Rattle.batch_adding.specs.Adding.{HasSome, batch_count};
+ghost use Rattle.batch_adding.specs.Adding.{HasSome, changes_for_rows};
 ghost use Rattle.batch_adding.specs.Calls.{AddsBatches, add_failed};
 ghost use Rattle.archive_import.specs.Texts.{AreLinesOfRows, rows_to_come};
 
@@ -19,7 +19,7 @@ use row_text::TextRows;
 use station_base::Row;
 use weather_book::Book;
 
-// Adds the rows of a batch and of the lines behind it, so many, to a book that may have them, five a batch and the last batch with what is left.
+// Adds the rows of a batch and of the lines behind it, so many, to a book that may have them, batch by batch.
 pub fn add_rows<E: Disk>(
     lines: &mut TextRows<'_>,
     batch: &mut ArrayVec<Row, BATCH>,
@@ -27,9 +27,9 @@ pub fn add_rows<E: Disk>(
     mine: &mut Book,
     to: &mut E,
 ) -> BatchEnd
-    requires room { MayBegin E.medium (4 * batch_count count) to.old }
+    requires room { MayBegin E.medium (changes_for_rows count) to.old }
     requires rows { AreLinesOfRows lines.old }
-    requires few { length batch.old.items ≤ 5 }
+    requires few { length batch.old.items ≤ rows_in_a_batch }
     requires printable { ArePrintable batch.old.items }
     requires limited { AreLimited batch.old.items }
     requires count { count ≡ length (rows_to_come batch.old.items lines.old) }
@@ -40,9 +40,9 @@ pub fn add_rows<E: Disk>(
     ensures cause { Faults E.medium to.old to.new (result ≡ BatchEnd.Fault) }
     ensures went { (old : List Row) → BookStandsFor mine.old old
         → AddsBatches E.medium old (add_failed result) (λ next. IsFrontOf next (rows_to_come batch.old.items lines.old)) to.old to.new }
-    ensures begun { BeginsChanges E.medium (4 * batch_count count) to.old to.new }
+    ensures begun { BeginsChanges E.medium (changes_for_rows count) to.old to.new }
     ensures moved { result ≡ BatchEnd.Done
-        → E.medium.moment to.new ≡ E.medium.moment to.old + 4 * batch_count count }
+        → E.medium.moment to.new ≡ E.medium.moment to.old + changes_for_rows count }
     ensures images { (old : List Row) → StandsOn E.medium mine.old to.old old
         → LeavesOnly E.medium (HasSome old (rows_to_come batch.old.items lines.old)) to.old to.new }
     ensures stands { result ≡ BatchEnd.Done → (old : List Row) → StandsOn E.medium mine.old to.old old

@@ -2,6 +2,7 @@ ghost use Rattle.std.specs.Prelude.{◌≡◌, Ok};
 ghost use Rattle.causes.specs.Told.{WhereTold};
 ghost use Rattle.disk_model.specs.Disk.{BeginsChanges, Faults, MayBegin};
 ghost use Rattle.row_text.specs.RowsOfText.{row_count_of, rows_of_text};
+ghost use Rattle.batch_adding.specs.Adding.{changes_to_fill};
 ghost use Rattle.archive_import.specs.Texts.{text_rows};
 ghost use Rattle.archive_import.specs.Importing.{AddsLater, ImportAnswers, ImportMoves, IsImported, LeavesLater};
 
@@ -14,16 +15,17 @@ use row_text::TextRows;
 use station_base::MOST_ROWS;
 use std::alloc::Global;
 
-/// Adds the rows of a text, so many, whose stamps exceed that of the archive's last row, in order and five a batch, the last
-/// batch with what is left. The text was judged by `count_rows`, and is read a second time, so that no list of its rows is kept.
+/// Adds the rows of a text, so many, whose stamps exceed that of the archive's last row, in order, `BATCH` rows a batch and the
+/// last batch with what is left. The text was judged by `count_rows`, and is read a second time, so that no list of its rows is
+/// kept.
 ///
 /// The refusals of the archive come first, and then Full. It takes the memory of a book.
 pub fn import_rows<E: Disk>(alloc: Global, text: &[u8], count: u64, to: &mut E) -> ImportEnd
-    requires room { MayBegin E.medium 838867 to.old }
+    requires room { MayBegin E.medium changes_to_fill to.old }
     requires judged { row_count_of (rows_of_text text.now) ≡ Ok count }
     ensures answers { WhereTold (E.medium.seen to.old) (ImportAnswers result (text_rows text.now)) }
     ensures fault { Faults E.medium to.old to.new (result ≡ ImportEnd.Fault) }
-    ensures begun { BeginsChanges E.medium 838867 to.old to.new }
+    ensures begun { BeginsChanges E.medium changes_to_fill to.old to.new }
     ensures went { AddsLater E.medium result (text_rows text.now) to.old to.new }
     ensures moved { WhereTold (E.medium.seen to.old)
         (ImportMoves result (E.medium.moment to.old) (E.medium.moment to.new)) }

@@ -1,5 +1,5 @@
 ghost use Rattle.std.specs.Prelude.{◌≡◌, ◌≤◌, None, length};
-ghost use Rattle.packed_rows.specs.Adding.{AreLimited, ArePrintable};
+ghost use Rattle.packed_rows.specs.Adding.{AreLimited, ArePrintable, rows_in_a_batch};
 ghost use Rattle.packed_rows.specs.Rising.{RowsRiseAfter};
 ghost use Rattle.archive_import.specs.Texts.{AreLinesOfRows, rows_ahead, rows_to_come};
 ghost use Rattle.archive_import.specs.Importing.{later_rows};
@@ -26,7 +26,7 @@ pub fn pass_over(lines: &mut TextRows<'_>, count: u64, last: Option<Stamp>) -> B
     ensures later { rows_to_come result.first.items lines.new ≡ later_rows last (rows_ahead lines.old) }
     ensures count { result.count ≡ length (later_rows last (rows_ahead lines.old)) }
     ensures fewer { result.count ≤ count }
-    ensures few { length result.first.items ≤ 5 }
+    ensures few { length result.first.items ≤ rows_in_a_batch }
     ensures rows { AreLinesOfRows lines.new }
     ensures rising { RowsRiseAfter last (later_rows last (rows_ahead lines.old)) }
     ensures printable { ArePrintable result.first.items }

@@ -6,9 +6,10 @@ use Rattle.disk_model.specs.Medium.{Medium}
 use Rattle.disk_model.specs.Calls.{DiskCall}
 use Rattle.disk_model.specs.declared.disk.Disked.{Disked}
 use Rattle.disk_model.specs.declared.disk.Disked.TheVariants.{Done, Failed}
-use Rattle.gated_log.specs.Calls.{any_failed, changes, four_changes, reads_fit, recovery_changes, up_to}
+use Rattle.gated_log.specs.Calls.{any_failed, changes, append_changes, reads_fit, recovery_changes, up_to}
 use Rattle.gated_log.specs.Layout.{slot_size}
 use Rattle.station_base.specs.declared.row.Row.{Row}
+use Rattle.packed_rows.specs.Adding.{rows_in_a_batch}
 use Rattle.packed_rows.specs.Rows.{slot_total}
 use Rattle.weather_book.specs.declared.book.Book.{Book}
 use Rattle.weather_book.specs.Book.{slots_of_book}
@@ -50,7 +51,7 @@ add_failed other = false
 -- the changes for the rows of a batch behind others: those of one append
 abbrev pub changes_of_batch : List Row → List Row → List (Disked → DiskCall)
 changes_of_batch old new =
-    four_changes (slot_size * (slot_total old + 1)) (slot_size * (slot_total (old ++ new) - slot_total old))
+    append_changes (slot_size * (slot_total old + 1)) (slot_size * (slot_total (old ++ new) - slot_total old))
 
 -- the changes for batches behind some rows, one after another
 abbrev pub changes_of_batches : List Row → List (List Row) → List (Disked → DiskCall)
@@ -62,11 +63,11 @@ abbrev pub rows_of_batches : List (List Row) → List Row
 rows_of_batches [] = []
 rows_of_batches (batch ∷ more) = batch ++ rows_of_batches more
 
--- each batch has five rows, and the last one one to five
+-- each batch has as many rows as it may, and the last one at least one
 abbrev pub AreBatches : List (List Row) → Type 0
 AreBatches [] = Unit {0}
-AreBatches (batch ∷ []) = (1 ≤ length batch) × (length batch ≤ 5)
-AreBatches (batch ∷ next ∷ more) = (length batch ≡ 5) × AreBatches (next ∷ more)
+AreBatches (batch ∷ []) = (1 ≤ length batch) × (length batch ≤ rows_in_a_batch)
+AreBatches (batch ∷ next ∷ more) = (length batch ≡ rows_in_a_batch) × AreBatches (next ∷ more)
 
 -- Changes alone led from the one disk to the other: those for batches behind these rows, in order and up to the first
 -- that failed; whether one did is told. The rows of the batches are as is said.
@@ -76,9 +77,11 @@ pub record AddsBatches {D : Type 0} (medium : Medium D) (mine : List Row) (faile
   pub sizes : AreBatches batches
   pub begun : medium.moment old ≤ medium.moment new
   pub by : medium.went old
-      (up_to (take (medium.moment new - medium.moment old) (changes_of_batches mine batches)) (failed_answer failed)) new
+      (up_to (take (medium.moment new - medium.moment old) (changes_of_batches mine batches)) (failed_answer failed))
+      new
   pub fails : any_failed
-      (up_to (take (medium.moment new - medium.moment old) (changes_of_batches mine batches)) (failed_answer failed)) ≡ failed
+      (up_to (take (medium.moment new - medium.moment old) (changes_of_batches mine batches))
+      (failed_answer failed)) ≡ failed
   pub rows_are : are (rows_of_batches batches)
 
 -- The calls on the disk of an archive to which rows are added. The changes are those of a recovery, and then those for
@@ -95,7 +98,8 @@ pub record ToCalls {D : Type 0} (medium : Medium D) (failed : Bool) (are : List 
   pub sizes : AreBatches batches
   pub begun : medium.moment old + opening ≤ medium.moment new
   pub changes_are : changes calls ≡ up_to (take opening recovery_changes) opened ++ up_to
-      (take (medium.moment new - (medium.moment old + opening)) (changes_of_batches mine batches)) (failed_answer failed)
+      (take (medium.moment new - (medium.moment old + opening)) (changes_of_batches mine batches))
+      (failed_answer failed)
   pub rows_are : 0 < length batches → are mine (rows_of_batches batches)
   pub fits : reads_fit 0 calls
   pub fails : any_failed calls ≡ failed

@@ -1,10 +1,10 @@
-ghost use Rattle.std.specs.Prelude.{◌≡◌, ◌≤◌, ◌+◌, ◌-◌, ◌++◌, false, List, length, take};
+ghost use Rattle.std.specs.Prelude.{◌≡◌, ◌≤◌, ◌+◌, ◌-◌, ◌++◌, false, true, List, length, take};
 ghost use Rattle.disk_model.specs.Disk.{Faults, LeavesOnly, MayBegin};
-ghost use Rattle.gated_log.specs.Calls.{up_to};
+ghost use Rattle.gated_log.specs.Calls.{changes_in_a_batch, up_to};
 ghost use Rattle.station_base.specs.declared.row.Row.{Row};
-ghost use Rattle.packed_rows.specs.Adding.{AreLimited, ArePrintable};
+ghost use Rattle.packed_rows.specs.Adding.{rows_in_a_batch, AreLimited, ArePrintable};
 ghost use Rattle.packed_rows.specs.Rising.{RowsRiseAfter, last_stamp_after};
-ghost use Rattle.weather_book.specs.Book.{BookStandsFor, book_is_stale, last_stamp_of, len_of, most_rows_of};
+ghost use Rattle.weather_book.specs.Book.{BookStandsFor, IsSameBook, book_is_stale, last_stamp_of, len_of, most_rows_of};
 ghost use Rattle.weather_book.specs.Stands.{StandsOn};
 ghost use Rattle.batch_adding.specs.Adding.{HasOldOrAll, MovedBy};
 ghost use Rattle.batch_adding.specs.Calls.{add_failed, changes_of_batch, failed_answer};
@@ -26,9 +26,9 @@ pub enum BatchEnd {
 
 /// Adds a batch to a book that may have it.
 pub fn add_batch<E: Disk>(mine: &mut Book, to: &mut E, rows: &[Row]) -> BatchEnd
-    requires room { MayBegin E.medium 4 to.old }
+    requires room { MayBegin E.medium changes_in_a_batch to.old }
     requires some { 1 ≤ length rows.now }
-    requires few { length rows.now ≤ 5 }
+    requires few { length rows.now ≤ rows_in_a_batch }
     requires rising { RowsRiseAfter (last_stamp_of mine.old) rows.now }
     requires printable { ArePrintable rows.now }
     requires limited { AreLimited rows.now }
@@ -43,6 +43,8 @@ pub fn add_batch<E: Disk>(mine: &mut Book, to: &mut E, rows: &[Row]) -> BatchEnd
     ensures rows { result ≡ BatchEnd.Done → (old : List Row) → BookStandsFor mine.old old
         → BookStandsFor mine.new (old ++ rows.now) }
     ensures fresh { result ≡ BatchEnd.Done → book_is_stale mine.new ≡ false }
+    ensures stale { result ≡ BatchEnd.Fault → book_is_stale mine.new ≡ true }
+    ensures same { result ≡ BatchEnd.OutOfMemory → IsSameBook mine.old mine.new }
     ensures most { result ≡ BatchEnd.Done → most_rows_of mine.new ≡ most_rows_of mine.old }
     ensures len { result ≡ BatchEnd.Done → len_of mine.new ≡ len_of mine.old + length rows.now }
     ensures last { result ≡ BatchEnd.Done

@@ -1,14 +1,14 @@
 ghost use Rattle.std.specs.Prelude.{◌≡◌, ◌-◌, false, IfOk, Err, List};
 ghost use Rattle.causes.specs.Told.{WhereTold, map_told};
 ghost use Rattle.disk_model.specs.Disk.{BeginsChanges, Faults, LeavesOnly, MayBegin};
-ghost use Rattle.gated_log.specs.Calls.{RecoveryCalls};
+ghost use Rattle.gated_log.specs.Calls.{most_recovery_changes, RecoveryCalls};
 ghost use Rattle.gated_log.specs.Start.{MovedToWrite, remade};
 ghost use Rattle.station_base.specs.declared.row.Row.{Row};
 ghost use Rattle.station_base.specs.Limits.{most_rows};
 ghost use Rattle.weather_book.specs.Book.{book_is_stale, most_rows_of};
 ghost use Rattle.weather_book.specs.Stands.{HasRows, NowHasRows, ReadsRows, StandsOn};
 ghost use Rattle.batch_adding.specs.Calls.{opening_failed, slots_opened};
-ghost use Rattle.batch_adding.specs.Opening.{OpensTo};
+ghost use Rattle.batch_adding.specs.Opening.{OnAnswered, OpensTo};
 
 use disk_model::Disk;
 use station_base::MOST_ROWS;
@@ -32,13 +32,13 @@ pub enum NotOpened {
 
 /// The book of an archive to which rows may be added, or why there is none.
 pub fn open_to<E: Disk>(alloc: Global, to: &mut E) -> Result<Book, NotOpened>
-    requires { MayBegin E.medium 3 to.old }
+    requires { MayBegin E.medium most_recovery_changes to.old }
     ensures finds { WhereTold (E.medium.seen to.old) (OpensTo result) }
     ensures fresh { IfOk result (λ book. (book_is_stale book ≡ false) × (most_rows_of book ≡ most_rows)) }
     ensures cause { Faults E.medium to.old to.new (result ≡ Err NotOpened.Fault) }
-    ensures begun { BeginsChanges E.medium 3 to.old to.new }
-    ensures moved { IfOk result
-        (λ _. WhereTold (E.medium.seen to.old) (MovedToWrite (E.medium.moment to.old) (E.medium.moment to.new))) }
+    ensures begun { BeginsChanges E.medium most_recovery_changes to.old to.new }
+    ensures moved { OnAnswered result
+        (WhereTold (E.medium.seen to.old) (MovedToWrite (E.medium.moment to.old) (E.medium.moment to.new))) }
     ensures went { RecoveryCalls E.medium to.old to.new (E.medium.moment to.new - E.medium.moment to.old)
         (slots_opened result) (opening_failed result) }
     ensures reads { IfOk result (λ _. E.medium.seen to.new ≡ map_told remade (E.medium.seen to.old)) }

@@ -220,7 +220,7 @@ pub returns-in-Err-clause-moved : goal.returns-in-Err-clause-moved
 returns-in-Err-clause-moved g c x told y told2 = from_moves c.in-Err.end _ _ y c.in-Err.ensures.kind
 
 pub returns-in-Err-open_to-clause-moved : goal.returns-in-Err-open_to-clause-moved
-returns-in-Err-open_to-clause-moved g c x told y told2 = rw c.not_opened.ensures (to_moves c.in-Err-open_to.why _ _ y)
+returns-in-Err-open_to-clause-moved g c x told y told2 = rw c.not_opened.ensures (to_moves c.in-Err-open_to.why _ _ _ y c.in-Err-open_to.ensures.moved (λ moved. moved y told2))
 
 pub returns-in-UnlikeAt-clause-moved : goal.returns-in-UnlikeAt-clause-moved
 returns-in-UnlikeAt-clause-moved g c x told y told2 = rw c.compare.ensures.to_stays.at (c.in-Ok-open_to.ensures.moved y told2)

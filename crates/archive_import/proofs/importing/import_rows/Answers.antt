@@ -1,23 +1,16 @@
-use Rattle.std.proofs.Common.{◌≡◌, ◌∙◌, ◌++◌, [], Option, List, true, false, length, refl, sym, ap, subst, arith}
-use Rattle.station_base.specs.CivilMinute.{CivilMinute}
+use Rattle.std.proofs.Common.{◌≡◌, ◌∙◌, ◌++◌, [], List, true, false, length, refl, sym, ap, subst, arith}
 use Rattle.station_base.specs.declared.row.Row.{Row}
-use Rattle.packed_rows.specs.Rising.{last_row_stamp}
-use Rattle.packed_rows.specs.Rows.{slot_total}
 use Rattle.row_text.proofs.TextWritten.{text_is}
 use Rattle.row_text.specs.RowsOfText.{rows_of_text}
 use Rattle.weather_book.proofs.BookOnDisk.{crash_rows, read_has}
-use Rattle.weather_book.proofs.Looks.{no_look}
-use Rattle.weather_book.proofs.RowsOfBook.{slots_same}
 use Rattle.weather_book.specs.Stands.{StandsOn}
-use Rattle.batch_adding.specs.Adding.{HasSome}
-use Rattle.batch_adding.specs.Calls.{slots_end}
 use Rattle.batch_adding.specs.Opening.{CanBeAddedTo}
-use Rattle.batch_adding.proofs.BookAtRest.{adds_none, same_rows, same_some}
-use Rattle.batch_adding.proofs.CallsTogether.{calls_added, calls_opening}
-use Rattle.batch_adding.proofs.Kept.{leaves_join}
+use Rattle.batch_adding.proofs.BookAtRest.{adds_none}
+use Rattle.batch_adding.proofs.CallsTogether.{calls_opening}
 use Rattle.archive_import.specs.Ends.{is_import_fault}
-use Rattle.archive_import.specs.Importing.{later_rows, may_add, rows_to_import}
-use Rattle.archive_import.specs.Texts.{rows_ahead, text_rows, rows_to_come, rows_told}
+use Rattle.archive_import.specs.Importing.{may_add, rows_to_import}
+use Rattle.archive_import.specs.Texts.{text_rows, rows_to_come, rows_told}
+use Rattle.archive_import.proofs.Added.{calls_later, later_same, leaves_later}
 use Rattle.archive_import.proofs.Ahead.{judged_rows}
 use Rattle.archive_import.proofs.ImportEnds.{refused_answers, refused_faults, refused_moves}
 use Rattle.archive_import.proofs.importing.import_rows.Goals as goal
@@ -37,7 +30,7 @@ returns-in-Err-clause-images g c x told mine crash =
     adds_none g.E.Disk.medium mine (may_add c.not_opened.result mine (text_rows c.args.text.now)) c.args.to.now c.open_to.new.to (c.open_to.ensures.images mine crash)
 
 pub returns-in-Err-clause-moved : goal.returns-in-Err-clause-moved
-returns-in-Err-clause-moved g c x told = rw c.not_opened.ensures (refused_moves c.in-Err.why _ _ x)
+returns-in-Err-clause-moved g c x told = rw c.not_opened.ensures (refused_moves c.in-Err.why _ _ _ x c.in-Err.ensures.moved (λ moved. moved x told))
 
 pub pass_over-behind-requires-clause-rising : goal.pass_over-behind-requires-clause-rising
 pass_over-behind-requires-clause-rising g c =
@@ -46,11 +39,8 @@ pass_over-behind-requires-clause-rising g c =
 
 pub returns-then-held-most-clause-answers : goal.returns-then-held-most-clause-answers
 returns-then-held-most-clause-answers g c x told =
-    let m = g.E.Disk.medium in let stands = c.in-Ok.ensures.stands in let rows = text_rows c.args.text.now in
-    let last = c.last.ensures.rows stands.0 stands.1.stands_for in
-    let ahead : rows_ahead c.of-lines.result ≡ text_rows c.args.text.now = ap rows_told c.of-lines.ensures.rows in
-    let same : later_rows c.last.result (rows_ahead c.of-lines.result) ≡ rows_to_import stands.0 (text_rows c.args.text.now) =
-    ap (λ (o : Option CivilMinute). later_rows o (rows_ahead c.of-lines.result)) last ∙ ap (later_rows (last_row_stamp stands.0)) ahead in
+    let stands = c.in-Ok.ensures.stands in
+    let same = later_same stands.0 c.last.result c.of-lines.result c.args.text.now (c.last.ensures.rows stands.0 stands.1.stands_for) c.of-lines.ensures.rows in
     let may : CanBeAddedTo x stands.0 = record { holds_them = stands.2 x told; current = (c.in-Ok.ensures.finds x told).1.current } in
     let held = stands.1.stands_for.held_is in (
       stands.0,
@@ -72,11 +62,8 @@ returns-then-held-most-clause-images g c x told mine crash =
 
 pub returns-in-Done-clause-answers : goal.returns-in-Done-clause-answers
 returns-in-Done-clause-answers g c x told =
-    let m = g.E.Disk.medium in let stands = c.in-Ok.ensures.stands in let rows = text_rows c.args.text.now in
-    let last = c.last.ensures.rows stands.0 stands.1.stands_for in
-    let ahead : rows_ahead c.of-lines.result ≡ text_rows c.args.text.now = ap rows_told c.of-lines.ensures.rows in
-    let same : later_rows c.last.result (rows_ahead c.of-lines.result) ≡ rows_to_import stands.0 (text_rows c.args.text.now) =
-    ap (λ (o : Option CivilMinute). later_rows o (rows_ahead c.of-lines.result)) last ∙ ap (later_rows (last_row_stamp stands.0)) ahead in
+    let stands = c.in-Ok.ensures.stands in
+    let same = later_same stands.0 c.last.result c.of-lines.result c.args.text.now (c.last.ensures.rows stands.0 stands.1.stands_for) c.of-lines.ensures.rows in
     let may : CanBeAddedTo x stands.0 = record { holds_them = stands.2 x told; current = (c.in-Ok.ensures.finds x told).1.current } in
     let held = stands.1.stands_for.held_is in
     let judged = judged_rows (rows_of_text c.args.text.now) c.args.count c.requires.judged in (
@@ -93,10 +80,7 @@ returns-in-Done-clause-answers g c x told =
 pub returns-in-Done-clause-imported : goal.returns-in-Done-clause-imported
 returns-in-Done-clause-imported g c done is x told =
     let m = g.E.Disk.medium in let stands = c.in-Ok.ensures.stands in let rows = text_rows c.args.text.now in
-    let last = c.last.ensures.rows stands.0 stands.1.stands_for in
-    let ahead : rows_ahead c.of-lines.result ≡ text_rows c.args.text.now = ap rows_told c.of-lines.ensures.rows in
-    let same : later_rows c.last.result (rows_ahead c.of-lines.result) ≡ rows_to_import stands.0 (text_rows c.args.text.now) =
-    ap (λ (o : Option CivilMinute). later_rows o (rows_ahead c.of-lines.result)) last ∙ ap (later_rows (last_row_stamp stands.0)) ahead in
+    let same = later_same stands.0 c.last.result c.of-lines.result c.args.text.now (c.last.ensures.rows stands.0 stands.1.stands_for) c.of-lines.ensures.rows in
     let come : rows_to_come c.pass_over-behind.result.first.items c.pass_over-behind.new.lines ≡ rows_to_import stands.0 (text_rows c.args.text.now) =
     c.pass_over-behind.ensures.later ∙ same in
     let whole : List Row = stands.0 ++ rows_to_import stands.0 rows in
@@ -110,102 +94,48 @@ returns-in-Done-clause-imported g c done is x told =
 
 pub returns-in-Done-clause-went : goal.returns-in-Done-clause-went
 returns-in-Done-clause-went g c =
-    let m = g.E.Disk.medium in let stands = c.in-Ok.ensures.stands in let rows = text_rows c.args.text.now in
-    let last = c.last.ensures.rows stands.0 stands.1.stands_for in
-    let ahead : rows_ahead c.of-lines.result ≡ text_rows c.args.text.now = ap rows_told c.of-lines.ensures.rows in
-    let same : later_rows c.last.result (rows_ahead c.of-lines.result) ≡ rows_to_import stands.0 (text_rows c.args.text.now) =
-    ap (λ (o : Option CivilMinute). later_rows o (rows_ahead c.of-lines.result)) last ∙ ap (later_rows (last_row_stamp stands.0)) ahead in
-    let come : rows_to_come c.pass_over-behind.result.first.items c.pass_over-behind.new.lines ≡ rows_to_import stands.0 (text_rows c.args.text.now) =
-    c.pass_over-behind.ensures.later ∙ same in
-    let slots = slots_same c.in-Ok.book stands.0 stands.1.stands_for in
-    let opened = rw slots at c.in-Ok.ensures.went in
-    calls_added m c.args.to.now stands.0 _ _ c.open_to.new.to c.open_to.new.to c.add_rows.new.to (slot_total stands.0) false c.open_to.ensures.begun.0 refl opened
-    (no_look m (slots_end (slot_total stands.0)) c.open_to.new.to) (c.in-Done.ensures.went stands.0 stands.1.stands_for)
-    (λ next front x told. (stands.2 x told, rw (sym come) front))
+    let stands = c.in-Ok.ensures.stands in
+    let same = later_same stands.0 c.last.result c.of-lines.result c.args.text.now (c.last.ensures.rows stands.0 stands.1.stands_for) c.of-lines.ensures.rows in
+    calls_later g.E.Disk.medium stands.0 (text_rows c.args.text.now) _ c.args.to.now c.open_to.new.to c.add_rows.new.to stands.2
+    (c.pass_over-behind.ensures.later ∙ same) c.open_to.ensures.begun.0
+    c.in-Ok.book false stands.1.stands_for c.in-Ok.ensures.went (c.in-Done.ensures.went stands.0 stands.1.stands_for)
 
 pub returns-in-Done-clause-images : goal.returns-in-Done-clause-images
 returns-in-Done-clause-images g c x told mine crash =
-    let m = g.E.Disk.medium in let stands = c.in-Ok.ensures.stands in let rows = text_rows c.args.text.now in
-    let last = c.last.ensures.rows stands.0 stands.1.stands_for in
-    let ahead : rows_ahead c.of-lines.result ≡ text_rows c.args.text.now = ap rows_told c.of-lines.ensures.rows in
-    let same : later_rows c.last.result (rows_ahead c.of-lines.result) ≡ rows_to_import stands.0 (text_rows c.args.text.now) =
-    ap (λ (o : Option CivilMinute). later_rows o (rows_ahead c.of-lines.result)) last ∙ ap (later_rows (last_row_stamp stands.0)) ahead in
-    let come : rows_to_come c.pass_over-behind.result.first.items c.pass_over-behind.new.lines ≡ rows_to_import stands.0 (text_rows c.args.text.now) =
-    c.pass_over-behind.ensures.later ∙ same in
-    let alike = same_rows m c.args.to.now x mine stands.0 told crash stands.2 in
-    let next : rows_to_come c.pass_over-behind.result.first.items c.pass_over-behind.new.lines ≡ rows_to_import mine (text_rows c.args.text.now) =
-    come ∙ ap (λ (held : List Row). rows_to_import held rows) (sym alike) in
-    let P = HasSome mine (rows_to_import mine rows) in
-    let Q = HasSome stands.0 (rows_to_come c.pass_over-behind.result.first.items c.pass_over-behind.new.lines) in
-    leaves_join m P Q c.args.to.now c.open_to.new.to c.add_rows.new.to c.open_to.ensures.begun.0
-    (adds_none m mine (rows_to_import mine rows) c.args.to.now c.open_to.new.to (c.open_to.ensures.images mine crash))
-    (c.in-Done.ensures.images stands.0 stands.1)
-    (λ image some. same_some stands.0 mine (rows_to_come c.pass_over-behind.result.first.items c.pass_over-behind.new.lines) (rows_to_import mine rows) image (sym alike) next some)
+    let stands = c.in-Ok.ensures.stands in
+    let same = later_same stands.0 c.last.result c.of-lines.result c.args.text.now (c.last.ensures.rows stands.0 stands.1.stands_for) c.of-lines.ensures.rows in
+    leaves_later g.E.Disk.medium stands.0 (text_rows c.args.text.now) _ c.args.to.now c.open_to.new.to c.add_rows.new.to stands.2
+    (c.pass_over-behind.ensures.later ∙ same) c.open_to.ensures.begun.0
+    x mine told crash (c.open_to.ensures.images mine crash) (c.in-Done.ensures.images stands.0 stands.1)
 
 pub returns-in-Fault-clause-went : goal.returns-in-Fault-clause-went
 returns-in-Fault-clause-went g c =
-    let m = g.E.Disk.medium in let stands = c.in-Ok.ensures.stands in let rows = text_rows c.args.text.now in
-    let last = c.last.ensures.rows stands.0 stands.1.stands_for in
-    let ahead : rows_ahead c.of-lines.result ≡ text_rows c.args.text.now = ap rows_told c.of-lines.ensures.rows in
-    let same : later_rows c.last.result (rows_ahead c.of-lines.result) ≡ rows_to_import stands.0 (text_rows c.args.text.now) =
-    ap (λ (o : Option CivilMinute). later_rows o (rows_ahead c.of-lines.result)) last ∙ ap (later_rows (last_row_stamp stands.0)) ahead in
-    let come : rows_to_come c.pass_over-behind.result.first.items c.pass_over-behind.new.lines ≡ rows_to_import stands.0 (text_rows c.args.text.now) =
-    c.pass_over-behind.ensures.later ∙ same in
-    let slots = slots_same c.in-Ok.book stands.0 stands.1.stands_for in
-    let opened = rw slots at c.in-Ok.ensures.went in
-    calls_added m c.args.to.now stands.0 _ _ c.open_to.new.to c.open_to.new.to c.add_rows.new.to (slot_total stands.0) true c.open_to.ensures.begun.0 refl opened
-    (no_look m (slots_end (slot_total stands.0)) c.open_to.new.to) (c.in-Fault.ensures.went stands.0 stands.1.stands_for)
-    (λ next front x told. (stands.2 x told, rw (sym come) front))
+    let stands = c.in-Ok.ensures.stands in
+    let same = later_same stands.0 c.last.result c.of-lines.result c.args.text.now (c.last.ensures.rows stands.0 stands.1.stands_for) c.of-lines.ensures.rows in
+    calls_later g.E.Disk.medium stands.0 (text_rows c.args.text.now) _ c.args.to.now c.open_to.new.to c.add_rows.new.to stands.2
+    (c.pass_over-behind.ensures.later ∙ same) c.open_to.ensures.begun.0
+    c.in-Ok.book true stands.1.stands_for c.in-Ok.ensures.went (c.in-Fault.ensures.went stands.0 stands.1.stands_for)
 
 pub returns-in-Fault-clause-images : goal.returns-in-Fault-clause-images
 returns-in-Fault-clause-images g c x told mine crash =
-    let m = g.E.Disk.medium in let stands = c.in-Ok.ensures.stands in let rows = text_rows c.args.text.now in
-    let last = c.last.ensures.rows stands.0 stands.1.stands_for in
-    let ahead : rows_ahead c.of-lines.result ≡ text_rows c.args.text.now = ap rows_told c.of-lines.ensures.rows in
-    let same : later_rows c.last.result (rows_ahead c.of-lines.result) ≡ rows_to_import stands.0 (text_rows c.args.text.now) =
-    ap (λ (o : Option CivilMinute). later_rows o (rows_ahead c.of-lines.result)) last ∙ ap (later_rows (last_row_stamp stands.0)) ahead in
-    let come : rows_to_come c.pass_over-behind.result.first.items c.pass_over-behind.new.lines ≡ rows_to_import stands.0 (text_rows c.args.text.now) =
-    c.pass_over-behind.ensures.later ∙ same in
-    let alike = same_rows m c.args.to.now x mine stands.0 told crash stands.2 in
-    let next : rows_to_come c.pass_over-behind.result.first.items c.pass_over-behind.new.lines ≡ rows_to_import mine (text_rows c.args.text.now) =
-    come ∙ ap (λ (held : List Row). rows_to_import held rows) (sym alike) in
-    let P = HasSome mine (rows_to_import mine rows) in
-    let Q = HasSome stands.0 (rows_to_come c.pass_over-behind.result.first.items c.pass_over-behind.new.lines) in
-    leaves_join m P Q c.args.to.now c.open_to.new.to c.add_rows.new.to c.open_to.ensures.begun.0
-    (adds_none m mine (rows_to_import mine rows) c.args.to.now c.open_to.new.to (c.open_to.ensures.images mine crash))
-    (c.in-Fault.ensures.images stands.0 stands.1)
-    (λ image some. same_some stands.0 mine (rows_to_come c.pass_over-behind.result.first.items c.pass_over-behind.new.lines) (rows_to_import mine rows) image (sym alike) next some)
+    let stands = c.in-Ok.ensures.stands in
+    let same = later_same stands.0 c.last.result c.of-lines.result c.args.text.now (c.last.ensures.rows stands.0 stands.1.stands_for) c.of-lines.ensures.rows in
+    leaves_later g.E.Disk.medium stands.0 (text_rows c.args.text.now) _ c.args.to.now c.open_to.new.to c.add_rows.new.to stands.2
+    (c.pass_over-behind.ensures.later ∙ same) c.open_to.ensures.begun.0
+    x mine told crash (c.open_to.ensures.images mine crash) (c.in-Fault.ensures.images stands.0 stands.1)
 
 pub returns-clause-went : goal.returns-clause-went
 returns-clause-went g c =
-    let m = g.E.Disk.medium in let stands = c.in-Ok.ensures.stands in let rows = text_rows c.args.text.now in
-    let last = c.last.ensures.rows stands.0 stands.1.stands_for in
-    let ahead : rows_ahead c.of-lines.result ≡ text_rows c.args.text.now = ap rows_told c.of-lines.ensures.rows in
-    let same : later_rows c.last.result (rows_ahead c.of-lines.result) ≡ rows_to_import stands.0 (text_rows c.args.text.now) =
-    ap (λ (o : Option CivilMinute). later_rows o (rows_ahead c.of-lines.result)) last ∙ ap (later_rows (last_row_stamp stands.0)) ahead in
-    let come : rows_to_come c.pass_over-behind.result.first.items c.pass_over-behind.new.lines ≡ rows_to_import stands.0 (text_rows c.args.text.now) =
-    c.pass_over-behind.ensures.later ∙ same in
-    let slots = slots_same c.in-Ok.book stands.0 stands.1.stands_for in
-    let opened = rw slots at c.in-Ok.ensures.went in
-    calls_added m c.args.to.now stands.0 _ _ c.open_to.new.to c.open_to.new.to c.add_rows.new.to (slot_total stands.0) false c.open_to.ensures.begun.0 refl opened
-    (no_look m (slots_end (slot_total stands.0)) c.open_to.new.to) (c.in-OutOfMemory.ensures.went stands.0 stands.1.stands_for)
-    (λ next front x told. (stands.2 x told, rw (sym come) front))
+    let stands = c.in-Ok.ensures.stands in
+    let same = later_same stands.0 c.last.result c.of-lines.result c.args.text.now (c.last.ensures.rows stands.0 stands.1.stands_for) c.of-lines.ensures.rows in
+    calls_later g.E.Disk.medium stands.0 (text_rows c.args.text.now) _ c.args.to.now c.open_to.new.to c.add_rows.new.to stands.2
+    (c.pass_over-behind.ensures.later ∙ same) c.open_to.ensures.begun.0
+    c.in-Ok.book false stands.1.stands_for c.in-Ok.ensures.went (c.in-OutOfMemory.ensures.went stands.0 stands.1.stands_for)
 
 pub returns-clause-images : goal.returns-clause-images
 returns-clause-images g c x told mine crash =
-    let m = g.E.Disk.medium in let stands = c.in-Ok.ensures.stands in let rows = text_rows c.args.text.now in
-    let last = c.last.ensures.rows stands.0 stands.1.stands_for in
-    let ahead : rows_ahead c.of-lines.result ≡ text_rows c.args.text.now = ap rows_told c.of-lines.ensures.rows in
-    let same : later_rows c.last.result (rows_ahead c.of-lines.result) ≡ rows_to_import stands.0 (text_rows c.args.text.now) =
-    ap (λ (o : Option CivilMinute). later_rows o (rows_ahead c.of-lines.result)) last ∙ ap (later_rows (last_row_stamp stands.0)) ahead in
-    let come : rows_to_come c.pass_over-behind.result.first.items c.pass_over-behind.new.lines ≡ rows_to_import stands.0 (text_rows c.args.text.now) =
-    c.pass_over-behind.ensures.later ∙ same in
-    let alike = same_rows m c.args.to.now x mine stands.0 told crash stands.2 in
-    let next : rows_to_come c.pass_over-behind.result.first.items c.pass_over-behind.new.lines ≡ rows_to_import mine (text_rows c.args.text.now) =
-    come ∙ ap (λ (held : List Row). rows_to_import held rows) (sym alike) in
-    let P = HasSome mine (rows_to_import mine rows) in
-    let Q = HasSome stands.0 (rows_to_come c.pass_over-behind.result.first.items c.pass_over-behind.new.lines) in
-    leaves_join m P Q c.args.to.now c.open_to.new.to c.add_rows.new.to c.open_to.ensures.begun.0
-    (adds_none m mine (rows_to_import mine rows) c.args.to.now c.open_to.new.to (c.open_to.ensures.images mine crash))
-    (c.in-OutOfMemory.ensures.images stands.0 stands.1)
-    (λ image some. same_some stands.0 mine (rows_to_come c.pass_over-behind.result.first.items c.pass_over-behind.new.lines) (rows_to_import mine rows) image (sym alike) next some)
+    let stands = c.in-Ok.ensures.stands in
+    let same = later_same stands.0 c.last.result c.of-lines.result c.args.text.now (c.last.ensures.rows stands.0 stands.1.stands_for) c.of-lines.ensures.rows in
+    leaves_later g.E.Disk.medium stands.0 (text_rows c.args.text.now) _ c.args.to.now c.open_to.new.to c.add_rows.new.to stands.2
+    (c.pass_over-behind.ensures.later ∙ same) c.open_to.ensures.begun.0
+    x mine told crash (c.open_to.ensures.images mine crash) (c.in-OutOfMemory.ensures.images stands.0 stands.1)
