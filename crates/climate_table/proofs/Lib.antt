@@ -4,3 +4,4 @@ pub mod JoinedDays
 pub mod Months
 pub mod Prints
 pub mod Spans
+pub mod UnderWay

@@ -1,5 +1,5 @@
 -- Degree days of a day, from 65 F. (These are this project's own.)
-use Rattle.std.specs.Prelude.{ℕ, ℤ, ◌*ℤ◌, ◌-ℤ◌, pos, int_le, unsigned_abs, Bool, false, List, slice_index_or, Some, None}
+use Rattle.std.specs.Prelude.{ℤ, ◌*ℤ◌, ◌-ℤ◌, pos, int_le, unsigned_abs, Bool, false, List, slice_index_or, Some, None}
 use Rattle.std.specs.Int.{int_max}
 use Rattle.std.specs.declared.option.Option.{Option}
 use Rattle.station_base.specs.declared.row.Row.{Row}
@@ -33,7 +33,7 @@ rain s = slice_index_or s.fields 3 None
 abbrev pub day_summary : List Row → ℤ → DaySummary
 day_summary rows day = summary_of (rows_of_day day rows)
 
--- it is a click at least
+-- whether the rain is a click at least
 abbrev pub is_wet : Option FieldSum → Bool
 is_wet None = false
 is_wet (Some s) = int_le (pos 1) s.sum

@@ -1,5 +1,6 @@
 -- The days of a month or of a year, as far as they were read.
-use Rattle.std.specs.Prelude.{ℕ, ℤ, ◌≡◌, ◌+◌, ◌-◌, ◌≤◌, unsigned_abs, Bool, false, if◌then◌else◌, List, [], ◌∷◌, ◌++◌, take, bytes_eq, IfSome, Some, None, slice_get}
+use Rattle.std.specs.Prelude.{ℕ, ℤ, ◌≡◌, ◌+◌, ◌-◌, ◌≤◌, unsigned_abs, Bool, false, if◌then◌else◌, List, [], ◌∷◌, ◌++◌}
+use Rattle.std.specs.Prelude.{take, bytes_eq, IfSome, Some, None, slice_get}
 use Rattle.std.specs.declared.option.Option.{Option}
 use Rattle.station_base.specs.DayText.{IsDayNumber, day_text}
 use Rattle.station_base.specs.declared.day.DayNumber.{DayNumber}

@@ -28,7 +28,8 @@ climate_lines size rows (first ∷ more) = climate_line (take size (day_text fir
 
 -- the degree days of the days of a month, and then their totals
 abbrev pub climate_month_lines : List Row → List ℤ → List (List ℕ)
-climate_month_lines rows days = flat_map (λ day. degree_lines day (day_summary rows day)) days ++ climate_lines 7 rows days
+climate_month_lines rows days =
+    flat_map (λ day. degree_lines day (day_summary rows day)) days ++ climate_lines 7 rows days
 
 -- the day is of this year
 abbrev pub is_of_year : ℕ → ℤ → Bool
@@ -41,4 +42,5 @@ days_of_year year rows = filter (is_of_year year) (days_of rows)
 -- the lines of each month of the year that has a row, and then the totals of its days
 abbrev pub table_lines : ℕ → List Row → List (List ℕ)
 table_lines year rows =
-    flat_map (climate_month_lines rows) (months_of (days_of_year year rows)) ++ climate_lines 4 rows (days_of_year year rows)
+    flat_map (climate_month_lines rows) (months_of (days_of_year year rows))
+    ++ climate_lines 4 rows (days_of_year year rows)

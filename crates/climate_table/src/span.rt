@@ -7,6 +7,7 @@ ghost use Rattle.station_base.specs.declared.row.Row.{Row};
 ghost use Rattle.weather_book.specs.Start.{IsOfADay};
 ghost use Rattle.weather_reports.specs.Months.{month_text};
 ghost use Rattle.weather_reports.specs.Reported.{text_of_lines};
+ghost use Rattle.weather_reports.specs.Wrote.{Prints};
 ghost use Rattle.climate_table.specs.Climate.{IsOfDays};
 ghost use Rattle.climate_table.specs.Degrees.{day_summary};
 ghost use Rattle.climate_table.specs.Spans.{SpanGrows, SpanIsInOrder, IsSpan, span_lines};
@@ -78,6 +79,8 @@ pub fn print_span<K: Sink>(
         (pending.old.items ++ text_of_lines (span_lines size span.now)) pending.new.items }
     ensures failed { result ≡ Put.Failed → WritesPart (K.outlet.taken out.old) (K.outlet.taken out.new)
         (pending.old.items ++ text_of_lines (span_lines size span.now)) }
+    ensures wrote { Prints K.outlet result (pending.old.items
+        ++ text_of_lines (span_lines size span.now)) pending.new.items out.old out.new }
     ensures cause { Cause (K.outlet.faults out.old) (K.outlet.faults out.new) (result ≡ Put.Failed) }
     ensures still { result ≢ Put.Failed → K.outlet.faults out.new ≡ K.outlet.faults out.old }
 {

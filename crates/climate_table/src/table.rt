@@ -6,6 +6,7 @@ ghost use Rattle.station_base.specs.DayText.{IsDayNumber};
 ghost use Rattle.station_base.specs.declared.row.Row.{Row};
 ghost use Rattle.weather_book.specs.Start.{IsOfADay};
 ghost use Rattle.weather_reports.specs.Reported.{text_of_lines};
+ghost use Rattle.weather_reports.specs.Wrote.{Prints};
 ghost use Rattle.climate_table.specs.Climate.{IsOfDays};
 ghost use Rattle.climate_table.specs.Degrees.{day_summary};
 ghost use Rattle.climate_table.specs.Spans.{SpanGrows, SpanIsInOrder, IsSpan, ended_lines, is_begun, month_of, month_with, span_lines};
@@ -56,6 +57,8 @@ impl Table {
             ++ degree_lines day.0 summary.now)) pending.new.items }
         ensures failed { result ≡ Put.Failed → WritesPart (K.outlet.taken out.old) (K.outlet.taken out.new)
             (pending.old.items ++ text_of_lines (ended_lines self.now.month day.0 ++ degree_lines day.0 summary.now)) }
+        ensures wrote { Prints K.outlet result (pending.old.items ++ text_of_lines (ended_lines self.now.month day.0
+            ++ degree_lines day.0 summary.now)) pending.new.items out.old out.new }
         ensures cause { Cause (K.outlet.faults out.old) (K.outlet.faults out.new) (result ≡ Put.Failed) }
         ensures still { result ≢ Put.Failed → K.outlet.faults out.new ≡ K.outlet.faults out.old }
     {
@@ -100,6 +103,8 @@ impl Table {
             ++ span_lines 4 self.now.year)) pending.new.items }
         ensures failed { result ≡ Put.Failed → WritesPart (K.outlet.taken out.old) (K.outlet.taken out.new)
             (pending.old.items ++ text_of_lines (span_lines 7 self.now.month ++ span_lines 4 self.now.year)) }
+        ensures wrote { Prints K.outlet result (pending.old.items ++ text_of_lines (span_lines 7 self.now.month
+            ++ span_lines 4 self.now.year)) pending.new.items out.old out.new }
         ensures cause { Cause (K.outlet.faults out.old) (K.outlet.faults out.new) (result ≡ Put.Failed) }
         ensures still { result ≢ Put.Failed → K.outlet.faults out.new ≡ K.outlet.faults out.old }
     {
@@ -131,6 +136,8 @@ impl Table {
             (pending.old.items ++ text_of_lines (ended_lines self.now.month day.0)) pending.new.items }
         ensures failed { result ≡ Put.Failed → WritesPart (K.outlet.taken out.old) (K.outlet.taken out.new)
             (pending.old.items ++ text_of_lines (ended_lines self.now.month day.0)) }
+        ensures wrote { Prints K.outlet result (pending.old.items
+            ++ text_of_lines (ended_lines self.now.month day.0)) pending.new.items out.old out.new }
         ensures cause { Cause (K.outlet.faults out.old) (K.outlet.faults out.new) (result ≡ Put.Failed) }
         ensures still { result ≢ Put.Failed → K.outlet.faults out.new ≡ K.outlet.faults out.old }
     {
@@ -156,6 +163,8 @@ fn print_degrees<K: Sink>(
         (pending.old.items ++ text_of_lines (degree_lines day.0 summary.now)) pending.new.items }
     ensures failed { result ≡ Put.Failed → WritesPart (K.outlet.taken out.old) (K.outlet.taken out.new)
         (pending.old.items ++ text_of_lines (degree_lines day.0 summary.now)) }
+    ensures wrote { Prints K.outlet result (pending.old.items
+        ++ text_of_lines (degree_lines day.0 summary.now)) pending.new.items out.old out.new }
     ensures cause { Cause (K.outlet.faults out.old) (K.outlet.faults out.new) (result ≡ Put.Failed) }
     ensures still { result ≢ Put.Failed → K.outlet.faults out.new ≡ K.outlet.faults out.old }
 {

@@ -1,13 +1,7 @@
-ghost use Rattle.std.specs.Prelude.{◌≡◌, ◌≢◌, List};
+ghost use Rattle.std.specs.Prelude.{◌≡◌};
 ghost use Rattle.std.specs.Int.{IsInRange};
-ghost use Rattle.causes.specs.Cause.{Cause};
-ghost use Rattle.causes.specs.Told.{WhereTold};
-ghost use Rattle.disk_model.specs.Disk.{Faults, Stays};
 ghost use Rattle.station_base.specs.DayText.{IsDayNumber};
-ghost use Rattle.station_base.specs.declared.row.Row.{Row};
-ghost use Rattle.weather_book.specs.Book.{BookStandsFor};
-ghost use Rattle.weather_book.specs.Stands.{StandsToReadOn};
-ghost use Rattle.weather_reports.specs.Reported.{ReadsOver, Reports};
+ghost use Rattle.weather_reports.specs.Made.{MakesReport};
 ghost use Rattle.climate_table.specs.Table.{is_of_year, table_lines};
 
 use crate::span::YEAR;
@@ -25,14 +19,7 @@ use weather_reports::{Pending, ReportEnd, finish, summary_of};
 /// `DiskFault` is reported where a read failed, and `WriteFault` where a write did.
 pub fn climate<D: Disk, K: Sink>(book: &Book, disk: &mut D, out: &mut K, year: u16) -> ReportEnd
     requires { IsInRange 1999 2127 year }
-    ensures lines { (rows : List Row) → StandsToReadOn D.medium book.now disk.old rows
-        → WhereTold (D.medium.seen disk.old) (λ _. Reports (K.outlet.taken out.old) (K.outlet.taken out.new)
-        (table_lines year rows) result) }
-    ensures stays { Stays D.medium disk.old disk.new }
-    ensures went { (rows : List Row) → BookStandsFor book.now rows → ReadsOver D.medium rows result disk.old disk.new }
-    ensures disk_fault { Faults D.medium disk.old disk.new (result ≡ ReportEnd.DiskFault) }
-    ensures write_fault { Cause (K.outlet.faults out.old) (K.outlet.faults out.new) (result ≡ ReportEnd.WriteFault) }
-    ensures sink_still { result ≢ ReportEnd.WriteFault → K.outlet.faults out.new ≡ K.outlet.faults out.old }
+    ensures { MakesReport K.outlet D.medium book.now (table_lines year) result disk.old disk.new out.old out.new }
 {
     let mut pending = Pending::new();
     let mut table = Table::new();

@@ -1,5 +1,5 @@
 -- Turns of the service, one by one.
-use Rattle.std.proofs.Common.{ℕ, ◌≡◌, ◌≢◌, ◌+◌, ◌≤◌, List, [], ◌∷◌, ◌++◌, inl, refl, sym, ap, subst, arith}
+use Rattle.std.proofs.Common.{ℕ, ◌≡◌, ◌≢◌, ◌+◌, ◌≤◌, List, [], ◌∷◌, ◌++◌, inl, refl, arith}
 use Rattle.serial_link.specs.declared.talk.TalkItem.{TalkItem}
 use Rattle.serial_link.specs.declared.talk.TalkItem.TheVariants.{Quiet}
 use Rattle.serial_link.proofs.TurnsTaken.{one_turn, turns_and_one, breaks_unheard, breaks_first, breaks_then}

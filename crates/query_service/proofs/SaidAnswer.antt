@@ -59,7 +59,7 @@ module _ {L D : Type 0} (traffic : Traffic L) (medium : Medium D) (book : Book) 
         disk_fault = record { never_falls = by.disk_fault.never_falls; rose = λ e. absurd (let bad : Done ≡ DiskFault = e in cc) };
       }
   answered_by report.Done (Some r) is by =
-      absurd (none_refused r (refused old.refusal) (sym (ap refused is) ∙ by.still (λ e. absurd (let bad : report.Done ≡ report.WriteFault = e in cc))) (ap refused free))
+      absurd (none_refused r (refused old.refusal) (sym (ap refused is) ∙ by.sink_still (λ e. absurd (let bad : report.Done ≡ report.WriteFault = e in cc))) (ap refused free))
   answered_by report.DiskFault None is by =
       let over = by.wrote.1 in let r = counts None is over.refuses in
       record {
@@ -81,7 +81,7 @@ module _ {L D : Type 0} (traffic : Traffic L) (medium : Medium D) (book : Book) 
         disk_fault = record { never_falls = by.disk_fault.never_falls; rose = λ e. by.disk_fault.rose refl };
       }
   answered_by report.DiskFault (Some r) is by =
-      absurd (none_refused r (refused old.refusal) (sym (ap refused is) ∙ by.still (λ e. absurd (let bad : report.DiskFault ≡ report.WriteFault = e in cc))) (ap refused free))
+      absurd (none_refused r (refused old.refusal) (sym (ap refused is) ∙ by.sink_still (λ e. absurd (let bad : report.DiskFault ≡ report.WriteFault = e in cc))) (ap refused free))
   answered_by report.WriteFault None is by =
       let rose : Rose (refused old.refusal) (refused new.refusal) = by.write_fault.rose refl in
       absurd (omega (arith, rose, ap refused is))

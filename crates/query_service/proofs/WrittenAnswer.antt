@@ -2,9 +2,9 @@
 use Rattle.std.proofs.Common.{ℕ, ◌≡◌, ◌≢◌, List, [], ◌∷◌, ◌++◌, false, refl, sym, ap, subst, ◌∙◌, append_assoc, arith, ◌+◌, ◌-◌, length, map, drop, suc}
 use Rattle.std.proofs.lemmas.List.{append-nil}
 use Rattle.std.specs.Prelude.{◌*◌}
-use Rattle.causes.specs.Cause.{Cause, Rose}
+use Rattle.causes.specs.Cause.{Rose}
 use Rattle.causes.specs.Lists.{IsFrontOf}
-use Rattle.disk_model.specs.Disk.{Faults, Stays, stays_none}
+use Rattle.disk_model.specs.Disk.{stays_none}
 use Rattle.disk_model.specs.Medium.{Medium}
 use Rattle.station_base.specs.RowLine.{row_line}
 use Rattle.station_base.specs.declared.row.Row.{Row}
@@ -14,13 +14,14 @@ use Rattle.weather_book.specs.Book.{BookStandsFor}
 use Rattle.packed_rows.specs.Rows.{slot_total}
 use Rattle.weather_book.specs.declared.book.Book.{Book}
 use Rattle.weather_book.proofs.Looks.{no_look}
+use Rattle.weather_reports.specs.Made.{MakesReport}
 use Rattle.weather_reports.specs.Report.{later_lines}
 use Rattle.weather_reports.specs.Reported.{IsReport, ReadsOver, text_of_lines}
-use Rattle.weather_reports.specs.Wrote.{Wrote}
 use Rattle.weather_reports.specs.declared.end.ReportEnd.{ReportEnd}
 use Rattle.weather_reports.specs.declared.end.ReportEnd.TheVariants.{Done, DiskFault, WriteFault}
-use Rattle.weather_reports.proofs.Behind.{wrote_as, wrote_more}
+use Rattle.weather_reports.proofs.Behind.{wrote_more}
 use Rattle.weather_reports.proofs.Lines.{text_join}
+use Rattle.weather_reports.proofs.MadeReports.{reads_as}
 use Rattle.query_service.specs.Answers.{last_row_line}
 use Rattle.query_service.specs.Said.{IsReply, BookReplies, QuerySays}
 
@@ -83,37 +84,23 @@ module _ {K D : Type 0} (outlet : Outlet K) (medium : Medium D) (book : Book) wh
     went = λ rows stands. no_reads disk end rows says.no_read;
     disk_fault = record { never_falls = omega arith; rose = λ is. absurd (says.no_read is) };
     write_fault = says.cause;
-    still = says.still;
+    sink_still = says.still;
   }
 
   module _ (lines : List Row → List (List ℕ)) (end : ReportEnd) (disk disk' : D) (old now : K)
-      (wrote : Wrote outlet medium book disk (λ rows. IsReport (lines rows) end) old now) (stays : Stays medium disk disk')
-      (went : (rows : List Row) → BookStandsFor book rows → ReadsOver medium rows end disk disk') (disk_fault : Faults medium disk disk' (end ≡ DiskFault))
-      (write_fault : Cause (outlet.faults old) (outlet.faults now) (end ≡ WriteFault)) (still : end ≢ WriteFault → outlet.faults now ≡ outlet.faults old) where
+      (made : MakesReport outlet medium book lines end disk disk' old now) where
     -- an answer that is a report
     pub replies_report : (answer : List Row → List ℕ) → ((rows : List Row) → BookStandsFor book rows → text_of_lines (lines rows) ≡ answer rows)
         → BookReplies outlet medium book answer end disk disk' old now
-    replies_report answer is = record {
-      wrote = wrote_as outlet medium book disk _ _ old now wrote (λ rows stands x told w before.
-          subst (λ (text : List ℕ). IsReply text end w) (is rows stands.stands_for) (report_reply end (lines rows) w before));
-      stays = stays;
-      went = went;
-      disk_fault = disk_fault;
-      write_fault = write_fault;
-      still = still;
-    }
+    replies_report answer is =
+        reads_as outlet medium book _ (λ rows. IsReply (answer rows) end) end disk disk' old now made.by_reads (λ rows stands x told w before.
+        subst (λ (text : List ℕ). IsReply text end w) (is rows stands.stands_for) (report_reply end (lines rows) w before))
 
     -- a report that broke off, behind which something would have been written
     pub replies_cut : (tail : List ℕ) → end ≢ Done → BookReplies outlet medium book (λ rows. text_of_lines (lines rows) ++ tail) end disk disk' old now
-    replies_cut tail broke = record {
-      wrote = wrote_as outlet medium book disk _ _ old now wrote (λ rows stands x told w before.
-          reply_cut end (text_of_lines (lines rows)) tail w broke (report_reply end (lines rows) w before));
-      stays = stays;
-      went = went;
-      disk_fault = disk_fault;
-      write_fault = write_fault;
-      still = still;
-    }
+    replies_cut tail broke =
+        reads_as outlet medium book _ (λ rows. IsReply (text_of_lines (lines rows) ++ tail) end) end disk disk' old now made.by_reads (λ rows stands x told w before.
+        reply_cut end (text_of_lines (lines rows)) tail w broke (report_reply end (lines rows) w before))
 
   -- behind reads that all went well no more were made
   went_on : (end : ReportEnd) (rows : List Row) (disk disk' : D) → end ≢ DiskFault → ReadsOver medium rows Done disk disk' → ReadsOver medium rows end disk disk'
@@ -136,5 +123,5 @@ module _ {K D : Type 0} (outlet : Outlet K) (medium : Medium D) (book : Book) wh
       never_falls = omega (arith, one.write_fault.never_falls, says.cause.never_falls);
       rose = λ is. let later : Rose (outlet.faults now) (outlet.faults new) = says.cause.rose is in omega (arith, later, one.write_fault.never_falls);
     };
-    still = λ no. says.still no ∙ one.still (λ e. absurd (let bad : Done ≡ WriteFault = e in cc));
+    sink_still = λ no. says.still no ∙ one.sink_still (λ e. absurd (let bad : Done ≡ WriteFault = e in cc));
   }

@@ -12,7 +12,8 @@ use Rattle.query_service.specs.declared.service.QueryEnd.TheVariants.{Done, Link
 abbrev pub AreAnswers : List Row → List (List ℕ) → List ℕ → Type 0
 AreAnswers rows [] bytes = bytes ≡ []
 AreAnswers rows (line ∷ lines) bytes =
-    (request : Request) × (rest : List ℕ) × LineAsks line request × (bytes ≡ answer_to rows request ++ rest) × AreAnswers rows lines rest
+    (request : Request) × (rest : List ℕ) × LineAsks line request × (bytes ≡ answer_to rows request ++ rest)
+    × AreAnswers rows lines rest
 
 -- nothing, or a prefix of the answer to the first line
 abbrev pub AnswerIsBegun : List Row → List (List ℕ) → List ℕ → Type 0

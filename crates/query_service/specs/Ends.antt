@@ -7,7 +7,8 @@ use Rattle.query_service.specs.declared.link_sink.Refusal.TheVariants as refusal
 use Rattle.query_service.specs.declared.service.QueryEnd.{QueryEnd}
 use Rattle.query_service.specs.declared.service.QueryEnd.TheVariants.{Done, LinkFault, DiskFault, OutOfMemory}
 
--- By the end of an answer, and by why a piece of it was refused. What the link answered goes before a fault of the disk.
+-- By the end of an answer, and by why a piece of it was refused. What the link answered goes before a fault of the
+-- disk.
 abbrev pub query_end : ReportEnd → Option Refusal → QueryEnd
 query_end report.Done why = Done
 query_end report.DiskFault why = DiskFault

@@ -29,7 +29,8 @@ pub refuses_none : (r : Option Refusal) (f s : ℕ) → Refuses r r f f s s
 refuses_none None f s = record { same = refl; faults = refl; shortages = refl }
 refuses_none (Some r) f s = record { same = refl; faults = refl; shortages = refl }
 
-pub refuses_joins : (p q r : Option Refusal) (a b c x y z : ℕ) → Refuses p q a b x y → Refuses q r b c y z → Refuses p r a c x z
+pub refuses_joins : (p q r : Option Refusal) (a b c x y z : ℕ) → Refuses p q a b x y → Refuses q r b c y z
+    → Refuses p r a c x z
 refuses_joins None None r a b c x y z one two = rw (sym one.faults, sym one.shortages) two
 refuses_joins (Some p) None r a b c x y z one two = absurd (let no : None ≡ Some p = one.same in cc)
 refuses_joins p (Some q) r a b c x y z one two = rw (two.same, two.faults, two.shortages) one

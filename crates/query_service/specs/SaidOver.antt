@@ -12,7 +12,8 @@ use Rattle.query_service.specs.Talk.{TalkOnlySays, only_none, only_joins, said_j
 use Rattle.query_service.specs.Refused.{Refuses, refused, refuses_none, refuses_joins}
 
 -- The same link is spoken over, and just these bytes are said.
-pub record SaysOver {L : Type 0} (traffic : Traffic L) (old : LinkSink L) (bytes : List ℕ) (new : LinkSink L) : Type 0 where
+pub record SaysOver {L : Type 0} (traffic : Traffic L) (old : LinkSink L) (bytes : List ℕ)
+    (new : LinkSink L) : Type 0 where
   pub same : new.link.ghost_name ≡ old.link.ghost_name
   pub talk : List TalkItem
   pub said_is : said talk ≡ bytes
@@ -36,7 +37,8 @@ pub says_joins : {L : Type 0} (traffic : Traffic L) (s t u : LinkSink L) (xs ys 
 says_joins traffic s t u xs ys one two = record {
   same = two.same ∙ one.same;
   talk = one.talk ++ two.talk;
-  said_is = said_joins one.talk two.talk ∙ (ap (λ (x : List ℕ). x ++ said two.talk) one.said_is ∙ ap (λ (y : List ℕ). xs ++ y) two.said_is);
+  said_is = said_joins one.talk two.talk ∙ (ap (λ (x : List ℕ). x ++ said two.talk) one.said_is
+      ∙ ap (λ (y : List ℕ). xs ++ y) two.said_is);
   only = only_joins one.talk two.talk one.only two.only;
   adds = adds_joins one.adds two.adds;
   refuses = refuses_joins s.refusal t.refusal u.refusal (traffic.faults s.link.now) (traffic.faults t.link.now)

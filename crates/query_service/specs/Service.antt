@@ -28,8 +28,8 @@ pub record ReadsFor {D : Type 0} (medium : Medium D) (rows : List Row) (end : Qu
   pub by_end : FailsBy end failed
   pub looked : Looked medium (slot_size * (slot_total rows + 1)) failed old new
 
--- Each end has its cause: the count of the link's faults, of its shortages or of the disk's faults rose only with it. The
--- talk is as this has it, and nothing on the disk changed.
+-- Each end has its cause: the count of the link's faults, of its shortages or of the disk's faults rose only with it.
+-- The talk is as this has it, and nothing on the disk changed.
 pub record ServesQueries {L D : Type 0} (traffic : Traffic L) (medium : Medium D) (book : Book) (end : QueryEnd)
     (Part : List TalkItem → Type 0) (link link' : L) (disk disk' : D) : Type 0 where
   pub talk : Talks traffic link Part (end ≡ LinkFault) (end ≡ OutOfMemory) link'

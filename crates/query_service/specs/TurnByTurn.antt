@@ -1,5 +1,5 @@
 -- What is heard and said in each turn.
-use Rattle.std.specs.Prelude.{ℕ, ◌≡◌, List, [], ◌++◌}
+use Rattle.std.specs.Prelude.{ℕ, ◌≡◌, List, ◌++◌}
 use Rattle.serial_link.specs.Turns.{AreTurns, CameOfOneReceive, TurnsBreakOff}
 use Rattle.serial_link.specs.declared.talk.TalkItem.{TalkItem}
 use Rattle.station_base.specs.declared.row.Row.{Row}
@@ -23,8 +23,8 @@ pub record HearsAndSays (t : List TalkItem) : Type 0 where
   pub receives : CameOfOneReceive query_room received
   pub only_says : TalkOnlySays answered
 
--- A turn: the lines that end in what one receive hears are answered before the next one. The line that has begun before it
--- becomes the one behind it.
+-- A turn: the lines that end in what one receive hears are answered before the next one. The line that has begun before
+-- it becomes the one behind it.
 pub record IsTurn (rows : List Row) (begun : List ℕ) (t : List TalkItem) (rest : List ℕ) : Type 0 where
   pub talk : HearsAndSays t
   pub answers : AreAnswers rows (lines_after begun (heard talk.received)) (said talk.answered)

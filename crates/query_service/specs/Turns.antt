@@ -1,5 +1,5 @@
 -- What is said to the lines that are heard.
-use Rattle.std.specs.Prelude.{ℕ, ◌≡◌, ◌≤◌, ◌*◌, List, [], ◌∷◌, take}
+use Rattle.std.specs.Prelude.{ℕ, ◌≡◌, ◌≤◌, ◌*◌, List, [], take}
 use Rattle.causes.specs.Lists.{IsFrontOf}
 use Rattle.causes.specs.Told.{WhereTold}
 use Rattle.disk_model.specs.Medium.{Medium}
@@ -34,12 +34,14 @@ pub record AnswersTurns {D : Type 0} (medium : Medium D) (book : Book) (disk : D
   pub turn_by_turn : WhereRead medium book disk (λ rows. (rest : List ℕ) × TurnByTurn end rows turns [] t rest)
 
 -- The same where a line has begun, of which up to 65 bytes are held. So are they of the one that has begun afterwards.
-pub record QueriesAreServed (end : QueryEnd) (rows : List Row) (begun came bytes line : List ℕ) (old new : ℕ) : Type 0 where
+pub record QueriesAreServed (end : QueryEnd) (rows : List Row) (begun came bytes line : List ℕ)
+    (old new : ℕ) : Type 0 where
   pub answers : AnswersLines end rows (lines_after begun came) bytes old new
   pub held : end ≡ Done → line ≡ take 65 (rest_after begun came)
 
 -- from whatever line has begun
-abbrev pub ServesFrom : {D : Type 0} → Medium D → Book → D → QueryEnd → List ℕ → List ℕ → List ℕ → List ℕ → ℕ → ℕ → Type 0
+abbrev pub ServesFrom : {D : Type 0} → Medium D → Book → D → QueryEnd → List ℕ → List ℕ → List ℕ → List ℕ → ℕ → ℕ
+    → Type 0
 ServesFrom medium book disk end came bytes before after old new =
     (begun : List ℕ) → before ≡ take 65 begun
     → WhereRead medium book disk (λ rows. QueriesAreServed end rows begun came bytes after old new)
@@ -47,7 +49,8 @@ ServesFrom medium book disk end came bytes before after old new =
 -- the turns one by one, from whatever line has begun, and what is held behind them
 abbrev pub TurnsFrom : {D : Type 0} → Medium D → Book → D → QueryEnd → ℕ → List ℕ → List ℕ → List TalkItem → Type 0
 TurnsFrom medium book disk end turns before after t = (begun : List ℕ) → before ≡ take 65 begun
-    → WhereRead medium book disk (λ rows. (rest : List ℕ) × TurnByTurn end rows turns begun t rest × (end ≡ Done → after ≡ take 65 rest))
+    → WhereRead medium book disk (λ rows. (rest : List ℕ) × TurnByTurn end rows turns begun t rest
+    × (end ≡ Done → after ≡ take 65 rest))
 
 -- so many turns were taken
 pub record TakesTurns {D : Type 0} (medium : Medium D) (book : Book) (disk : D) (end : QueryEnd) (turns : ℕ)
@@ -74,4 +77,5 @@ IsAnswer answer OutOfMemory bytes = IsFrontOf bytes answer
 pub record AnswersLine {D : Type 0} (medium : Medium D) (book : Book) (disk : D) (end : QueryEnd) (line : List ℕ)
     (t : List TalkItem) : Type 0 where
   pub only : TalkOnlySays t
-  pub answers : WhereRead medium book disk (λ rows. (request : Request) × LineAsks line request × IsAnswer (answer_to rows request) end (said t))
+  pub answers : WhereRead medium book disk (λ rows. (request : Request) × LineAsks line request
+      × IsAnswer (answer_to rows request) end (said t))

@@ -3,6 +3,7 @@ pub mod Behind
 pub mod Lines
 pub mod Progress
 pub mod Ends
+pub mod MadeReports
 pub mod Pieces
 pub mod NextDay
 pub mod MonthSpan

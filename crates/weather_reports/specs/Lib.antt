@@ -5,3 +5,4 @@ pub mod Begun
 pub mod Reported
 pub mod Wrote
 pub mod Recomputed
+pub mod Made

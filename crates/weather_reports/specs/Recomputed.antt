@@ -18,7 +18,7 @@ pub record DayLine : Type 0 where
   pub field : ℕ
   pub told : FieldSum
 
--- as it is printed
+-- the text of a line
 abbrev pub printed_line : DayLine → List ℕ
 printed_line line = sum_line (codes "day " ++ day_text line.day) line.field line.told
 

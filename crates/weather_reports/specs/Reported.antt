@@ -19,7 +19,8 @@ text_of_lines lines = flat_map (λ line. line) lines
 -- All lines are written; at a disk fault some in front, each whole; at a write fault a prefix of their bytes.
 abbrev pub Reports : Option (List ℕ) → Option (List ℕ) → List (List ℕ) → ReportEnd → Type 0
 Reports old new lines Done = Appends old new (text_of_lines lines)
-Reports old new lines DiskFault = (front : List (List ℕ)) × IsFrontOf front lines × Appends old new (text_of_lines front)
+Reports old new lines DiskFault =
+    (front : List (List ℕ)) × IsFrontOf front lines × Appends old new (text_of_lines front)
 Reports old new lines WriteFault = WritesPart old new (text_of_lines lines)
 
 -- these bytes are what a report of the lines writes, by its end

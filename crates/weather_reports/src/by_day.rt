@@ -1,13 +1,5 @@
-ghost use Rattle.std.specs.Prelude.{◌≡◌, ◌≢◌, List};
-ghost use Rattle.causes.specs.Cause.{Cause};
-ghost use Rattle.causes.specs.Told.{WhereTold};
-ghost use Rattle.disk_model.specs.Disk.{Faults, Stays};
-ghost use Rattle.station_base.specs.declared.row.Row.{Row};
-ghost use Rattle.weather_book.specs.Book.{BookStandsFor};
-ghost use Rattle.weather_book.specs.Stands.{StandsToReadOn};
+ghost use Rattle.weather_reports.specs.Made.{MakesReport};
 ghost use Rattle.weather_reports.specs.Report.{all_day_lines, day_table_lines};
-ghost use Rattle.weather_reports.specs.Reported.{IsReport, ReadsOver, Reports};
-ghost use Rattle.weather_reports.specs.Wrote.{Wrote};
 
 use crate::ReportEnd;
 use crate::days::{day_head, is_among, summary_of};
@@ -27,16 +19,8 @@ pub fn day_table<D: Disk, K: Sink>(
     first: DayNumber,
     last: DayNumber,
 ) -> ReportEnd
-    ensures lines { (rows : List Row) → StandsToReadOn D.medium book.now disk.old rows
-        → WhereTold (D.medium.seen disk.old) (λ _. Reports (K.outlet.taken out.old) (K.outlet.taken out.new)
-        (day_table_lines first last rows) result) }
-    ensures wrote { Wrote K.outlet D.medium book.now disk.old
-        (λ rows. IsReport (day_table_lines first last rows) result) out.old out.new }
-    ensures stays { Stays D.medium disk.old disk.new }
-    ensures went { (rows : List Row) → BookStandsFor book.now rows → ReadsOver D.medium rows result disk.old disk.new }
-    ensures disk_fault { Faults D.medium disk.old disk.new (result ≡ ReportEnd.DiskFault) }
-    ensures write_fault { Cause (K.outlet.faults out.old) (K.outlet.faults out.new) (result ≡ ReportEnd.WriteFault) }
-    ensures sink_still { result ≢ ReportEnd.WriteFault → K.outlet.faults out.new ≡ K.outlet.faults out.old }
+    ensures { MakesReport K.outlet D.medium book.now (day_table_lines first last) result
+        disk.old disk.new out.old out.new }
 {
     let mut pending = Pending::new();
     for n in 0..book.days() {
@@ -56,16 +40,7 @@ pub fn day_table<D: Disk, K: Sink>(
 
 /// The same of all days that have a row.
 pub fn all_days<D: Disk, K: Sink>(book: &Book, disk: &mut D, out: &mut K) -> ReportEnd
-    ensures lines { (rows : List Row) → StandsToReadOn D.medium book.now disk.old rows
-        → WhereTold (D.medium.seen disk.old) (λ _. Reports (K.outlet.taken out.old) (K.outlet.taken out.new)
-        (all_day_lines rows) result) }
-    ensures wrote { Wrote K.outlet D.medium book.now disk.old
-        (λ rows. IsReport (all_day_lines rows) result) out.old out.new }
-    ensures stays { Stays D.medium disk.old disk.new }
-    ensures went { (rows : List Row) → BookStandsFor book.now rows → ReadsOver D.medium rows result disk.old disk.new }
-    ensures disk_fault { Faults D.medium disk.old disk.new (result ≡ ReportEnd.DiskFault) }
-    ensures write_fault { Cause (K.outlet.faults out.old) (K.outlet.faults out.new) (result ≡ ReportEnd.WriteFault) }
-    ensures sink_still { result ≢ ReportEnd.WriteFault → K.outlet.faults out.new ≡ K.outlet.faults out.old }
+    ensures { MakesReport K.outlet D.medium book.now all_day_lines result disk.old disk.new out.old out.new }
 {
     let days = book.days();
     if days == 0 {

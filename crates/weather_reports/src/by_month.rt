@@ -1,13 +1,5 @@
-ghost use Rattle.std.specs.Prelude.{◌≡◌, ◌≢◌, List};
-ghost use Rattle.causes.specs.Cause.{Cause};
-ghost use Rattle.causes.specs.Told.{WhereTold};
-ghost use Rattle.disk_model.specs.Disk.{Faults, Stays};
-ghost use Rattle.station_base.specs.declared.row.Row.{Row};
-ghost use Rattle.weather_book.specs.Book.{BookStandsFor};
-ghost use Rattle.weather_book.specs.Stands.{StandsToReadOn};
+ghost use Rattle.weather_reports.specs.Made.{MakesReport};
 ghost use Rattle.weather_reports.specs.Report.{month_table_lines};
-ghost use Rattle.weather_reports.specs.Reported.{IsReport, ReadsOver, Reports};
-ghost use Rattle.weather_reports.specs.Wrote.{Wrote};
 
 use crate::ReportEnd;
 use crate::days::{is_among, summary_of};
@@ -28,16 +20,8 @@ pub fn month_table<D: Disk, K: Sink>(
     first: DayNumber,
     last: DayNumber,
 ) -> ReportEnd
-    ensures lines { (rows : List Row) → StandsToReadOn D.medium book.now disk.old rows
-        → WhereTold (D.medium.seen disk.old) (λ _. Reports (K.outlet.taken out.old) (K.outlet.taken out.new)
-        (month_table_lines first last rows) result) }
-    ensures wrote { Wrote K.outlet D.medium book.now disk.old
-        (λ rows. IsReport (month_table_lines first last rows) result) out.old out.new }
-    ensures stays { Stays D.medium disk.old disk.new }
-    ensures went { (rows : List Row) → BookStandsFor book.now rows → ReadsOver D.medium rows result disk.old disk.new }
-    ensures disk_fault { Faults D.medium disk.old disk.new (result ≡ ReportEnd.DiskFault) }
-    ensures write_fault { Cause (K.outlet.faults out.old) (K.outlet.faults out.new) (result ≡ ReportEnd.WriteFault) }
-    ensures sink_still { result ≢ ReportEnd.WriteFault → K.outlet.faults out.new ≡ K.outlet.faults out.old }
+    ensures { MakesReport K.outlet D.medium book.now (month_table_lines first last) result
+        disk.old disk.new out.old out.new }
 {
     let mut pending = Pending::new();
     let mut month: Option<Month> = None;

@@ -1,14 +1,8 @@
-ghost use Rattle.std.specs.Prelude.{ℕ, ◌≡◌, ◌≢◌, ◌≤◌, ◌-◌, List, map, take, drop};
-ghost use Rattle.causes.specs.Cause.{Cause};
-ghost use Rattle.causes.specs.Told.{WhereTold};
-ghost use Rattle.disk_model.specs.Disk.{Faults, Stays};
+ghost use Rattle.std.specs.Prelude.{◌≤◌, ◌-◌, map, take, drop};
 ghost use Rattle.station_base.specs.RowLine.{row_line};
-ghost use Rattle.station_base.specs.declared.row.Row.{Row};
-ghost use Rattle.weather_book.specs.Book.{BookStandsFor, len_of};
-ghost use Rattle.weather_book.specs.Stands.{StandsToReadOn};
+ghost use Rattle.weather_book.specs.Book.{len_of};
+ghost use Rattle.weather_reports.specs.Made.{MakesReport};
 ghost use Rattle.weather_reports.specs.Report.{later_lines, listing_lines};
-ghost use Rattle.weather_reports.specs.Reported.{IsReport, ReadsOver, Reports};
-ghost use Rattle.weather_reports.specs.Wrote.{Wrote};
 
 use crate::ReportEnd;
 use crate::line::Pending;
@@ -28,16 +22,8 @@ pub fn listing<D: Disk, K: Sink>(
     first: DayNumber,
     last: DayNumber,
 ) -> ReportEnd
-    ensures lines { (rows : List Row) → StandsToReadOn D.medium book.now disk.old rows
-        → WhereTold (D.medium.seen disk.old) (λ _. Reports (K.outlet.taken out.old) (K.outlet.taken out.new)
-        (listing_lines first last rows) result) }
-    ensures wrote { Wrote K.outlet D.medium book.now disk.old
-        (λ rows. IsReport (listing_lines first last rows) result) out.old out.new }
-    ensures stays { Stays D.medium disk.old disk.new }
-    ensures went { (rows : List Row) → BookStandsFor book.now rows → ReadsOver D.medium rows result disk.old disk.new }
-    ensures disk_fault { Faults D.medium disk.old disk.new (result ≡ ReportEnd.DiskFault) }
-    ensures write_fault { Cause (K.outlet.faults out.old) (K.outlet.faults out.new) (result ≡ ReportEnd.WriteFault) }
-    ensures sink_still { result ≢ ReportEnd.WriteFault → K.outlet.faults out.new ≡ K.outlet.faults out.old }
+    ensures { MakesReport K.outlet D.medium book.now (listing_lines first last) result
+        disk.old disk.new out.old out.new }
 {
     let (from, count) = book.rows_of(first, last);
     rows_between(book, disk, out, from, from + count)
@@ -46,16 +32,7 @@ pub fn listing<D: Disk, K: Sink>(
 /// Writes the line of each row from this number on, counted from 0, up to the last. There is none where the book has no
 /// more rows. A read brings up to 16 rows.
 pub fn rows_from<D: Disk, K: Sink>(book: &Book, disk: &mut D, out: &mut K, from: u64) -> ReportEnd
-    ensures lines { (rows : List Row) → StandsToReadOn D.medium book.now disk.old rows
-        → WhereTold (D.medium.seen disk.old) (λ _. Reports (K.outlet.taken out.old) (K.outlet.taken out.new)
-        (later_lines from rows) result) }
-    ensures wrote { Wrote K.outlet D.medium book.now disk.old
-        (λ rows. IsReport (later_lines from rows) result) out.old out.new }
-    ensures stays { Stays D.medium disk.old disk.new }
-    ensures went { (rows : List Row) → BookStandsFor book.now rows → ReadsOver D.medium rows result disk.old disk.new }
-    ensures disk_fault { Faults D.medium disk.old disk.new (result ≡ ReportEnd.DiskFault) }
-    ensures write_fault { Cause (K.outlet.faults out.old) (K.outlet.faults out.new) (result ≡ ReportEnd.WriteFault) }
-    ensures sink_still { result ≢ ReportEnd.WriteFault → K.outlet.faults out.new ≡ K.outlet.faults out.old }
+    ensures { MakesReport K.outlet D.medium book.now (later_lines from) result disk.old disk.new out.old out.new }
 {
     rows_between(book, disk, out, from, book.len())
 }
@@ -69,16 +46,8 @@ fn rows_between<D: Disk, K: Sink>(
     end: u64,
 ) -> ReportEnd
     requires { end ≤ len_of book.now }
-    ensures lines { (rows : List Row) → StandsToReadOn D.medium book.now disk.old rows
-        → WhereTold (D.medium.seen disk.old) (λ _. Reports (K.outlet.taken out.old) (K.outlet.taken out.new)
-        (map row_line (take (end - from) (drop from rows))) result) }
-    ensures wrote { Wrote K.outlet D.medium book.now disk.old
-        (λ rows. IsReport (map row_line (take (end - from) (drop from rows))) result) out.old out.new }
-    ensures stays { Stays D.medium disk.old disk.new }
-    ensures went { (rows : List Row) → BookStandsFor book.now rows → ReadsOver D.medium rows result disk.old disk.new }
-    ensures disk_fault { Faults D.medium disk.old disk.new (result ≡ ReportEnd.DiskFault) }
-    ensures write_fault { Cause (K.outlet.faults out.old) (K.outlet.faults out.new) (result ≡ ReportEnd.WriteFault) }
-    ensures sink_still { result ≢ ReportEnd.WriteFault → K.outlet.faults out.new ≡ K.outlet.faults out.old }
+    ensures { MakesReport K.outlet D.medium book.now (λ rows. map row_line (take (end - from) (drop from rows))) result
+        disk.old disk.new out.old out.new }
 {
     let mut pending = Pending::new();
     let mut at = from;

@@ -1,24 +1,21 @@
-use Rattle.std.proofs.Common.{◌≡◌, ◌<◌, ◌≤◌, ℤ, List, ◌++◌, IfSome, drop, ◌+◌, ◌*◌, false}
-use Rattle.std.specs.Prelude.{filter}
+use Rattle.std.proofs.Common.{◌≡◌, ◌<◌, ◌≤◌, List, [], IfSome, Some, ◌+◌, ◌*◌, false}
 use Rattle.arrayvec.specs.ArrayVec.{array_vec_len}
 use Rattle.causes.specs.Told.{WhereTold}
 use Rattle.disk_model.specs.Disk.{Stays}
 use Rattle.station_base.specs.declared.row.Row.{Row}
 use Rattle.weather_book.specs.Book.{BookStandsFor}
-use Rattle.packed_rows.specs.Days.{days_of}
 use Rattle.gated_log.specs.Calls.{Looked}
 use Rattle.gated_log.specs.Layout.{slot_size}
 use Rattle.packed_rows.specs.Rows.{slot_total}
 use Rattle.weather_book.specs.Stands.{StandsToReadOn}
 use Rattle.weather_reports.specs.declared.line.TheConstants.{PIECE}
-use Rattle.weather_reports.proofs.Progress.{Comes}
-use Rattle.climate_table.specs.Spans.{HasDaysAhead, IsSpan}
-use Rattle.climate_table.specs.Table.{climate_lines, days_of_year, is_of_year, table_lines}
-use Rattle.climate_table.proofs.Months.{lines_after}
+use Rattle.weather_reports.specs.Wrote.{Wrote}
+use Rattle.climate_table.specs.Spans.{HasDaysAhead}
 use Rattle.climate_table.proofs.Spans.{IsInYear}
+use Rattle.climate_table.proofs.UnderWay.{IsUnderWay}
 use Rattle.climate_table.proofs.year_table.climate.Given as goal
 
--- the lines of the days that are left are ahead, and that of the year
+-- the table is under way
 abbrev pub invariant-loop-n : goal.invariant-loop-n
 invariant-loop-n g l = record {
   room : array_vec_len l.pending < PIECE;
@@ -31,10 +28,8 @@ invariant-loop-n g l = record {
   month_days : (rows : List Row) → BookStandsFor l.book rows → IfSome l.table.month (HasDaysAhead rows l.n);
   year_days : (rows : List Row) → BookStandsFor l.book rows → IfSome l.table.year (HasDaysAhead rows l.n);
   lines : (rows : List Row) → StandsToReadOn g.D.Disk.medium l.book l.initial.disk rows
-      → WhereTold (g.D.Disk.medium.seen l.initial.disk) (λ _. (begun : List ℤ) × (days : List ℤ)
-      × IsSpan rows begun l.table.month × IsSpan rows days l.table.year
-      × (days ++ filter (is_of_year l.year) (drop l.n (days_of rows)) ≡ days_of_year l.year rows)
-      × Comes (g.K.Sink.outlet.taken l.initial.out) (g.K.Sink.outlet.taken l.out) (table_lines l.year rows)
-      (lines_after rows begun (filter (is_of_year l.year) (drop l.n (days_of rows))) ++ climate_lines 4 rows (days_of_year l.year rows))
-      l.pending.items);
+      → WhereTold (g.D.Disk.medium.seen l.initial.disk) (λ _. IsUnderWay l.year rows l.n l.table (g.K.Sink.outlet.taken l.initial.out)
+      (g.K.Sink.outlet.taken l.out) l.pending.items);
+  wrote : Wrote g.K.Sink.outlet g.D.Disk.medium l.book l.initial.disk (λ rows written. IsUnderWay l.year rows l.n l.table (Some []) (Some written)
+      l.pending.items) l.initial.out l.out;
 }

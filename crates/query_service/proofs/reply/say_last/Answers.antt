@@ -7,7 +7,6 @@ use Rattle.query_service.proofs.reply.say_last.Goals as goal
 
 pub returns : goal.returns
 returns g c =
-    let e = c.rows_from.ensures in
     replies_report g.K.Sink.outlet g.D.Disk.medium c.args.book.now (λ (rows : List Row). later_lines (c.len-count.result - 1) rows) c.rows_from.result
-    c.args.disk.now _ c.args.out.now _ e.wrote e.stays e.went e.disk_fault e.write_fault e.sink_still last_row_line
+    c.args.disk.now _ c.args.out.now _ c.rows_from.ensures last_row_line
     (λ rows stands. last_of c.len-count.result rows c.if-count-eq0.false (c.len-count.ensures.rows rows stands))

@@ -9,13 +9,13 @@ use Rattle.query_service.proofs.reply.say_rows.Goals as goal
 pub returns-in-Done : goal.returns-in-Done
 returns-in-Done g c =
     replies_behind g.K.Sink.outlet g.D.Disk.medium c.args.book.now (λ (rows : List Row). listing_lines c.args.first c.args.last rows) (codes "end\n") c.say.result c.args.disk.now _ c.args.out.now _ _
-    (replies_report g.K.Sink.outlet g.D.Disk.medium c.args.book.now (λ (rows : List Row). listing_lines c.args.first c.args.last rows) Done c.args.disk.now _ c.args.out.now _ c.in-Done.ensures.wrote c.in-Done.ensures.stays c.in-Done.ensures.went c.in-Done.ensures.disk_fault c.in-Done.ensures.write_fault c.in-Done.ensures.sink_still _ (λ rows stands. refl))
+    (replies_report g.K.Sink.outlet g.D.Disk.medium c.args.book.now (λ (rows : List Row). listing_lines c.args.first c.args.last rows) Done c.args.disk.now _ c.args.out.now _ c.in-Done.ensures _ (λ rows stands. refl))
     c.say.ensures
 
 pub returns-in-DiskFault : goal.returns-in-DiskFault
 returns-in-DiskFault g c =
-    replies_cut g.K.Sink.outlet g.D.Disk.medium c.args.book.now (λ (rows : List Row). listing_lines c.args.first c.args.last rows) DiskFault c.args.disk.now _ c.args.out.now _ c.in-DiskFault.ensures.wrote c.in-DiskFault.ensures.stays c.in-DiskFault.ensures.went c.in-DiskFault.ensures.disk_fault c.in-DiskFault.ensures.write_fault c.in-DiskFault.ensures.sink_still (codes "end\n") (λ e. absurd (let bad : DiskFault ≡ Done = e in cc))
+    replies_cut g.K.Sink.outlet g.D.Disk.medium c.args.book.now (λ (rows : List Row). listing_lines c.args.first c.args.last rows) DiskFault c.args.disk.now _ c.args.out.now _ c.in-DiskFault.ensures (codes "end\n") (λ e. absurd (let bad : DiskFault ≡ Done = e in cc))
 
 pub returns-in-WriteFault : goal.returns-in-WriteFault
 returns-in-WriteFault g c =
-    replies_cut g.K.Sink.outlet g.D.Disk.medium c.args.book.now (λ (rows : List Row). listing_lines c.args.first c.args.last rows) WriteFault c.args.disk.now _ c.args.out.now _ c.in-WriteFault.ensures.wrote c.in-WriteFault.ensures.stays c.in-WriteFault.ensures.went c.in-WriteFault.ensures.disk_fault c.in-WriteFault.ensures.write_fault c.in-WriteFault.ensures.sink_still (codes "end\n") (λ e. absurd (let bad : WriteFault ≡ Done = e in cc))
+    replies_cut g.K.Sink.outlet g.D.Disk.medium c.args.book.now (λ (rows : List Row). listing_lines c.args.first c.args.last rows) WriteFault c.args.disk.now _ c.args.out.now _ c.in-WriteFault.ensures (codes "end\n") (λ e. absurd (let bad : WriteFault ≡ Done = e in cc))

@@ -1,4 +1,4 @@
-use Rattle.std.proofs.Common.{◌≡◌, ◌+◌, ◌∙◌, [], ◌∷◌, ◌++◌, length, drop, refl, sym, ap, arith, ◌*◌, true, false, Some}
+use Rattle.std.proofs.Common.{◌≡◌, ◌+◌, ◌∙◌, [], ◌∷◌, ◌++◌, length, drop, refl, sym, ap, arith, ◌*◌, Some}
 use Rattle.std.proofs.lemmas.List.{append-nil, drop_all}
 use Rattle.std.specs.Prelude.{filter, flat_map}
 use Rattle.disk_model.specs.Disk.{stays_none, stays_joins}
@@ -13,7 +13,8 @@ use Rattle.weather_reports.specs.Report.{is_among, month_lines, month_table_line
 use Rattle.weather_reports.proofs.BegunMonths.{few_begun, few_joined, few_still, few_together, month_apart, month_begins, month_ends, month_joined}
 use Rattle.weather_reports.proofs.Behind.{leaves_behind, part_behind, wrote_as, wrote_more, wrote_nothing}
 use Rattle.weather_reports.proofs.Progress.{Comes, comes_none, comes_on, comes_fails}
-use Rattle.weather_reports.proofs.Ends.{ends_early, ends_whole, finishes_behind, none_failed, one_failed}
+use Rattle.weather_reports.proofs.MadeReports.{made_early, made_short, made_whole}
+use Rattle.weather_reports.proofs.Ends.{ends_early, ends_whole, finishes_behind}
 use Rattle.weather_reports.proofs.NextDay.{day_passed, day_taken}
 use Rattle.weather_reports.proofs.by_month.month_table.Goals as goal
 
@@ -58,18 +59,23 @@ loop-n-preserved-then-not-is_among g c =
       ));
     }
 
-pub returns-in_default-clause-lines : goal.returns-in_default-clause-lines
-returns-in_default-clause-lines g c rows stands x told =
-    let text : c.deref.result.now ≡ c.loop-n.pending.items = c.deref.ensures.0 in
-    ends_early _ _ _ _ _ c.loop-n.pending.items _ (c.loop-n.invariant.lines rows stands x told).2
-    (record { done = λ no. rw text at (c.finish.ensures.done no); failed = λ w. rw text at (c.finish.ensures.failed w (λ e. absurd cc)); kind = c.finish.ensures.kind })
-
-pub returns-in_default-clause-wrote : goal.returns-in_default-clause-wrote
-returns-in_default-clause-wrote g c =
-    let text : c.deref.result.now ≡ c.loop-n.pending.items = c.deref.ensures.0 in
-    let print = rw text at c.finish.ensures.wrote in
-    wrote_more g.K.Sink.outlet g.D.Disk.medium c.args.book.now c.args.disk.now _ _ _ _ _ print.0 c.loop-n.invariant.wrote print.1 (λ rows stands x told w at.
-    ends_early _ _ _ _ _ c.loop-n.pending.items _ at.2 (finishes_behind w c.loop-n.pending.items print.0 _ _ print.2 print.3 c.finish.ensures.kind))
+pub returns-in_default : goal.returns-in_default
+returns-in_default g c = record {
+  lines = λ rows stands x told.
+      let text : c.deref.result.now ≡ c.loop-n.pending.items = c.deref.ensures.0 in
+      ends_early _ _ _ _ _ c.loop-n.pending.items _ (c.loop-n.invariant.lines rows stands x told).2
+      (record { done = λ no. rw text at (c.finish.ensures.done no); failed = λ w. rw text at (c.finish.ensures.failed w (λ e. absurd cc)); kind = c.finish.ensures.kind });
+  by_reads =
+      let i = c.loop-n.invariant in
+      let text : c.deref.result.now ≡ c.loop-n.pending.items = c.deref.ensures.0 in
+      let print = rw text at c.finish.ensures.wrote in
+      made_early g.K.Sink.outlet g.D.Disk.medium c.args.book.now _ c.args.disk.now _ c.args.out.now _ _ i.faults
+      (stays_joins i.stays c.summary_of.ensures.stays)
+      (wrote_more g.K.Sink.outlet g.D.Disk.medium c.args.book.now c.args.disk.now _ _ _ _ _ print.0 c.loop-n.invariant.wrote print.1 (λ rows stands x told w at.
+      ends_early _ _ _ _ _ c.loop-n.pending.items _ at.2 (finishes_behind w c.loop-n.pending.items print.0 _ _ print.2 print.3 c.finish.ensures.kind)))
+      _ _ i.disk (λ rows stands. more_reads g.D.Disk.medium (i.went rows stands) (c.in_default.ensures.went rows stands)) c.summary_of.ensures.cause c.in_default.is
+      c.finish.ensures.kind c.finish.ensures.cause c.finish.ensures.still;
+}
 
 pub join-requires-clause-few : goal.join-requires-clause-few
 join-requires-clause-few g c =
@@ -109,31 +115,35 @@ loop-n-preserved-then-join g c =
           (at.0 ++ day ∷ [], joined.1, rw (month_joined at.0 day ahead joined.0) at comes));
     }
 
-pub returns-in-Failed-clause-lines : goal.returns-in-Failed-clause-lines
-returns-in-Failed-clause-lines g c rows stands x told =
-    let m = g.D.Disk.medium in let i = c.loop-n.invariant in let day = c.day_at-day.result.0 in let n = c.loop-n.n in
-    let p = is_among c.args.first c.args.last in let ahead = filter p (drop (n + 1) (days_of rows)) in
-    let among = sym c.is_among.ensures ∙ c.if-not-is_among.false in
-    let at = i.lines rows stands x told in
-    let apart = c.join.ensures.apart c.if-join.false in
-    let next = day_taken p (days_of rows) n day (c.day_at-day.ensures.day rows stands.stands_for) among in
-    let comes = rw (month_apart rows at.0 c.loop-n.month day ahead at.1 (apart.1 rows at.0 at.1)) at (rw next at at.2) in
-    comes_fails _ _ _ _ (begun_lines c.loop-n.month) (flat_map (month_lines rows) (months_after (day ∷ []) ahead)) c.loop-n.pending.items comes
-    (rw apart.0 at (c.print_month.ensures.failed c.in-Failed.is))
-
-pub returns-in-Failed-clause-wrote : goal.returns-in-Failed-clause-wrote
-returns-in-Failed-clause-wrote g c =
-    let m = g.D.Disk.medium in let i = c.loop-n.invariant in let day = c.day_at-day.result.0 in let n = c.loop-n.n in
-    let p = is_among c.args.first c.args.last in
-    let among = sym c.is_among.ensures ∙ c.if-not-is_among.false in
-    let apart = c.join.ensures.apart c.if-join.false in
-    let print = rw (c.in-Failed.is, apart.0) at c.print_month.ensures.wrote in
-    wrote_more g.K.Sink.outlet m c.args.book.now c.args.disk.now _ _ _ _ _ print.0 i.wrote print.1 (λ rows stands x told w at.
-    let ahead = filter p (drop (n + 1) (days_of rows)) in
-    let next = day_taken p (days_of rows) n day (c.day_at-day.ensures.day rows stands.stands_for) among in
-    let comes = rw (month_apart rows at.0 c.loop-n.month day ahead at.1 (apart.1 rows at.0 at.1)) at (rw next at at.2) in
-    comes_fails _ _ _ _ (begun_lines c.loop-n.month) (flat_map (month_lines rows) (months_after (day ∷ []) ahead)) c.loop-n.pending.items comes
-    (part_behind w print.0 _ print.2))
+pub returns-in-Failed : goal.returns-in-Failed
+returns-in-Failed g c = record {
+  lines = λ rows stands x told.
+      let m = g.D.Disk.medium in let i = c.loop-n.invariant in let day = c.day_at-day.result.0 in let n = c.loop-n.n in
+      let p = is_among c.args.first c.args.last in let ahead = filter p (drop (n + 1) (days_of rows)) in
+      let among = sym c.is_among.ensures ∙ c.if-not-is_among.false in
+      let at = i.lines rows stands x told in
+      let apart = c.join.ensures.apart c.if-join.false in
+      let next = day_taken p (days_of rows) n day (c.day_at-day.ensures.day rows stands.stands_for) among in
+      let comes = rw (month_apart rows at.0 c.loop-n.month day ahead at.1 (apart.1 rows at.0 at.1)) at (rw next at at.2) in
+      comes_fails _ _ _ _ (begun_lines c.loop-n.month) (flat_map (month_lines rows) (months_after (day ∷ []) ahead)) c.loop-n.pending.items comes
+      (rw apart.0 at (c.print_month.ensures.failed c.in-Failed.is));
+  by_reads =
+      let m = g.D.Disk.medium in let i = c.loop-n.invariant in let day = c.day_at-day.result.0 in let n = c.loop-n.n in
+      let p = is_among c.args.first c.args.last in
+      let among = sym c.is_among.ensures ∙ c.if-not-is_among.false in
+      let apart = c.join.ensures.apart c.if-join.false in
+      let print = rw (c.in-Failed.is, apart.0) at c.print_month.ensures.wrote in
+      made_short g.K.Sink.outlet g.D.Disk.medium c.args.book.now _ c.args.disk.now _ c.args.out.now _ _ i.faults
+      (stays_joins i.stays c.summary_of.ensures.stays)
+      (wrote_more g.K.Sink.outlet m c.args.book.now c.args.disk.now _ _ _ _ _ print.0 i.wrote print.1 (λ rows stands x told w at.
+      let ahead = filter p (drop (n + 1) (days_of rows)) in
+      let next = day_taken p (days_of rows) n day (c.day_at-day.ensures.day rows stands.stands_for) among in
+      let comes = rw (month_apart rows at.0 c.loop-n.month day ahead at.1 (apart.1 rows at.0 at.1)) at (rw next at at.2) in
+      comes_fails _ _ _ _ (begun_lines c.loop-n.month) (flat_map (month_lines rows) (months_after (day ∷ []) ahead)) c.loop-n.pending.items comes
+      (part_behind w print.0 _ print.2)))
+      (omega (arith, i.disk, c.summary_of.ensures.cause.never_falls))
+      (λ rows stands. more_reads g.D.Disk.medium (i.went rows stands) (c.in-Some.ensures.went rows stands)) c.print_month.ensures.cause c.in-Failed.is;
+}
 
 pub loop-n-preserved : goal.loop-n-preserved
 loop-n-preserved g c =
@@ -179,70 +189,48 @@ loop-n-preserved g c =
           ));
     }
 
-pub returns-in-Failed-print_month-clause-lines : goal.returns-in-Failed-print_month-clause-lines
-returns-in-Failed-print_month-clause-lines g c rows stands x told =
-    let none = drop_all c.loop-n.n (days_of rows) (omega (arith, c.loop-n-test.false, c.loop-n.auto.n-end, c.days-n-end.ensures.rows rows stands.stands_for)) in
-    let at = c.loop-n.invariant.lines rows stands x told in
-    let comes = rw (month_ends rows at.0 c.loop-n.month at.1, sym (append-nil (begun_lines c.loop-n.month))) at (rw none at at.2) in
-    comes_fails _ _ _ _ (begun_lines c.loop-n.month) [] c.loop-n.pending.items comes (c.print_month-2.ensures.failed c.in-Failed-print_month.is)
-
-pub returns-clause-lines : goal.returns-clause-lines
-returns-clause-lines g c rows stands x told =
-    let text : c.deref-2.result.now ≡ c.print_month-2.new.pending.items = c.deref-2.ensures.0 in
-    let none = drop_all c.loop-n.n (days_of rows) (omega (arith, c.loop-n-test.false, c.loop-n.auto.n-end, c.days-n-end.ensures.rows rows stands.stands_for)) in
-    let at = c.loop-n.invariant.lines rows stands x told in
-    let comes = rw (month_ends rows at.0 c.loop-n.month at.1, sym (append-nil (begun_lines c.loop-n.month))) at (rw none at at.2) in
-    ends_whole _ _ _ _ c.print_month-2.new.pending.items _
-    (comes_on _ _ _ _ (begun_lines c.loop-n.month) [] c.loop-n.pending.items _ comes (c.print_month-2.ensures.done c.in_default-print_month-2.is))
-    (record { done = λ no. rw text at (c.finish-2.ensures.done no); failed = λ w. rw text at (c.finish-2.ensures.failed w (λ e. absurd cc)); kind = c.finish-2.ensures.kind })
-
-pub returns-in-Failed-print_month-clause-wrote : goal.returns-in-Failed-print_month-clause-wrote
-returns-in-Failed-print_month-clause-wrote g c =
-    let print = rw c.in-Failed-print_month.is at c.print_month-2.ensures.wrote in
-    wrote_more g.K.Sink.outlet g.D.Disk.medium c.args.book.now c.args.disk.now _ _ _ _ _ print.0 c.loop-n.invariant.wrote print.1 (λ rows stands x told w at.
-    let none = drop_all c.loop-n.n (days_of rows) (omega (arith, c.loop-n-test.false, c.loop-n.auto.n-end, c.days-n-end.ensures.rows rows stands.stands_for)) in
-    let comes = rw (month_ends rows at.0 c.loop-n.month at.1, sym (append-nil (begun_lines c.loop-n.month))) at (rw none at at.2) in
-    comes_fails _ _ _ _ (begun_lines c.loop-n.month) [] c.loop-n.pending.items comes (part_behind w print.0 _ print.2))
-
-pub returns-clause-wrote : goal.returns-clause-wrote
-returns-clause-wrote g c =
-    let m = g.D.Disk.medium in
-    let text : c.deref-2.result.now ≡ c.print_month-2.new.pending.items = c.deref-2.ensures.0 in
-    let print = rw c.in_default-print_month-2.is at c.print_month-2.ensures.wrote in
-    let last = rw text at c.finish-2.ensures.wrote in
-    let printed = wrote_more g.K.Sink.outlet m c.args.book.now c.args.disk.now _
-    (λ rows w. Comes (Some []) (Some w) (month_table_lines c.args.first c.args.last rows) [] c.print_month-2.new.pending.items)
-    _ _ _ print.0 c.loop-n.invariant.wrote print.1 (λ rows stands x told w at.
-    let none = drop_all c.loop-n.n (days_of rows) (omega (arith, c.loop-n-test.false, c.loop-n.auto.n-end, c.days-n-end.ensures.rows rows stands.stands_for)) in
-    let comes = rw (month_ends rows at.0 c.loop-n.month at.1, sym (append-nil (begun_lines c.loop-n.month))) at (rw none at at.2) in
-    comes_on _ _ _ _ (begun_lines c.loop-n.month) [] c.loop-n.pending.items _ comes (leaves_behind w print.0 _ _ print.2)) in
-    wrote_more g.K.Sink.outlet m c.args.book.now c.args.disk.now _ _ _ _ _ last.0 printed last.1 (λ rows stands x told w before.
-    ends_whole _ _ _ _ c.print_month-2.new.pending.items _ before (finishes_behind w _ last.0 _ _ last.2 last.3 c.finish-2.ensures.kind))
-
-pub returns-in_default-clause-went : goal.returns-in_default-clause-went
-returns-in_default-clause-went g c rows stands = record {
-  failed = true;
-  by_end = one_failed c.finish.result c.finish.ensures.kind;
-  looked = more_reads g.D.Disk.medium (c.loop-n.invariant.went rows stands) (c.in_default.ensures.went rows stands);
+pub returns-in-Failed-print_month : goal.returns-in-Failed-print_month
+returns-in-Failed-print_month g c = record {
+  lines = λ rows stands x told.
+      let none = drop_all c.loop-n.n (days_of rows) (omega (arith, c.loop-n-test.false, c.loop-n.auto.n-end, c.days-n-end.ensures.rows rows stands.stands_for)) in
+      let at = c.loop-n.invariant.lines rows stands x told in
+      let comes = rw (month_ends rows at.0 c.loop-n.month at.1, sym (append-nil (begun_lines c.loop-n.month))) at (rw none at at.2) in
+      comes_fails _ _ _ _ (begun_lines c.loop-n.month) [] c.loop-n.pending.items comes (c.print_month-2.ensures.failed c.in-Failed-print_month.is);
+  by_reads =
+      let i = c.loop-n.invariant in
+      let print = rw c.in-Failed-print_month.is at c.print_month-2.ensures.wrote in
+      made_short g.K.Sink.outlet g.D.Disk.medium c.args.book.now _ c.args.disk.now _ c.args.out.now _ _ i.faults i.stays
+      (wrote_more g.K.Sink.outlet g.D.Disk.medium c.args.book.now c.args.disk.now _ _ _ _ _ print.0 c.loop-n.invariant.wrote print.1 (λ rows stands x told w at.
+      let none = drop_all c.loop-n.n (days_of rows) (omega (arith, c.loop-n-test.false, c.loop-n.auto.n-end, c.days-n-end.ensures.rows rows stands.stands_for)) in
+      let comes = rw (month_ends rows at.0 c.loop-n.month at.1, sym (append-nil (begun_lines c.loop-n.month))) at (rw none at at.2) in
+      comes_fails _ _ _ _ (begun_lines c.loop-n.month) [] c.loop-n.pending.items comes (part_behind w print.0 _ print.2)))
+      i.disk i.went c.print_month-2.ensures.cause c.in-Failed-print_month.is;
 }
 
-pub returns-in-Failed-clause-went : goal.returns-in-Failed-clause-went
-returns-in-Failed-clause-went g c rows stands = record {
-  failed = false;
-  by_end = tt;
-  looked = more_reads g.D.Disk.medium (c.loop-n.invariant.went rows stands) (c.in-Some.ensures.went rows stands);
-}
-
-pub returns-in-Failed-print_month-clause-went : goal.returns-in-Failed-print_month-clause-went
-returns-in-Failed-print_month-clause-went g c rows stands = record {
-  failed = false;
-  by_end = tt;
-  looked = c.loop-n.invariant.went rows stands;
-}
-
-pub returns-clause-went : goal.returns-clause-went
-returns-clause-went g c rows stands = record {
-  failed = false;
-  by_end = none_failed c.finish-2.result c.finish-2.ensures.kind;
-  looked = c.loop-n.invariant.went rows stands;
+pub returns : goal.returns
+returns g c = record {
+  lines = λ rows stands x told.
+      let text : c.deref-2.result.now ≡ c.print_month-2.new.pending.items = c.deref-2.ensures.0 in
+      let none = drop_all c.loop-n.n (days_of rows) (omega (arith, c.loop-n-test.false, c.loop-n.auto.n-end, c.days-n-end.ensures.rows rows stands.stands_for)) in
+      let at = c.loop-n.invariant.lines rows stands x told in
+      let comes = rw (month_ends rows at.0 c.loop-n.month at.1, sym (append-nil (begun_lines c.loop-n.month))) at (rw none at at.2) in
+      ends_whole _ _ _ _ c.print_month-2.new.pending.items _
+      (comes_on _ _ _ _ (begun_lines c.loop-n.month) [] c.loop-n.pending.items _ comes (c.print_month-2.ensures.done c.in_default-print_month-2.is))
+      (record { done = λ no. rw text at (c.finish-2.ensures.done no); failed = λ w. rw text at (c.finish-2.ensures.failed w (λ e. absurd cc)); kind = c.finish-2.ensures.kind });
+  by_reads =
+      let i = c.loop-n.invariant in
+      let m = g.D.Disk.medium in
+      let text : c.deref-2.result.now ≡ c.print_month-2.new.pending.items = c.deref-2.ensures.0 in
+      let print = rw c.in_default-print_month-2.is at c.print_month-2.ensures.wrote in
+      let last = rw text at c.finish-2.ensures.wrote in
+      let printed = wrote_more g.K.Sink.outlet m c.args.book.now c.args.disk.now _
+      (λ rows w. Comes (Some []) (Some w) (month_table_lines c.args.first c.args.last rows) [] c.print_month-2.new.pending.items)
+      _ _ _ print.0 c.loop-n.invariant.wrote print.1 (λ rows stands x told w at.
+      let none = drop_all c.loop-n.n (days_of rows) (omega (arith, c.loop-n-test.false, c.loop-n.auto.n-end, c.days-n-end.ensures.rows rows stands.stands_for)) in
+      let comes = rw (month_ends rows at.0 c.loop-n.month at.1, sym (append-nil (begun_lines c.loop-n.month))) at (rw none at at.2) in
+      comes_on _ _ _ _ (begun_lines c.loop-n.month) [] c.loop-n.pending.items _ comes (leaves_behind w print.0 _ _ print.2)) in
+      made_whole g.K.Sink.outlet g.D.Disk.medium c.args.book.now _ c.args.disk.now _ c.args.out.now _ _ (c.print_month-2.ensures.still c.in_default-print_month-2.not-Failed ∙ i.faults) i.stays
+      (wrote_more g.K.Sink.outlet m c.args.book.now c.args.disk.now _ _ _ _ _ last.0 printed last.1 (λ rows stands x told w before.
+      ends_whole _ _ _ _ c.print_month-2.new.pending.items _ before (finishes_behind w _ last.0 _ _ last.2 last.3 c.finish-2.ensures.kind)))
+      _ i.disk i.went c.finish-2.ensures.kind c.finish-2.ensures.cause c.finish-2.ensures.still;
 }

@@ -5,7 +5,7 @@ use Rattle.std.proofs.lemmas.List.Sums.{count_by-le-length}
 use Rattle.station_base.specs.RowLine.{row_line}
 use Rattle.packed_rows.specs.Days.{is_before, is_within}
 use Rattle.weather_book.proofs.RowsOfBook.{some_rows}
-use Rattle.weather_reports.proofs.Behind.{wrote_as}
+use Rattle.weather_reports.proofs.MadeReports.{made_as}
 use Rattle.weather_reports.proofs.Pieces.{counted_fit}
 use Rattle.weather_reports.proofs.by_row.listing.Goals as goal
 
@@ -23,19 +23,9 @@ rows_between-requires g c =
           (rw (sym before, sym within) these) (count_by-le-length (is_before c.args.first) p.0),
     ))
 
-pub returns-clause-lines : goal.returns-clause-lines
-returns-clause-lines g c rows stands x told =
+pub returns : goal.returns
+returns g c =
+    made_as g.K.Sink.outlet g.D.Disk.medium c.args.book.now _ _ _ c.args.disk.now _ c.args.out.now _ (λ rows stands_for.
     let from = c.rows_of-from.result.0 in let count = c.rows_of-from.result.1 in
     let left : from + count - from ≡ count = omega arith in
-    let these = ap (λ (n : ℕ). map row_line (take n (drop from rows))) left
-    ∙ ap (map row_line) (c.rows_of-from.ensures.these rows stands.stands_for) in
-    rw these at (c.rows_between.ensures.lines rows stands x told)
-
-pub returns-clause-wrote : goal.returns-clause-wrote
-returns-clause-wrote g c =
-    wrote_as g.K.Sink.outlet g.D.Disk.medium c.args.book.now c.args.disk.now _ _ _ _ c.rows_between.ensures.wrote (λ rows stands x told w before.
-    let from = c.rows_of-from.result.0 in let count = c.rows_of-from.result.1 in
-    let left : from + count - from ≡ count = omega arith in
-    let these = ap (λ (n : ℕ). map row_line (take n (drop from rows))) left
-    ∙ ap (map row_line) (c.rows_of-from.ensures.these rows stands.stands_for) in
-    rw these at before)
+    ap (λ (n : ℕ). map row_line (take n (drop from rows))) left ∙ ap (map row_line) (c.rows_of-from.ensures.these rows stands_for)) c.rows_between.ensures

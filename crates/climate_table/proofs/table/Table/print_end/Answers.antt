@@ -1,5 +1,6 @@
+use Rattle.std.proofs.Common.{[]}
 use Rattle.climate_table.specs.Spans.{span_lines}
-use Rattle.climate_table.proofs.Prints.{both_done, first_failed, second_failed}
+use Rattle.climate_table.proofs.Prints.{both_done, both_printed, first_failed, part_printed, second_failed}
 use Rattle.climate_table.proofs.table.Table.print_end.Goals as goal
 
 pub returns-in-Failed-clause-failed : goal.returns-in-Failed-clause-failed
@@ -16,3 +17,13 @@ pub returns-clause-failed : goal.returns-clause-failed
 returns-clause-failed g c is =
     second_failed _ _ _ c.args.pending.now.items _ (span_lines 7 c.args.self.now.month) (span_lines 4 c.args.self.now.year)
     (c.print_span.ensures.done c.in_default.is) (c.print_span-2.ensures.failed is)
+
+pub returns-in-Failed-clause-wrote : goal.returns-in-Failed-clause-wrote
+returns-in-Failed-clause-wrote g c =
+    part_printed g.K.Sink.outlet c.args.pending.now.items [] [] (span_lines 7 c.args.self.now.month) (span_lines 4 c.args.self.now.year) _ _
+    (rw c.in-Failed.is at c.print_span.ensures.wrote)
+
+pub returns-clause-wrote : goal.returns-clause-wrote
+returns-clause-wrote g c =
+    both_printed g.K.Sink.outlet c.print_span-2.result c.args.pending.now.items _ _ (span_lines 7 c.args.self.now.month)
+    (span_lines 4 c.args.self.now.year) _ _ _ (rw c.in_default.is at c.print_span.ensures.wrote) c.print_span-2.ensures.wrote
