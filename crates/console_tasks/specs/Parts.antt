@@ -56,7 +56,8 @@ EndsTask x end t = (more : List Exchange) → Fails (Exchanges (x ∷ more)) end
 -- answer is judged
 abbrev pub ExchangeReplies : List ℕ → ℕ → List ℕ → Result (Unit {0}) TaskEnd → List TalkItem → Type 0
 ExchangeReplies said size answer (Ok done) t = MessageIsAnswered said answer t
-ExchangeReplies said size answer (Err end) t = (judge : List ℕ → TaskEnd) → EndsTask (answered_exchange said size judge) end t
+ExchangeReplies said size answer (Err end) t =
+    (judge : List ℕ → TaskEnd) → EndsTask (answered_exchange said size judge) end t
 
 -- what a message says and hears that 0x06 alone answers
 abbrev pub Commands : List ℕ → Result (Unit {0}) TaskEnd → List TalkItem → Type 0

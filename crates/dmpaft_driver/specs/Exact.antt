@@ -38,7 +38,8 @@ Sound after = (talk : List TalkItem) (answers : List Stored) (place : ℕ) (take
 -- an attempt ends the pump that takes it, at its place where it took a page
 abbrev pub Complete : Option CivilMinute → Type 0
 Complete after = (talk : List TalkItem) (place : ℕ) (taken : List (List ℕ)) (end : PumpEnd)
-    → Attempt (stamp_frame_of after) talk place taken (attempt_end end) → RefusesGiven after place taken (attempt_end end)
+    → Attempt (stamp_frame_of after) talk place taken (attempt_end end)
+    → RefusesGiven after place taken (attempt_end end)
     → (answers : List Stored) × (at : ℕ) × (pump_after after talk answers ≡ Over at taken end)
     × ((taken ≡ []) ⊎ (place ≡ at)) × (attempt_end end ≢ End.Refused → AllDone answers)
 

@@ -26,7 +26,8 @@ TalkIsTried after talk (trial_end.Attempt end) = (place : ℕ) × (taken : List 
     × Attempt (stamp_frame_of after) talk place taken (attempt_end end) × (attempt_end end ≢ End.Refused)
 TalkIsTried after talk trial_end.Unfinished = (rest : List TalkItem) × (rest ≢ []) × AttemptGoesOn after talk rest
 TalkIsTried after talk (trial_end.Not count) = (front : List TalkItem) × (i : TalkItem) × (rest : List TalkItem)
-    × (talk ≡ front ++ i ∷ rest) × (length front ≡ count) × BeginsAttempt after front × (BeginsAttempt after (front ++ i ∷ []) → ⊥)
+    × (talk ≡ front ++ i ∷ rest) × (length front ≡ count) × BeginsAttempt after front
+    × (BeginsAttempt after (front ++ i ∷ []) → ⊥)
 
 -- a talk has one answer
 abbrev pub OneTrial : Option CivilMinute → Type 0

@@ -63,7 +63,8 @@ pub record DoesNotFit (after : Option CivilMinute) (s : AttemptState) (items : L
   pub counted : length front ≡ count
   pub other : List TalkItem
   pub might_end : MightEnd after (pump_from after s front []) other
-  pub astray : (more : List Stored) → attempt_step after (answer_taken after (pump_from after s front []) more) next ≡ Astray
+  pub astray : (more : List Stored) → attempt_step after (answer_taken after (pump_from after s front []) more)
+      next ≡ Astray
 
 -- where a trial stops
 abbrev pub TrialStopsAt : Option CivilMinute → AttemptState → List TalkItem → TrialEnd → Type 0

@@ -71,7 +71,8 @@ IsOneStep after s talk answers = ((answers ≡ []) × IsOneLinkCall talk)
     × (s ≡ Keeping more place taken page) × (batch_of after place taken page ≢ []))
 
 -- where the attempt stands after a turn
-abbrev pub AttemptTurnsTo : Option DumpEnd → Tally → Option CivilMinute → AttemptState → List TalkItem → List Stored → Pump
+abbrev pub AttemptTurnsTo : Option DumpEnd → Tally → Option CivilMinute → AttemptState → List TalkItem → List Stored
+    → Pump
     → Pump → Type 0
 AttemptTurnsTo None start after s talk answers pump pump' = PumpShows start after (pump_from after s talk answers) pump'
     × IsOneStep after s talk answers

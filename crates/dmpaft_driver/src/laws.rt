@@ -27,8 +27,7 @@ pub fn a_pump_takes_attempts()
     ensures trial { (after : Option CivilMinute) → OneTrial after }
 {}
 
-/// Whatever the console does, an attempt hears at most `MOST_HEARD` bytes, which is 101,669,940, and says at most
-/// `MOST_SAID`, which is 2,069.
+/// Whatever the console does, an attempt hears at most `MOST_HEARD` bytes and says at most `MOST_SAID`.
 pub fn an_attempt_is_bounded()
     ensures bounded { AttemptsAreBounded }
     ensures heard { MOST_HEARD ≡ most_heard }

@@ -9,25 +9,29 @@ use Rattle.station_base.specs.LastStamp.{exceeds}
 use Rattle.dmpaft_pump.specs.Slot.{is_skipped}
 use Rattle.dmpaft_pump.specs.Keeper.{Handed, one_batch}
 
+-- the slots of a page (Davis serial manual, "Download Protocol")
+abbrev pub page_slots : ℕ
+page_slots = 5
+
 -- so many slots of a page, from a place on
 abbrev pub slots_from : ℕ → ℕ → List ℕ → List (List ℕ)
 slots_from zero place page = []
 slots_from (suc left) place page = slot_at page place ∷ slots_from left (place + 1) page
 
--- the slots of a page from a place on
+-- the slots of a page from a place on, of the five that it has
 abbrev pub slots_in_page : ℕ → List ℕ → List (List ℕ)
-slots_in_page place page = slots_from (5 - place) place page
+slots_in_page place page = slots_from (page_slots - place) place page
 
 -- whether a slot reads as a row, and its stamp exceeds the last one
 abbrev pub slot_is_newer : Option CivilMinute → List ℕ → Bool
 slot_is_newer last slot = reads_as_row slot && exceeds last (stamp_in slot)
 
--- the slot, or none
+-- the slot, if it is wanted, or none
 abbrev pub one_if : Bool → List ℕ → List (List ℕ)
 one_if true slot = slot ∷ []
 one_if false slot = []
 
--- its stamp, or the last one
+-- the stamp of the slot, if it is newer, and else the last one
 abbrev pub last_if : Bool → Option CivilMinute → List ℕ → Option CivilMinute
 last_if true last slot = stamp_in slot
 last_if false last slot = last
@@ -37,7 +41,7 @@ abbrev pub rising : Option CivilMinute → List (List ℕ) → List (List ℕ)
 rising last [] = []
 rising last (s ∷ ss) = one_if (slot_is_newer last s) s ++ rising (last_if (slot_is_newer last s) last s) ss
 
--- the greatest stamp then
+-- the greatest of the last stamp and those of these slots, as far as they read as rows
 abbrev pub newest : Option CivilMinute → List (List ℕ) → Option CivilMinute
 newest last [] = last
 newest last (s ∷ ss) = newest (last_if (slot_is_newer last s) last s) ss

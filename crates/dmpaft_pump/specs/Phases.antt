@@ -1,5 +1,5 @@
 -- The parts of an attempt as a pump has them, which tells place and pages apart.
-use Rattle.std.specs.Prelude.{◌≡◌, ℕ, ◌+◌, ◌*◌, ◌<◌, Bool, true, false, List, [], ◌∷◌, length, Option}
+use Rattle.std.specs.Prelude.{◌≡◌, ℕ, ◌+◌, ◌-◌, ◌*◌, ◌^◌, ◌<◌, Bool, true, false, List, [], ◌∷◌, length, Option}
 use Rattle.station_base.specs.CivilMinute.{CivilMinute}
 use Rattle.vantage_frames.specs.StampFrame.{stamp_frame_of}
 use Rattle.vantage_frames.specs.Header.{most_pages}
@@ -8,7 +8,8 @@ use Rattle.wake_retry.specs.Parts.{flood_size, answer_waits, settled_waits, wake
 use Rattle.dmpaft_pump.specs.declared.phase.Phase.{Phase}
 use Rattle.dmpaft_pump.specs.declared.phase.Phase.TheVariants as phase
 use Rattle.dmpaft_pump.specs.Command.{dmpaft}
-use Rattle.dmpaft_pump.specs.Pump.{AttemptPart, Settling, Waking, Calling, Heading, Asking, Resettling, Acking, GivingUp}
+use Rattle.dmpaft_pump.specs.Pump.{most_askings, AttemptPart, Settling, Waking, Calling, Heading, Asking, Resettling}
+use Rattle.dmpaft_pump.specs.Pump.{Acking, GivingUp}
 
 -- the part after these pages
 abbrev pub part_of_phase : ℕ → List (List ℕ) → Phase → AttemptPart
@@ -76,7 +77,7 @@ PhaseFits (phase.Resettling more left said) place taken = length taken + more < 
 PhaseFits phase.Acking place taken = Unit {0}
 PhaseFits (phase.GivingUp trouble) place taken = Unit {0}
 
--- it hears something
+-- a phase that hears something
 abbrev pub PhaseHears : Phase → Type 0
 PhaseHears phase.Settling = Unit {0}
 PhaseHears (phase.Waking left) = Unit {0}
@@ -87,7 +88,7 @@ PhaseHears (phase.Resettling more left said) = Unit {0}
 PhaseHears phase.Acking = ⊥
 PhaseHears (phase.GivingUp trouble) = ⊥
 
--- it says something
+-- a phase that says something
 abbrev pub PhaseSpeaks : Phase → Type 0
 PhaseSpeaks phase.Settling = ⊥
 PhaseSpeaks (phase.Waking left) = Unit {0}
@@ -98,28 +99,48 @@ PhaseSpeaks (phase.Resettling more left said) = ⊥
 PhaseSpeaks phase.Acking = Unit {0}
 PhaseSpeaks (phase.GivingUp trouble) = Unit {0}
 
--- it takes fewer steps than this: its words are said, and then each byte and each wait is heard
-abbrev pub span_of : Phase → ℕ
-span_of phase.Settling = 500000
-span_of (phase.Waking left) = 500000
-span_of phase.Calling = 2000
-span_of phase.Heading = 2000
-span_of (phase.Asking more left said) = 2000
-span_of (phase.Resettling more left said) = 500000
-span_of phase.Acking = 2000
-span_of (phase.GivingUp trouble) = 2000
+-- a part that hears up to a flood takes fewer steps than this
+abbrev pub settling_steps : ℕ
+settling_steps = 500000
 
--- a page with its askings and settlings takes fewer steps than this
+-- a part that hears at most a page takes fewer steps than this
+abbrev pub answer_steps : ℕ
+answer_steps = 2000
+
+-- more steps than a phase takes: its words are said, and then each byte and each wait is heard
+abbrev pub span_of : Phase → ℕ
+span_of phase.Settling = settling_steps
+span_of (phase.Waking left) = settling_steps
+span_of phase.Calling = answer_steps
+span_of phase.Heading = answer_steps
+span_of (phase.Asking more left said) = answer_steps
+span_of (phase.Resettling more left said) = settling_steps
+span_of phase.Acking = answer_steps
+span_of (phase.GivingUp trouble) = answer_steps
+
+-- another asking for a page, with the settling before it
+abbrev pub steps_of_an_asking : ℕ
+steps_of_an_asking = settling_steps + answer_steps
+
+-- behind the answer to an asking: the batch of a page is kept, and the attempt ends
+abbrev pub closing_steps : ℕ
+closing_steps = answer_steps + 1
+
+-- a page with its askings and settlings takes at most so many steps
 abbrev pub page_steps : ℕ
-page_steps = 1600000
+page_steps = answer_steps + steps_of_an_asking * (most_askings - 1) + closing_steps
+
+-- an attempt takes fewer steps than this
+abbrev pub attempt_steps : ℕ
+attempt_steps = 2 ^ 30
 
 -- so many steps may follow it at most
 abbrev pub rest_of : Phase → ℕ
-rest_of phase.Settling = most_pages * page_steps + 4000 + 500000 * wake_tries
-rest_of (phase.Waking left) = most_pages * page_steps + 4000 + 500000 * left
-rest_of phase.Calling = most_pages * page_steps + 2000
+rest_of phase.Settling = most_pages * page_steps + 2 * answer_steps + settling_steps * wake_tries
+rest_of (phase.Waking left) = most_pages * page_steps + 2 * answer_steps + settling_steps * left
+rest_of phase.Calling = most_pages * page_steps + answer_steps
 rest_of phase.Heading = most_pages * page_steps
-rest_of (phase.Asking more left said) = page_steps * more + 502000 * left + 2001
-rest_of (phase.Resettling more left said) = page_steps * more + 502000 * left + 4001
+rest_of (phase.Asking more left said) = page_steps * more + steps_of_an_asking * left + closing_steps
+rest_of (phase.Resettling more left said) = page_steps * more + steps_of_an_asking * left + answer_steps + closing_steps
 rest_of phase.Acking = 0
 rest_of (phase.GivingUp trouble) = 0

@@ -100,7 +100,8 @@ newest_in_pages after place taken = newest after (all_slots place taken)
 
 -- the batch of a page after these
 abbrev pub batch_of : Option CivilMinute → ℕ → List (List ℕ) → List ℕ → List (List ℕ)
-batch_of after place taken page = rising (newest_in_pages after place taken) (slots_in_page (next_place place taken) page)
+batch_of after place taken page =
+    rising (newest_in_pages after place taken) (slots_in_page (next_place place taken) page)
 
 -- after a page whose batch, if any, is kept: the next one is asked for, or the last one is acknowledged
 abbrev pub onward : ℕ → ℕ → List (List ℕ) → AttemptPart
@@ -136,7 +137,8 @@ asked_again more place taken (suc left) b = Goes (Resettling more place taken le
 
 -- after an asking, by whether the page came, and whether one ahead did
 abbrev pub page_judged : Option CivilMinute → ℕ → ℕ → List (List ℕ) → ℕ → List ℕ → Bool → Bool → Next
-page_judged after more place taken left bytes true ahead = batched more place taken bytes (batch_of after place taken bytes)
+page_judged after more place taken left bytes true ahead =
+    batched more place taken bytes (batch_of after place taken bytes)
 page_judged after more place taken left bytes false true = Goes (GivingUp place taken (PageAhead (length taken)
     (slice_index bytes 0)))
 page_judged after more place taken left bytes false false = asked_again more place taken left (next_said
@@ -201,7 +203,7 @@ answer_taken after (Keeping more place taken page) (answer ∷ answers) = answer
 answer_taken after (Over place taken end) answers = Over place taken end
 answer_taken after Astray answers = Astray
 
--- and these are left of them then
+-- which of these answers are left, if the keeper has a batch
 abbrev pub ungiven : AttemptState → List Stored → List Stored
 ungiven (Saying part i others) answers = answers
 ungiven (Hearing part bytes run) answers = answers

@@ -38,7 +38,7 @@ abbrev pub acknowledged_reply : List ℕ → Bool → Reply
 acknowledged_reply bytes true = checked_reply (drop 1 bytes) (is_good (drop 1 bytes))
 acknowledged_reply bytes false = NoHeader (NoHeaderAck (slice_index bytes 0))
 
--- by whether all seven bytes came
+-- by whether all bytes of the answer came
 abbrev pub sized : List ℕ → Bool → Reply
 sized bytes true = acknowledged_reply bytes (slice_index bytes 0 == 6)
 sized bytes false = NoHeader (ShortHeader (length bytes))

@@ -2,6 +2,7 @@
 use Rattle.std.specs.Prelude.{◌≡◌, ◌≢◌, ℕ, ◌+◌, ◌-◌, ◌*◌, ◌^◌, ◌<◌, ◌≤◌, Bool, true, false, List, [], ◌∷◌, ◌++◌}
 use Rattle.std.specs.Prelude.{length, take, Option, Some, None}
 use Rattle.station_base.specs.CivilMinute.{CivilMinute}
+use Rattle.wake_retry.specs.Parts.{settled_waits}
 use Rattle.wake_retry.specs.Settling.{tail_of}
 use Rattle.causes.specs.declared.stored.Stored.{Stored}
 use Rattle.causes.specs.declared.stored.Stored.TheVariants as stored
@@ -17,11 +18,14 @@ use Rattle.dmpaft_pump.specs.declared.pump.Pump.{Pump}
 use Rattle.dmpaft_pump.specs.declared.action.Action.{Action}
 use Rattle.dmpaft_pump.specs.declared.action.Action.TheVariants as action
 use Rattle.dmpaft_pump.specs.Keeper.{Handed, kept_all, last_kept}
-use Rattle.dmpaft_pump.specs.Batch.{slots_in_page, newest, skipped, batches, answered_batches, all_skipped, EndsGiving}
-use Rattle.dmpaft_pump.specs.Phases.{part_of_phase, quiets_of, most_bytes_of, words_of_phase, span_of, rest_of, phase_settles, PhaseFits, PhaseSpeaks}
-use Rattle.dmpaft_pump.specs.Phases.{PhaseHears, page_steps}
+use Rattle.dmpaft_pump.specs.Batch.{page_slots, slots_in_page, newest, skipped, batches, answered_batches, all_skipped}
+use Rattle.dmpaft_pump.specs.Batch.{EndsGiving}
+use Rattle.dmpaft_pump.specs.Phases.{part_of_phase, quiets_of, most_bytes_of, words_of_phase, span_of, rest_of}
+use Rattle.dmpaft_pump.specs.Phases.{phase_settles, PhaseFits, PhaseSpeaks}
+use Rattle.dmpaft_pump.specs.Phases.{PhaseHears, closing_steps, page_steps}
 use Rattle.dmpaft_pump.specs.Pump.{words as words_in}
-use Rattle.dmpaft_pump.specs.Pump.{AttemptPart, AttemptState, Hearing, Keeping, Over, begun, most, newest_in_pages, next_place, batch_of}
+use Rattle.dmpaft_pump.specs.Pump.{AttemptPart, AttemptState, Hearing, Keeping, Over, begun, most, newest_in_pages}
+use Rattle.dmpaft_pump.specs.Pump.{next_place, batch_of}
 
 -- nothing was counted
 abbrev pub no_tally : Tally
@@ -52,8 +56,8 @@ pub record PumpCounts (start : Tally) (after : Option CivilMinute) (place : ℕ)
   pub rare : start.skipped < 2 ^ 31
 
 -- The records of a page were gathered, and it is not counted yet.
-pub record PageIsGathered (start : Tally) (after : Option CivilMinute) (place : ℕ) (taken : List (List ℕ)) (page : List ℕ)
-    (skips : ℕ) (pump : Pump) : Type 0 where
+pub record PageIsGathered (start : Tally) (after : Option CivilMinute) (place : ℕ) (taken : List (List ℕ))
+    (page : List ℕ) (skips : ℕ) (pump : Pump) : Type 0 where
   pub tallied : Tallied start after place taken (all_kept after place taken) pump
   pub number : pump.number ≡ length taken
   pub newest : pump.newest ≡ newest (newest_in_pages after place taken) (slots_in_page (next_place place taken) page)
@@ -115,7 +119,8 @@ pub record IsHearing (start : Tally) (after : Option CivilMinute) (phase : Phase
   pub ready : PartIsReady start after place taken phase false bytes pump
 
 -- The keeper has a batch.
-pub record IsKeeping (start : Tally) (after : Option CivilMinute) (more : ℕ) (s : AttemptState) (pump : Pump) : Type 0 where
+pub record IsKeeping (start : Tally) (after : Option CivilMinute) (more : ℕ) (s : AttemptState)
+    (pump : Pump) : Type 0 where
   pub place : ℕ
   pub taken : List (List ℕ)
   pub page : List ℕ
@@ -126,7 +131,8 @@ pub record IsKeeping (start : Tally) (after : Option CivilMinute) (more : ℕ) (
   pub fits : length taken + more < most_pages
 
 -- The attempt is over.
-pub record AttemptIsOver (start : Tally) (after : Option CivilMinute) (end : PumpEnd) (s : AttemptState) (pump : Pump) : Type 0 where
+pub record AttemptIsOver (start : Tally) (after : Option CivilMinute) (end : PumpEnd) (s : AttemptState)
+    (pump : Pump) : Type 0 where
   pub place : ℕ
   pub taken : List (List ℕ)
   pub is : s ≡ Over place taken end
@@ -134,7 +140,7 @@ pub record AttemptIsOver (start : Tally) (after : Option CivilMinute) (end : Pum
   -- a batch that was refused is that of the last page
   pub gives : pump_answer end ≢ stored.Done → EndsGiving after place taken
 
--- the same, by the stage of the pump
+-- what a pump holds at a stage of the attempt
 abbrev pub ShowsAt : Stage → Tally → Option CivilMinute → AttemptState → Pump → Type 0
 ShowsAt (stage.Saying phase) start after s pump = IsSaying start after phase s pump
 ShowsAt (stage.Hearing phase) start after s pump = IsHearing start after phase s pump
@@ -189,12 +195,13 @@ abbrev pub Allows : Option CivilMinute → Pump → Action → Type 0
 Allows after pump (action.Say words) = (words.items ≡ said_at after pump.stage) × (0 < length words.items)
 Allows after pump (action.Listen n) = (1 ≤ n) × (n ≤ room_of pump) × (n ≤ page_size)
 Allows after pump (action.Keep rows) = (keeps_at pump.stage ≡ true) × (rows.now ≡ pump.batch)
-    × (length rows.now ≤ 5)
+    × (length rows.now ≤ page_slots)
 Allows after pump (action.Ended end) = pump.stage ≡ stage.Ended end
 
 -- An action is that of where the attempt stands.
 abbrev pub PumpTells : Option CivilMinute → AttemptState → Action → Type 0
-PumpTells after s (action.Say words) = (part : AttemptPart) × (s ≡ begun after part) × (words.items ≡ words_in after part)
+PumpTells after s (action.Say words) =
+    (part : AttemptPart) × (s ≡ begun after part) × (words.items ≡ words_in after part)
 PumpTells after s (action.Listen n) = (part : AttemptPart) × (bytes : List ℕ) × (run : ℕ) × (s ≡ Hearing part bytes run)
     × (length bytes + n ≤ most part)
 PumpTells after s (action.Keep rows) = (more : ℕ) × (place : ℕ) × (taken : List (List ℕ)) × (page : List ℕ)
@@ -205,8 +212,9 @@ PumpTells after s (action.Ended end) = (place : ℕ) × (taken : List (List ℕ)
 -- what is left of the part under way, and then of those that may follow it
 abbrev pub left_at : Stage → ℕ → ℕ → ℕ
 left_at (stage.Saying phase) count run = rest_of phase + span_of phase
-left_at (stage.Hearing phase) count run = rest_of phase + 7 * (most_bytes_of phase - count) + (quiets_of phase - run)
-left_at (stage.Keeping more) count run = page_steps * more + 2001
+left_at (stage.Hearing phase) count run =
+    rest_of phase + (settled_waits + 1) * (most_bytes_of phase - count) + (quiets_of phase - run)
+left_at (stage.Keeping more) count run = page_steps * more + closing_steps
 left_at (stage.Ended end) count run = 0
 
 -- so many steps are left at most

@@ -1,7 +1,7 @@
 ghost use Rattle.std.specs.Prelude.{◌≡◌, ◌+◌, ◌<◌, ◌≤◌, ◌==◌, [], ◌∷◌, ◌++◌, length};
 ghost use Rattle.station_base.specs.LastStamp.{last_stamp};
 ghost use Rattle.archive_record.specs.Reading.{stamp_in};
-ghost use Rattle.dmpaft_pump.specs.Batch.{rising, newest, skipped, slots_in_page};
+ghost use Rattle.dmpaft_pump.specs.Batch.{page_slots, rising, newest, skipped, slots_in_page};
 
 use crate::slot::{SlotRead, is_after, read_slot};
 use archive_record::Rec52;
@@ -21,12 +21,13 @@ pub struct Batch {
 
 impl Model for Batch {
     ghost use Rattle.std.specs.Prelude.{◌≡◌, ◌≤◌, ℕ, List, length, take};
+    ghost use Rattle.dmpaft_pump.specs.Batch.{page_slots};
 
     ghost Value = { List (List ℕ) };
 
     ghost view = { λ batch. take batch.count batch.records };
 
-    ghost invariant = { λ batch. (batch.count ≤ 5) × (length batch.records ≡ 5) };
+    ghost invariant = { λ batch. (batch.count ≤ page_slots) × (length batch.records ≡ page_slots) };
 }
 
 impl Batch {
@@ -71,13 +72,13 @@ impl Batch {
 /// Gathers the records of a page, from a place on, whose stamps rise over the last one, which is then the stamp of the
 /// last of them. The answer is how many slots were skipped.
 pub fn gather(page: &Page<'_>, from: u8, last: &mut Option<Stamp>, batch: &mut Batch) -> u32
-    requires from { from ≤ 5 }
+    requires from { from ≤ page_slots }
     requires empty { batch.old ≡ [] }
     ensures rows { batch.new ≡ rising last.old (slots_in_page from page.now) }
     ensures last { last.new ≡ last_stamp stamp_in batch.new last.old }
     ensures newest { last.new ≡ newest last.old (slots_in_page from page.now) }
     ensures skipped { result ≡ skipped (slots_in_page from page.now) }
-    ensures few { result ≤ 5 }
+    ensures few { result ≤ page_slots }
 {
     let mut skipped = 0;
     for place in from..SLOTS {

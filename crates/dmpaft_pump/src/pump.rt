@@ -38,7 +38,7 @@ const AWAKE: [u8; 2] = [b'\n', b'\r'];
 /// "Download Protocol"; the waits and the number of askings are this project's profile).
 ///
 /// A pump calls nothing. It tells by `action` what is to be done next, and is told what came of it. It has no heap
-/// memory, and ends after fewer than 2^30 steps.
+/// memory, and ends after fewer than `attempt_steps` steps.
 #[derive(Drop)]
 pub struct Pump {
     after: Option<Stamp>,
@@ -70,7 +70,7 @@ impl Pump {
     ghost use Rattle.dmpaft_pump.specs.declared.outcome.Tally.{Tally};
     ghost use Rattle.dmpaft_pump.specs.declared.pump_end.PumpEnd.{PumpEnd};
     ghost use Rattle.dmpaft_pump.specs.Phases.{part_of_phase, most_bytes_of, words_of_phase, span_of, rest_of, PhaseFits, PhaseSpeaks, PhaseHears};
-    ghost use Rattle.dmpaft_pump.specs.Phases.{page_steps};
+    ghost use Rattle.dmpaft_pump.specs.Phases.{attempt_steps, closing_steps, page_steps, steps_of_an_asking};
     ghost use Rattle.dmpaft_pump.specs.Shown.{PumpShows, PumpCounts, PartIsReady, Tallied, all_kept, room_of, no_tally};
     ghost use Rattle.dmpaft_pump.specs.Shown.{pump_answer, PageIsGathered, IsSized, Allows, PumpTells, steps_left, said_at};
     ghost use Rattle.dmpaft_pump.specs.Shown.{keeps_at, end_at};
@@ -78,7 +78,7 @@ impl Pump {
     /// A pump that takes what comes after a stamp, or all that there is.
     pub fn new(after: Option<Stamp>) -> Pump
         ensures shows { PumpShows no_tally after (begun after Settling) result }
-        ensures left { steps_left result < 2 ^ 30 }
+        ensures left { steps_left result < attempt_steps }
     {
         Pump::resume(after, Tally::default())
     }
@@ -88,7 +88,7 @@ impl Pump {
         requires pages { tally.pages < 2 ^ 31 }
         requires skipped { tally.skipped < 2 ^ 31 }
         ensures shows { PumpShows tally after (begun after Settling) result }
-        ensures left { steps_left result < 2 ^ 30 }
+        ensures left { steps_left result < attempt_steps }
     {
         let newest = after;
         Pump {
@@ -397,7 +397,7 @@ impl Pump {
             → PartIsReady start after place taken (phase.Asking more left b) true bytes self.old
             → PumpShows start after
             (state_at after (next_after_part after (part.Asking more place taken left b) true bytes)) self.new }
-        ensures left { steps_left self.new ≤ page_steps * more + 502000 * left + 2001 }
+        ensures left { steps_left self.new ≤ page_steps * more + steps_of_an_asking * left + closing_steps }
     {
         match judge_page(self.number, &self.answer) {
             Judged::This(page) => {
@@ -436,7 +436,7 @@ impl Pump {
             → self.old.batch ≡ batch_of after place taken page → length taken + more < most_pages
             → PumpShows start after
             (state_at after (batched more place taken page (batch_of after place taken page))) self.new }
-        ensures left { steps_left self.new ≤ page_steps * more + 2001 }
+        ensures left { steps_left self.new ≤ page_steps * more + closing_steps }
     {
         if self.batch.is_empty() {
             self.go_on(more);
@@ -451,7 +451,7 @@ impl Pump {
             → PumpCounts start after place taken (all_kept after place taken) self.old
             → length taken + more ≤ most_pages
             → PumpShows start after (begun after (onward more place taken)) self.new }
-        ensures left { steps_left self.new < page_steps * more + 2001 }
+        ensures left { steps_left self.new < page_steps * more + closing_steps }
     {
         if more == 0 {
             self.begin(Phase::Acking);
@@ -470,7 +470,7 @@ impl Pump {
             → PumpCounts start after place taken (all_kept after place taken) self.old
             → length taken + more < most_pages
             → PumpShows start after (state_at after (asked_again more place taken left said)) self.new }
-        ensures left { steps_left self.new ≤ page_steps * more + 502000 * left + 2001 }
+        ensures left { steps_left self.new ≤ page_steps * more + steps_of_an_asking * left + closing_steps }
     {
         if left == 0 {
             self.begin(Phase::GivingUp(Trouble::PageLost { page: self.number }));

@@ -1,4 +1,5 @@
--- Talks that are made of turns, one behind another. Whoever takes them is at one state before each turn and at another behind it.
+-- Talks that are made of turns, one behind another. Whoever takes them is at one state before each turn and at another
+-- behind it.
 use Rattle.std.specs.Prelude.{ℕ, zero, suc, ◌≡◌, ◌≤◌, ◌<◌, ◌⊎◌, List, [], ◌∷◌, ◌++◌, length, map}
 use Rattle.serial_link.specs.declared.talk.TalkItem.{TalkItem}
 use Rattle.serial_link.specs.declared.talk.TalkItem.TheVariants.{Heard, Quiet}
@@ -11,12 +12,13 @@ CameOfOneReceive room t = (t ≡ Quiet ∷ [])
 -- so many turns of this kind lead from one state to another
 abbrev pub AreTurns : {S : Type 0} → (S → List TalkItem → S → Type 0) → ℕ → S → List TalkItem → S → Type 0
 AreTurns Turn zero from t to = (t ≡ []) × (to ≡ from)
-AreTurns {S} Turn (suc turns) from t to = (first : List TalkItem) × (later : List TalkItem) × (next : S) × (t ≡ first ++ later)
+AreTurns {S} Turn (suc turns) from t to =
+    (first : List TalkItem) × (later : List TalkItem) × (next : S) × (t ≡ first ++ later)
     × Turn from first next × AreTurns Turn turns next later to
 
 -- Some turns were taken whole, fewer than were to be. Behind them nothing was said or heard, or a turn broke off.
-pub record TurnsBreakOff {S : Type 0} (Turn : S → List TalkItem → S → Type 0) (BreaksOff : S → List TalkItem → Type 0) (turns : ℕ)
-    (from : S) (t : List TalkItem) : Type 0 where
+pub record TurnsBreakOff {S : Type 0} (Turn : S → List TalkItem → S → Type 0) (BreaksOff : S → List TalkItem → Type 0)
+    (turns : ℕ) (from : S) (t : List TalkItem) : Type 0 where
   pub taken : ℕ
   pub few : taken < turns
   pub front : List TalkItem
