@@ -18,7 +18,8 @@ ticked (suc n) k = ticked n (tick k).next
 abbrev pub console_made_ready : ℕ → List Step → Console → Console
 console_made_ready period [] k = k
 console_made_ready period (Due rec ∷ steps) k = console_made_ready period steps (due rec k)
-console_made_ready period (Run first count ∷ steps) k = console_made_ready period steps (due_all (run_from period (Some first) count) k)
+console_made_ready period (Run first count ∷ steps) k =
+    console_made_ready period steps (due_all (run_from period (Some first) count) k)
 console_made_ready period (Idle ticks ∷ steps) k = console_made_ready period steps (ticked ticks k)
 console_made_ready period (Open stop ∷ steps) k = console_made_ready period steps k
 console_made_ready period (Round fates stop ∷ steps) k = k

@@ -21,7 +21,7 @@ console_after k (Said b ends ∷ t) = console_after k t
 console_after k (Heard b ∷ t) = console_after (hear k b).next t
 console_after k (Quiet ∷ t) = console_after (tick k).next t
 
--- its replies to that, in order, each as one message
+-- the replies of a console to what came, in order, each as one message
 abbrev pub replies : Console → List TalkItem → List TalkItem
 replies k [] = []
 replies k (Said b ends ∷ t) = replies k t

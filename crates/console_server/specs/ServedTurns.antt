@@ -19,7 +19,8 @@ pub record IsServedTurn (k : Console) (t : List TalkItem) (next : Console) : Typ
   pub says : answered ≡ replies k received
   pub next_is : next ≡ console_after k received
 
--- A turn in which the replies broke off: the console met a prefix of what came, and a prefix of its replies to that was said.
+-- A turn in which the replies broke off: the console met a prefix of what came, and a prefix of its replies to that was
+-- said.
 pub record ServedTurnBreaksOff (k : Console) (t : List TalkItem) : Type 0 where
   pub received : List TalkItem
   pub answered : List TalkItem

@@ -24,7 +24,8 @@ pub record TalkIsCounted (turns : ℕ) (old new : Served) (t : List TalkItem) : 
   pub least : turns ≤ count_met t
   pub most : count_met t ≤ serving_room * turns
 
--- What was said is just the replies of this console to what came, turn by turn, and the console in memory is the one after that.
+-- What was said is just the replies of this console to what came, turn by turn, and the console in memory is the one
+-- after that.
 pub record ConsoleIsServed (turns : ℕ) (k : model.Console) (after : Console) (t : List TalkItem) : Type 0 where
   pub said : said_items t ≡ replies k t
   pub turn_by_turn : AreTurns IsServedTurn turns k t (console_after k t)
@@ -38,10 +39,11 @@ pub record ServingBreaksOff (turns : ℕ) (k : model.Console) (after : Console) 
   pub turn_by_turn : TurnsBreakOff IsServedTurn ServedTurnBreaksOff turns k t
   pub stands : ConsoleStandsFor after (console_after k met)
 
--- the same of whatever console the one in memory stood for, in so many turns at most
+-- the serving broke off within so many turns, whatever console the one in memory stood for
 abbrev pub IsBrokenOff : ℕ → Console → Console → List TalkItem → Type 0
 IsBrokenOff turns before after t =
-    (count_met t ≤ serving_room * turns) × ((k : model.Console) → ConsoleStandsFor before k → ServingBreaksOff turns k after t)
+    (count_met t ≤ serving_room * turns) × ((k : model.Console) → ConsoleStandsFor before k
+    → ServingBreaksOff turns k after t)
 
 -- what serving a console for so many turns says and hears, by its end
 abbrev pub ServesTurns : ServeEnd → ℕ → Console → Console → Served → Served → List TalkItem → Type 0
@@ -71,9 +73,12 @@ pub record IsAnsweredInPart (k : model.Console) (after : Console) (came t : List
 
 -- the answers of a console to what came, by how they end
 abbrev pub ConsoleReplies : ServeEnd → List TalkItem → Console → Console → List TalkItem → Type 0
-ConsoleReplies end.Done came before after t = (k : model.Console) → ConsoleStandsFor before k → IsAnswered k after came t
-ConsoleReplies end.LinkFault came before after t = (k : model.Console) → ConsoleStandsFor before k → IsAnsweredInPart k after came t
-ConsoleReplies end.OutOfMemory came before after t = (k : model.Console) → ConsoleStandsFor before k → IsAnsweredInPart k after came t
+ConsoleReplies end.Done came before after t =
+    (k : model.Console) → ConsoleStandsFor before k → IsAnswered k after came t
+ConsoleReplies end.LinkFault came before after t =
+    (k : model.Console) → ConsoleStandsFor before k → IsAnsweredInPart k after came t
+ConsoleReplies end.OutOfMemory came before after t =
+    (k : model.Console) → ConsoleStandsFor before k → IsAnsweredInPart k after came t
 
 -- a reply is said as one message, and its bytes are counted, or a prefix of it is said
 abbrev pub SaysReply : ServeEnd → List ℕ → Served → Served → List TalkItem → Type 0

@@ -1,14 +1,15 @@
 -- One attempt from a calm line.
-use Rattle.std.proofs.Common.{◌≡◌, ℕ, ◌+◌, ◌<◌, true, inl, inr, List, [], ◌∷◌, ◌++◌, length, Some, None, refl, sym, ◌∙◌, ap, subst, arith, append_assoc}
+use Rattle.std.proofs.Common.{◌≡◌, ◌⊎◌, ℕ, ◌+◌, ◌<◌, Bool, true, inl, inr, List, [], ◌∷◌, ◌++◌, length, Some, None, refl, sym, ◌∙◌, ap, subst, arith, append_assoc}
 use Rattle.std.proofs.lemmas.Option.{same_Some}
 use Rattle.vantage_frames.specs.Slots.{page_size}
 use Rattle.dmpaft_driver.specs.Attempt.{Heads, Requests, Attempt, End, esc}
+use Rattle.dmpaft_pump.specs.Header.{IsHeader}
 use Rattle.dmpaft_pump.specs.Command.{dmpaft}
 use Rattle.console_model.specs.Spelling.{plan_after}
 use Rattle.console_model.specs.declared.frame.FrameKind.TheVariants.{ForDump}
 use Rattle.console_model.specs.Console.ConsoleState.{Frame}
 use Rattle.console_model.specs.Tick.{tick}
-use Rattle.schedule_file.specs.Fates.{Fates}
+use Rattle.schedule_file.specs.Fates.{FatesByNumber}
 use Rattle.station_sim.specs.Delivery.{delivered}
 use Rattle.station_sim.specs.Line.{Line, flies, hears, message_counted, says_byte, due_all}
 use Rattle.station_sim.specs.Sound.{IsSound, AreSound}
@@ -20,7 +21,7 @@ use Rattle.serial_link.specs.declared.talk.TalkItem.TheVariants.{Said, Heard, Qu
 use Rattle.line_laws.specs.Unharmed.{Rested}
 use Rattle.line_laws.specs.Host.{OnlyListens, GathersPages}
 use Rattle.serial_link.specs.Talk.{message}
-use Rattle.wake_retry.specs.Parts.{settled_waits}
+use Rattle.wake_retry.specs.Parts.{heard, Still, Wakes, Awaits, answer_waits, settled_waits, wake_tries}
 use Rattle.station_sim.specs.Joining.{and_then_some, talks_part}
 use Rattle.station_sim.proofs.OneByOne.{tick_begins}
 use Rattle.line_laws.proofs.Flight.{flight_law}
@@ -38,7 +39,7 @@ use Rattle.line_laws.proofs.WakeLaws.{sound_history, wake_no_flood, own_plan, ow
 use Rattle.line_laws.proofs.HeaderLaws.{Begins, heads_law, short_frame, at_console}
 
 -- while nothing is said no message and no dump begins
-pub listens_begun : (f : Fates) (t : List TalkItem) (w v : Line) → OnlyListens t → console_talk f t w ≡ Some v → (v.begun ≡ w.begun) × (v.dumps ≡ w.dumps)
+pub listens_begun : (f : FatesByNumber) (t : List TalkItem) (w v : Line) → OnlyListens t → console_talk f t w ≡ Some v → (v.begun ≡ w.begun) × (v.dumps ≡ w.dumps)
 listens_begun f [] w v s e = let q = same_Some w v e in (ap (λ x. x.begun) (sym q), ap (λ x. x.dumps) (sym q))
 listens_begun f (Said b ends ∷ t) w v s e = absurd s
 listens_begun f (Heard b ∷ t) w v s e =
@@ -56,7 +57,7 @@ listens_begun f (Quiet ∷ t) w v s e =
     )
 
 -- the host gives up after it strayed
-stray_ends : (f : Fates) → AreMild f → (w u v : Line) → Strayed w u → console_talk f esc u ≡ Some v → v.unseen ≡ None → IsCalm v × (v.dumps ≡ w.dumps)
+stray_ends : (f : FatesByNumber) → AreMild f → (w u v : Line) → Strayed w u → console_talk f esc u ≡ Some v → v.unseen ≡ None → IsCalm v × (v.dumps ≡ w.dumps)
 stray_ends f mild w u v k e un =
     let is : says_byte f 27 true u ≡ v = same_Some _ v e in
     let q = gives_up k.history k.plan k.low k.high 5000 f mild u k.begun k.tame (ap (λ x. x.unseen) is ∙ un) in
@@ -74,7 +75,7 @@ rested_strayed w u r d = record {
 }
 
 -- the host gives up while the console awaits a frame
-await_ends : (f : Fates) → (w u v : Line) → Awaiting [] w u → console_talk f esc u ≡ Some v → IsCalm v × (v.dumps ≡ w.dumps)
+await_ends : (f : FatesByNumber) → (w u v : Line) → Awaiting [] w u → console_talk f esc u ≡ Some v → IsCalm v × (v.dumps ≡ w.dumps)
 await_ends f w u v k e =
     let is : says_byte f 27 true u ≡ v = same_Some _ v e in
     let m = u.begun ++ 27 ∷ [] in
@@ -96,19 +97,56 @@ await_ends f w u v k e =
     )
 
 -- the host gives up after a header
-begins_ends : (g : List (List ℕ)) (frame : List ℕ) (f : Fates) → AreMild f → (t : List TalkItem) (w u v : Line) → Begins g frame w t u → console_talk f esc u ≡ Some v → v.unseen ≡ None →
+begins_ends : (g : List (List ℕ)) (frame : List ℕ) (f : FatesByNumber) → AreMild f → (t : List TalkItem) (w u v : Line) → Begins g frame w t u → console_talk f esc u ≡ Some v → v.unseen ≡ None →
     IsCalm v × (v.dumps ≡ w.dumps ++ record { history = g; frame = frame; plan = plan_after g frame } ∷ [])
 begins_ends g frame f mild t w u v k e un =
     let is : says_byte f 27 true u ≡ v = same_Some _ v e in
     let q = gives_up g (plan_after g frame) 0 0 5000 f mild u k.begun k.tame (ap (λ x. x.unseen) is ∙ un) in
     (subst IsCalm is (tame_calm g (plan_after g frame) 0 (0 + 1) (5000 + page_size) (says_byte f 27 true u) (omega arith) q.2 q.0), ap (λ x. x.dumps) (sym is) ∙ q.1 ∙ k.dumps)
 
-module _ (f : Fates) (ok : AreSound f) (frame : List ℕ) (six : length frame ≡ 6) where
+-- The parts of an attempt from a calm line, for each law of one.
+module _ (f : FatesByNumber) (ok : AreSound f) where
+  -- behind the settling the console rests, and no dump began
+  pub settled_line : (s : List TalkItem) (w v : Line) → IsSound w → IsCalm w → Still settled_waits s → console_talk f s w ≡ Some v → Rested v × (v.dumps ≡ w.dumps)
+  settled_line s w v sound calm still e =
+      let settled = flight_law f ok.mild s w v calm still e in
+      let b = listens_begun f s w v (Still-listens settled_waits s still) e in
+      (record { flight = settled.0; begun = b.0 ∙ calm.begun; rests = settled.1; sound = sound_talk f ok s w v e sound }, b.1)
+
+  -- The line behind the settling and the wake, where no dump began, and from which the rest of the talk goes.
+  pub record Woken (rest : List TalkItem) (w v : Line) : Type 0 where
+    pub mid : Line
+    pub rested : Rested mid
+    pub dumps : mid.dumps ≡ w.dumps
+    pub goes : console_talk f rest mid ≡ Some v
+
+  pub wakes_up : (talk s t rest : List TalkItem) (awake : Bool) (w v : Line) → IsSound w → IsCalm w → talk ≡ s ++ (t ++ rest) → Still settled_waits s → Wakes wake_tries t awake → console_talk f talk w ≡ Some v → Woken rest w v
+  wakes_up talk s t rest awake w v sound calm split still wakes e =
+      let m = talks_part f s (t ++ rest) w v (ap (λ x. console_talk f x w) (sym split) ∙ e) in
+      let m2 = talks_part f t rest m.0 v m.2 in
+      let settled = settled_line s w m.0 sound calm still m.1 in
+      let woken = wakes_law f ok wake_tries t awake m.0 m2.0 settled.0 wakes m2.1 in
+      record { mid = m2.0; rested = woken.0; dumps = woken.1 ∙ settled.1; goes = m2.2 }
+
+  -- the line behind DMPAFT and what answers it: the console awaits a frame, or no 0x06 was heard
+  pub asks_part : (talk t rest : List TalkItem) (w v : Line) → Rested w → talk ≡ message dmpaft ++ (t ++ rest) → Awaits answer_waits 1 t → console_talk f talk w ≡ Some v → v.unseen ≡ None
+      → (m : Line) × (console_talk f (message dmpaft ++ t) w ≡ Some m) × (console_talk f rest m ≡ Some v) × (Awaiting [] w m ⊎ (Strayed w m × ((heard t ≡ 6 ∷ []) → ⊥)))
+  asks_part talk t rest w v r split awaits e un =
+      let m = talks_part f (message dmpaft ++ t) rest w v (ap (λ x. console_talk f x w) (append_assoc (message dmpaft) t rest ∙ sym split) ∙ e) in
+      (m.0, m.1, m.2, asks_law f ok t w m.0 r awaits m.1 (goes_unseen f rest m.0 v m.2 un))
+
+  -- the line behind the stamp frame and what answers it: a dump begins, or no header was heard
+  pub heads_part : (frame : List ℕ) → length frame ≡ 6 → (talk t rest : List TalkItem) (w u v : Line) → Awaiting [] w u → talk ≡ message frame ++ (t ++ rest) → Awaits answer_waits 7 t → console_talk f talk u ≡ Some v → v.unseen ≡ None
+      → (m : Line) × (console_talk f (message frame ++ t) u ≡ Some m) × (console_talk f rest m ≡ Some v) × (((g : List (List ℕ)) × Begins g frame w t m) ⊎ (Strayed w m × ((n k : ℕ) → IsHeader (heard t) n k → ⊥)))
+  heads_part frame six talk t rest w u v k split awaits e un =
+      let m = talks_part f (message frame ++ t) rest u v (ap (λ x. console_talk f x u) (append_assoc (message frame) t rest ∙ sym split) ∙ e) in
+      (m.0, m.1, m.2, heads_law f ok.mild frame t w u m.0 six k awaits m.1 (goes_unseen f rest m.0 v m.2 un))
+
+module _ (f : FatesByNumber) (ok : AreSound f) (frame : List ℕ) (six : length frame ≡ 6) where
   heads_end : (talk : List TalkItem) (place : ℕ) (taken : List (List ℕ)) (end : End) (w u v : Line) → Awaiting [] w u → Heads frame talk place taken end → console_talk f talk u ≡ Some v → v.unseen ≡ None → IsCalm v × GathersPages frame w place taken end v
   heads_end talk place taken end w u v k (t, rest, split, awaits, next) e un =
-      let m = talks_part f (message frame ++ t) rest u v (ap (λ x. console_talk f x u) (append_assoc (message frame) t rest ∙ sym split) ∙ e) in
-      let first = heads_law f ok.mild frame t w u m.0 six k awaits m.1 (goes_unseen f rest m.0 v m.2 un) in
-      elim first [
+      let m = heads_part f ok frame six talk t rest w u v k split awaits e un in
+      elim m.3 [
         | inl a ↦ elim next [
           | inl b ↦ (let r = a.1.ready b.0 place b.1 in
               let q = pages_law a.0 (plan_after a.0 frame) f ok.mild b.0 0 rest taken end m.0 v (omega (arith, r.0)) b.2 r.2 m.2 un in
@@ -125,10 +163,8 @@ module _ (f : Fates) (ok : AreSound f) (frame : List ℕ) (six : length frame �
 
   asks_end : (talk : List TalkItem) (place : ℕ) (taken : List (List ℕ)) (end : End) (w v : Line) → Rested w → Requests frame talk place taken end → console_talk f talk w ≡ Some v → v.unseen ≡ None → IsCalm v × GathersPages frame w place taken end v
   asks_end talk place taken end w v r (t, rest, split, awaits, next) e un =
-      let c = message (dmpaft) in
-      let m = talks_part f (c ++ t) rest w v (ap (λ x. console_talk f x w) (append_assoc c t rest ∙ sym split) ∙ e) in
-      let first = asks_law f ok t w m.0 r awaits m.1 (goes_unseen f rest m.0 v m.2 un) in
-      elim first [
+      let m = asks_part f ok talk t rest w v r split awaits e un in
+      elim m.3 [
         | inl a ↦ elim next [
           | inl b ↦ heads_end rest place taken end w m.0 v a b.1 m.2 un
           | inr b ↦ (let q = await_ends f w m.0 v a (ap (λ x. console_talk f x m.0) (sym b.1) ∙ m.2) in
@@ -149,27 +185,20 @@ module _ (f : Fates) (ok : AreSound f) (frame : List ℕ) (six : length frame �
   attempt_law talk place taken end w v sound calm (inr (inl (flood, none, is))) e un = absurd (no_flood f 6 talk w v calm flood e)
   attempt_law talk place taken end w v sound calm (inr (inr (s, t, split, still, floods, none, is))) e un =
       let m = talks_part f s t w v (ap (λ x. console_talk f x w) (sym split) ∙ e) in
-      let settled = flight_law f ok.mild s w m.0 calm still m.1 in
-      let b = listens_begun f s w m.0 (Still-listens settled_waits s still) m.1 in
-      absurd (wake_no_flood f ok 3 t m.0 v (record { flight = settled.0; begun = b.0 ∙ calm.begun; rests = settled.1; sound = sound_talk f ok s w m.0 m.1 sound }) floods m.2)
+      absurd (wake_no_flood f ok 3 t m.0 v (settled_line f ok s w m.0 sound calm still m.1).0 floods m.2)
   attempt_law talk place taken end w v sound calm (inl (s, t, rest, awake, split, still, wakes, next)) e un =
-      let m = talks_part f s (t ++ rest) w v (ap (λ x. console_talk f x w) (sym split) ∙ e) in
-      let m2 = talks_part f t rest m.0 v m.2 in
-      let settled = flight_law f ok.mild s w m.0 calm still m.1 in
-      let b = listens_begun f s w m.0 (Still-listens settled_waits s still) m.1 in
-      let woken = wakes_law f ok 3 t awake m.0 m2.0 (record { flight = settled.0; begun = b.0 ∙ calm.begun; rests = settled.1; sound = sound_talk f ok s w m.0 m.1 sound }) wakes m2.1 in
+      let k = wakes_up f ok talk s t rest awake w v sound calm split still wakes e in
       elim next [
-        | inl a ↦ (let q = asks_end rest place taken end m2.0 v woken.0 a.1 m2.2 un in (q.0, moved m2.0 w v place taken end (woken.1 ∙ b.1) q.1))
-        | inr a ↦ (let q = stray_ends f ok.mild w m2.0 v (rested_strayed w m2.0 woken.0 (woken.1 ∙ b.1)) (ap (λ x. console_talk f x m2.0) (sym a.1) ∙ m2.2) un in
+        | inl a ↦ (let q = asks_end rest place taken end k.mid v k.rested a.1 k.goes un in (q.0, moved k.mid w v place taken end k.dumps q.1))
+        | inr a ↦ (let q = stray_ends f ok.mild w k.mid v (rested_strayed w k.mid k.rested k.dumps) (ap (λ x. console_talk f x k.mid) (sym a.1) ∙ k.goes) un in
             (q.0, inl (q.1, a.2, λ z. let y : End.Failed _ ≡ End.Whole = sym a.3 ∙ z in cc)))
       ]
 
   -- nothing floods from the stamp frame on
   heads_dry : (talk : List TalkItem) (place : ℕ) (taken : List (List ℕ)) (w u v : Line) → Awaiting [] w u → Heads frame talk place taken End.Flooded → console_talk f talk u ≡ Some v → v.unseen ≡ None → ⊥
   heads_dry talk place taken w u v k (t, rest, split, awaits, next) e un =
-      let m = talks_part f (message frame ++ t) rest u v (ap (λ x. console_talk f x u) (append_assoc (message frame) t rest ∙ sym split) ∙ e) in
-      let first = heads_law f ok.mild frame t w u m.0 six k awaits m.1 (goes_unseen f rest m.0 v m.2 un) in
-      elim first [
+      let m = heads_part f ok frame six talk t rest w u v k split awaits e un in
+      elim m.3 [
         | inl a ↦ elim next [
           | inl b ↦ (let r = a.1.ready b.0 place b.1 in
               pages_dry a.0 (plan_after a.0 frame) f ok.mild b.0 0 rest taken m.0 v (omega (arith, r.0)) b.2 r.2 m.2 un)
@@ -184,10 +213,8 @@ module _ (f : Fates) (ok : AreSound f) (frame : List ℕ) (six : length frame �
   -- nor from DMPAFT on
   asks_dry : (talk : List TalkItem) (place : ℕ) (taken : List (List ℕ)) (w v : Line) → Rested w → Requests frame talk place taken End.Flooded → console_talk f talk w ≡ Some v → v.unseen ≡ None → ⊥
   asks_dry talk place taken w v r (t, rest, split, awaits, next) e un =
-      let c = message (dmpaft) in
-      let m = talks_part f (c ++ t) rest w v (ap (λ x. console_talk f x w) (append_assoc c t rest ∙ sym split) ∙ e) in
-      let first = asks_law f ok t w m.0 r awaits m.1 (goes_unseen f rest m.0 v m.2 un) in
-      elim first [
+      let m = asks_part f ok talk t rest w v r split awaits e un in
+      elim m.3 [
         | inl a ↦ elim next [
           | inl b ↦ heads_dry rest place taken w m.0 v a b.1 m.2 un
           | inr b ↦ (let y : End.Flooded ≡ End.Failed _ = b.3 in cc)
@@ -203,16 +230,10 @@ module _ (f : Fates) (ok : AreSound f) (frame : List ℕ) (six : length frame �
   attempt_dry talk place taken w v sound calm (inr (inl (flood, none, is))) e un = no_flood f 6 talk w v calm flood e
   attempt_dry talk place taken w v sound calm (inr (inr (s, t, split, still, floods, none, is))) e un =
       let m = talks_part f s t w v (ap (λ x. console_talk f x w) (sym split) ∙ e) in
-      let settled = flight_law f ok.mild s w m.0 calm still m.1 in
-      let b = listens_begun f s w m.0 (Still-listens settled_waits s still) m.1 in
-      wake_no_flood f ok 3 t m.0 v (record { flight = settled.0; begun = b.0 ∙ calm.begun; rests = settled.1; sound = sound_talk f ok s w m.0 m.1 sound }) floods m.2
+      wake_no_flood f ok 3 t m.0 v (settled_line f ok s w m.0 sound calm still m.1).0 floods m.2
   attempt_dry talk place taken w v sound calm (inl (s, t, rest, awake, split, still, wakes, next)) e un =
-      let m = talks_part f s (t ++ rest) w v (ap (λ x. console_talk f x w) (sym split) ∙ e) in
-      let m2 = talks_part f t rest m.0 v m.2 in
-      let settled = flight_law f ok.mild s w m.0 calm still m.1 in
-      let b = listens_begun f s w m.0 (Still-listens settled_waits s still) m.1 in
-      let woken = wakes_law f ok 3 t awake m.0 m2.0 (record { flight = settled.0; begun = b.0 ∙ calm.begun; rests = settled.1; sound = sound_talk f ok s w m.0 m.1 sound }) wakes m2.1 in
+      let k = wakes_up f ok talk s t rest awake w v sound calm split still wakes e in
       elim next [
-        | inl a ↦ asks_dry rest place taken m2.0 v woken.0 a.1 m2.2 un
+        | inl a ↦ asks_dry rest place taken k.mid v k.rested a.1 k.goes un
         | inr a ↦ (let y : End.Flooded ≡ End.Failed _ = a.3 in cc)
       ]

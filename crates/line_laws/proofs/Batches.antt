@@ -18,7 +18,7 @@ use Rattle.dmpaft_driver.specs.Attempt.{Attempt, End}
 use Rattle.dmpaft_pump.specs.Batch.{rising, batches, records_in}
 use Rattle.dmpaft_pump.proofs.RisingBatches.{batches_rise}
 use Rattle.dmpaft_driver.proofs.AttemptBounds.{frame_long}
-use Rattle.schedule_file.specs.Fates.{Fates}
+use Rattle.schedule_file.specs.Fates.{FatesByNumber}
 use Rattle.station_sim.specs.Line.{Line}
 use Rattle.station_sim.specs.Talk.{ConsoleTalk}
 use Rattle.station_sim.specs.Calm.{IsCalm}
@@ -196,7 +196,7 @@ placed_as after p place [] e = refl
 placed_as after p place (x ∷ taken) e = ap (λ n. batches after n (x ∷ taken)) (e (omega arith))
 
 -- one attempt after a stamp
-pub attempt_gives : (f : Fates) → AreSound f → (after : Option CivilMinute) → IsStamp after → (talk : List TalkItem) (place : ℕ) (taken : List (List ℕ)) (end : End) (w v : Line) → IsSound w → IsCalm w
+pub attempt_gives : (f : FatesByNumber) → AreSound f → (after : Option CivilMinute) → IsStamp after → (talk : List TalkItem) (place : ℕ) (taken : List (List ℕ)) (end : End) (w v : Line) → IsSound w → IsCalm w
     → Attempt (stamp_frame_of after) talk place taken end → ConsoleTalk f talk w v → v.unseen ≡ None → IsCalm v × AttemptGives after w (batches after place taken) end v
 attempt_gives f ok after stamp talk place taken end w v sound calm at e un =
     let q = attempt_law f ok (stamp_frame_of after) (frame_long after) talk place taken end w v sound calm at e un in (

@@ -9,7 +9,7 @@ use Rattle.console_model.specs.Tick.{tick, ticked_in, idle_after}
 use Rattle.console_model.specs.Due.{due, due_in_state, due_by, in_the_way, hold, put}
 use Rattle.station_base.specs.CivilMinute.{CivilMinute}
 use Rattle.console_model.specs.Hear.{dump_ended}
-use Rattle.schedule_file.specs.Fates.{Fates}
+use Rattle.schedule_file.specs.Fates.{FatesByNumber}
 use Rattle.station_sim.specs.Delivery.{delivered, late}
 use Rattle.station_sim.specs.Line.{Line, happens, joins, reply_joins, waited}
 use Rattle.station_sim.specs.Calm.{IsCalm, IsBrief, FewWaits, EndsInByte, AreMild, pending}
@@ -35,7 +35,7 @@ brief_tick (Dump p sent) three true fifth g d hs i e b = tt
 brief_tick (Dump p sent) three false fifth g d hs i e b = tt
 brief_tick (Looping n) three much fifth g d hs i e b = absurd b
 
-few_replied : (f : Fates) → AreMild f → (o : Outcome) (w : Line) → EndsInByte w.flight → FewWaits 2 2 w.flight → FewWaits 2 2 (reply_joins f o w).flight × EndsInByte (reply_joins f o w).flight
+few_replied : (f : FatesByNumber) → AreMild f → (o : Outcome) (w : Line) → EndsInByte w.flight → FewWaits 2 2 w.flight → FewWaits 2 2 (reply_joins f o w).flight × EndsInByte (reply_joins f o w).flight
 few_replied f mild o w c a =
     let n = w.replies + 1 in
     let got = delivered (f.reply (w.replies + 1)) o.bytes in (
@@ -43,7 +43,7 @@ few_replied f mild o w c a =
       closed_join w.flight (late (f.late n).waits (f.late n).place got) c (closed_late (f.late n).waits (f.late n).place got),
     )
 
-few_joins : (k : ReplyKind) (f : Fates) → AreMild f → (o : Outcome) (w : Line) → EndsInByte w.flight → FewWaits 2 2 w.flight → FewWaits 2 2 (joins k f o w).flight × EndsInByte (joins k f o w).flight
+few_joins : (k : ReplyKind) (f : FatesByNumber) → AreMild f → (o : Outcome) (w : Line) → EndsInByte w.flight → FewWaits 2 2 w.flight → FewWaits 2 2 (joins k f o w).flight × EndsInByte (joins k f o w).flight
 few_joins Nothing f mild o w c a = (a, c)
 few_joins Code f mild o w c a = few_replied f mild o w c a
 few_joins Wake f mild o w c a = few_replied f mild o w c a
@@ -53,7 +53,7 @@ few_joins AckFrame f mild o w c a = few_replied f mild o w c a
 few_joins Page f mild o w c a = few_replied f mild o w c a
 few_joins Packet f mild o w c a = few_replied f mild o w c a
 
-pub calm_tick : (f : Fates) → AreMild f → (w : Line) → IsCalm w → IsCalm (happens f (tick w.console) w)
+pub calm_tick : (f : FatesByNumber) → AreMild f → (w : Line) → IsCalm w → IsCalm (happens f (tick w.console) w)
 calm_tick f mild w k =
     let c = w.console in
     let o = tick w.console in

@@ -17,13 +17,12 @@ use Rattle.console_model.specs.declared.signal.Signal.TheVariants.{Lf, Next, Aga
 use Rattle.console_model.specs.Frame.{at_frame}
 use Rattle.console_model.specs.Line.{silent, to}
 use Rattle.console_model.specs.Tick.{tick}
-use Rattle.schedule_file.specs.Fates.{Fates}
+use Rattle.schedule_file.specs.Fates.{FatesByNumber}
 use Rattle.station_sim.specs.Delivery.{delivered}
 use Rattle.station_sim.specs.Line.{Line, flies, message_counted, sends_message, says_byte}
 use Rattle.serial_link.specs.declared.talk.TalkItem.{TalkItem}
 use Rattle.station_sim.specs.Talk.{console_talk, line_step, and_then}
 use Rattle.station_sim.specs.Sound.{IsSound, AreSound}
-use Rattle.station_sim.proofs.SoundLines.{sound_talk}
 use Rattle.station_sim.specs.Calm.{ConsoleRests, IsCalm}
 use Rattle.wake_retry.specs.Parts.{IsFull, heard, Wakes, answer_waits, settled_waits}
 use Rattle.serial_link.specs.declared.talk.TalkItem.TheVariants.{Said, Heard, Quiet}
@@ -38,13 +37,12 @@ use Rattle.line_laws.proofs.Asked.{at_state}
 use Rattle.station_sim.specs.Joining.{and_then_some, talks_part}
 use Rattle.line_laws.proofs.FrameStage.{hearing_is, waiting_is}
 use Rattle.line_laws.proofs.Plainly.{begun_joins}
-use Rattle.line_laws.proofs.Flight.{flight_law}
 use Rattle.line_laws.proofs.SettledConsole.{Still-listens}
 use Rattle.line_laws.proofs.Floods.{no_flood}
 use Rattle.line_laws.proofs.Pages.{goes_unseen, awaits_listens}
 use Rattle.line_laws.proofs.HeaderLaws.{frame_goes}
 use Rattle.line_laws.proofs.WakeLaws.{Awaiting, woken, wakes_law, wake_no_flood, asks_law, call_goes}
-use Rattle.line_laws.proofs.Attempts.{listens_begun}
+use Rattle.line_laws.proofs.Attempts.{listens_begun, settled_line}
 use Rattle.station_sim.specs.Falling.{FallDue}
 use Rattle.line_laws.proofs.Records.{is_clear, Unclear, clears, now_sends, now_listens, hears_begun}
 
@@ -163,7 +161,7 @@ frame_unclear (b ∷ c ∷ bs) acc g d hs i n =
     let x = at_state g d hs (Frame ForDump acc) i in
     (refl, subst (λ t. Unclear (c ∷ bs) (if t then silent (to x (Frame ForDump (acc ++ b ∷ []))) else at_frame ForDump (acc ++ b ∷ []) x).next) (sym e) (frame_unclear (c ∷ bs) (acc ++ b ∷ []) g d hs 0 (omega (arith, length-append acc (b ∷ [])))))
 
-module _ (f : Fates) (ok : AreSound f) (left : ℕ → List (List ℕ)) (falls : FallDue f left) (all : List (List ℕ)) (rises : EachFollows [] all) where
+module _ (f : FatesByNumber) (ok : AreSound f) (left : ℕ → List (List ℕ)) (falls : FallDue f left) (all : List (List ℕ)) (rises : EachFollows [] all) where
   -- a message of one byte that is no LF
   now_said : (b : ℕ) (w : Line) → Now left all w → w.begun ≡ [] → not_lf (signal b) ≡ true → (says_byte f b true w).unseen ≡ None → Now left all (says_byte f b true w) × ((says_byte f b true w).begun ≡ [])
   now_said b w n z l u =
@@ -251,15 +249,11 @@ module _ (f : Fates) (ok : AreSound f) (left : ℕ → List (List ℕ)) (falls :
   now_attempt frame talk place taken end w v six sound calm (inr (inl (flood, none, is))) n e un = absurd (no_flood f 6 talk w v calm flood e)
   now_attempt frame talk place taken end w v six sound calm (inr (inr (s, t, split, still, floods, none, is))) n e un =
       let m = talks_part f s t w v (ap (λ x. console_talk f x w) (sym split) ∙ e) in
-      let settled = flight_law f ok.mild s w m.0 calm still m.1 in
-      let b = listens_begun f s w m.0 (Still-listens settled_waits s still) m.1 in
-      absurd (wake_no_flood f ok 3 t m.0 v (record { flight = settled.0; begun = b.0 ∙ calm.begun; rests = settled.1; sound = sound_talk f ok s w m.0 m.1 sound }) floods m.2)
+      absurd (wake_no_flood f ok 3 t m.0 v (settled_line f ok s w m.0 sound calm still m.1).0 floods m.2)
   now_attempt frame talk place taken end w v six sound calm (inl (s, t, rest, awake, split, still, wakes, next)) n e un =
       let m = talks_part f s (t ++ rest) w v (ap (λ x. console_talk f x w) (sym split) ∙ e) in
       let m2 = talks_part f t rest m.0 v m.2 in
-      let settled = flight_law f ok.mild s w m.0 calm still m.1 in
-      let b = listens_begun f s w m.0 (Still-listens settled_waits s still) m.1 in
-      let r : Rested m.0 = record { flight = settled.0; begun = b.0 ∙ calm.begun; rests = settled.1; sound = sound_talk f ok s w m.0 m.1 sound } in
+      let r : Rested m.0 = (settled_line f ok s w m.0 sound calm still m.1).0 in
       let n1 = now_listens f left falls all rises s w m.0 (Still-listens settled_waits s still) n m.1 in
       let n2 = now_wakes 3 t awake m.0 m2.0 r wakes n1 m2.1 (goes_unseen f rest m2.0 v m2.2 un) in
       let r2 = (wakes_law f ok 3 t awake m.0 m2.0 r wakes m2.1).0 in

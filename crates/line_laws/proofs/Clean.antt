@@ -9,7 +9,7 @@ use Rattle.console_model.specs.Hear.{hear}
 use Rattle.console_model.specs.Tick.{tick, ticked_in, idle_after}
 use Rattle.console_model.specs.Line.{silent}
 use Rattle.station_sim.specs.declared.part.Part.{Part}
-use Rattle.schedule_file.specs.Fates.{Fates}
+use Rattle.schedule_file.specs.Fates.{FatesByNumber}
 use Rattle.station_sim.specs.Delivery.{delivered, late, waits, all_bytes}
 use Rattle.station_sim.specs.declared.part.Part.TheVariants.{Byte, Wait}
 use Rattle.station_sim.specs.Line.{Line, flies, happens, joins, reply_joins, hears, message_counted, sends_message, says_byte, is_harmed}
@@ -25,7 +25,7 @@ use Rattle.line_laws.proofs.FrameStage.{hearing_is, waiting_is, waiting_in, quie
 use Rattle.line_laws.proofs.Messages.{unharmed}
 
 -- A. the number of harmed deliveries only rises
-joins_harmed : (k : ReplyKind) (f : Fates) (o : Outcome) (w : Line) → w.harmed ≤ (joins k f o w).harmed
+joins_harmed : (k : ReplyKind) (f : FatesByNumber) (o : Outcome) (w : Line) → w.harmed ≤ (joins k f o w).harmed
 joins_harmed Nothing f o w = omega arith
 joins_harmed Code f o w = omega arith
 joins_harmed Wake f o w = omega arith
@@ -35,14 +35,14 @@ joins_harmed AckFrame f o w = omega arith
 joins_harmed Page f o w = omega arith
 joins_harmed Packet f o w = omega arith
 
-pub hears_harmed : (f : Fates) (got : List ℕ) (w : Line) → w.harmed ≤ (hears f got w).harmed
+pub hears_harmed : (f : FatesByNumber) (got : List ℕ) (w : Line) → w.harmed ≤ (hears f got w).harmed
 hears_harmed f [] w = omega arith
 hears_harmed f (x ∷ got) w = omega (arith, joins_harmed (hear w.console x).kind f (hear w.console x) w, hears_harmed f got (happens f (hear w.console x) w))
 
-pub sends_harmed : (f : Fates) (m : List ℕ) (w : Line) → w.harmed ≤ (sends_message f m w).harmed
+pub sends_harmed : (f : FatesByNumber) (m : List ℕ) (w : Line) → w.harmed ≤ (sends_message f m w).harmed
 sends_harmed f m w = omega (arith, hears_harmed f (delivered (f.host (w.messages + 1)) m) (message_counted f m w))
 
-pub goes_harmed : (f : Fates) (t : List TalkItem) (w v : Line) → console_talk f t w ≡ Some v → w.harmed ≤ v.harmed
+pub goes_harmed : (f : FatesByNumber) (t : List TalkItem) (w v : Line) → console_talk f t w ≡ Some v → w.harmed ≤ v.harmed
 goes_harmed f [] w v e = omega (arith, ap (λ x. x.harmed) (same_Some w v e))
 goes_harmed f (Said b false ∷ t) w v e = goes_harmed f t (says_byte f b false w) v e
 goes_harmed f (Said b true ∷ t) w v e = omega (arith, sends_harmed f (w.begun ++ b ∷ []) w, goes_harmed f t (says_byte f b true w) v e)
@@ -56,7 +56,7 @@ goes_harmed f (Quiet ∷ t) w v e =
     omega (arith, ap (λ x. x.harmed) q.2, joins_harmed (tick w.console).kind f (tick w.console) (flies w q.0), goes_harmed f t g.0 v g.2)
 
 -- a message that is not harmed is delivered as sent
-pub sent_whole : (f : Fates) (m : List ℕ) (w : Line) → (sends_message f m w).harmed ≡ w.harmed →
+pub sent_whole : (f : FatesByNumber) (m : List ℕ) (w : Line) → (sends_message f m w).harmed ≡ w.harmed →
     (delivered (f.host (w.messages + 1)) m ≡ m) × ((hears f (delivered (f.host (w.messages + 1)) m) (message_counted f m w)).harmed ≡ (message_counted f m w).harmed) × ((message_counted f m w).harmed ≡ w.harmed)
 sent_whole f m w e = go (is_harmed m (delivered (f.host (w.messages + 1)) m)) refl
   where
@@ -70,7 +70,7 @@ sent_whole f m w e = go (is_harmed m (delivered (f.host (w.messages + 1)) m)) re
         (unharmed m _ q, omega (arith, z, e), omega (arith, z))
 
 -- and so is a reply
-pub reply_whole : (f : Fates) (o : Outcome) (w : Line) → (reply_joins f o w).harmed ≡ w.harmed → delivered (f.reply (w.replies + 1)) o.bytes ≡ o.bytes
+pub reply_whole : (f : FatesByNumber) (o : Outcome) (w : Line) → (reply_joins f o w).harmed ≡ w.harmed → delivered (f.reply (w.replies + 1)) o.bytes ≡ o.bytes
 reply_whole f o w e = go (is_harmed o.bytes (delivered (f.reply (w.replies + 1)) o.bytes)) refl
   where
     go : (t : Bool) → is_harmed o.bytes (delivered (f.reply (w.replies + 1)) o.bytes) ≡ t → delivered (f.reply (w.replies + 1)) o.bytes ≡ o.bytes
@@ -120,7 +120,7 @@ waits_late k zero (b ∷ bs) = omega (arith, waits_waits k (Byte b ∷ all_bytes
 waits_late k (suc p) (b ∷ bs) = waits_late k p bs
 
 -- a wait, of a console that stays
-pub steady_quiet : (g : List (List ℕ)) (d : Store) (hs : List (List ℕ)) (s : ConsoleState) (i : ℕ) (l : List Part) (f : Fates) (w u : Line) → Waits s → w.console ≡ at_state g d hs s i → i + 1 < 32 → w.flight ≡ l → waiting l f w ≡ Some u →
+pub steady_quiet : (g : List (List ℕ)) (d : Store) (hs : List (List ℕ)) (s : ConsoleState) (i : ℕ) (l : List Part) (f : FatesByNumber) (w u : Line) → Waits s → w.console ≡ at_state g d hs s i → i + 1 < 32 → w.flight ≡ l → waiting l f w ≡ Some u →
     (m : List Part) × (((w.flight ≡ []) × (m ≡ [])) ⊎ (w.flight ≡ Wait ∷ m)) × (u ≡ record (flies w m) { console = at_state g d hs s (i + 1) })
 steady_quiet g d hs s i [] f w u r c n e q =
     let k : tick w.console ≡ silent (at_state g d hs s (i + 1)) = ap tick c ∙ steady g d hs s i r n in
@@ -145,7 +145,7 @@ pub record Stayed (g : List (List ℕ)) (d : Store) (hs : List (List ℕ)) (s : 
   pub begun : v.begun ≡ w.begun
   pub dumps : v.dumps ≡ w.dumps
 
-module _ (g : List (List ℕ)) (d : Store) (hs : List (List ℕ)) (s : ConsoleState) (rests : Waits s) (f : Fates) where
+module _ (g : List (List ℕ)) (d : Store) (hs : List (List ℕ)) (s : ConsoleState) (rests : Waits s) (f : FatesByNumber) where
   stayed_heard : (b i n : ℕ) (t : List TalkItem) (w v : Line) (m : List Part) → w.flight ≡ Byte b ∷ m → Stayed g d hs s i n (flies w m) t v → Stayed g d hs s i n w (Heard b ∷ t) v
   stayed_heard b i n t w v m e k = record { console = k.console; quiet = k.quiet; bytes = ap bytes_of e ∙ ap (λ x. b ∷ x) k.bytes; begun = k.begun; dumps = k.dumps }
 
@@ -246,7 +246,7 @@ few_ample (suc n) k [] f a = absurd (omega arith)
 few_ample (suc n) k (Byte b ∷ l) f a = few_ample n 2 l f (omega arith)
 few_ample (suc n) k (Wait ∷ l) f a = (f.0, few_ample (suc n) (k - 1) l f.1 a)
 
-flight_joins : (k : ReplyKind) (f : Fates) (o : Outcome) (w : Line) → (c : List Part) × ((joins k f o w).flight ≡ w.flight ++ c)
+flight_joins : (k : ReplyKind) (f : FatesByNumber) (o : Outcome) (w : Line) → (c : List Part) × ((joins k f o w).flight ≡ w.flight ++ c)
 flight_joins Nothing f o w = ([], sym (append-nil w.flight))
 flight_joins Code f o w = (_, refl)
 flight_joins Wake f o w = (_, refl)
@@ -257,7 +257,7 @@ flight_joins Page f o w = (_, refl)
 flight_joins Packet f o w = (_, refl)
 
 -- with n bytes to come no answer is shorter
-pub short_none : (f : Fates) (t : List TalkItem) (n k r : ℕ) (w v : Line) → IsShort answer_waits r t → length (heard t) < n → Ample n k w.flight → k + r ≤ 2 → console_talk f t w ≡ Some v → ⊥
+pub short_none : (f : FatesByNumber) (t : List TalkItem) (n k r : ℕ) (w v : Line) → IsShort answer_waits r t → length (heard t) < n → Ample n k w.flight → k + r ≤ 2 → console_talk f t w ≡ Some v → ⊥
 short_none f [] n k r w v a l m b e = omega arith
 short_none f (Said x ends ∷ t) n k r w v a l m b e = a
 short_none f (Heard x ∷ t) zero k r w v a l m b e = omega arith
@@ -279,6 +279,6 @@ short_none f (Quiet ∷ t) (suc n) k r w v a l m b e =
     ]
 
 -- what is awaited comes whole
-pub awaits_full : (f : Fates) (t : List TalkItem) (n : ℕ) (w v : Line) → Awaits answer_waits n t → FewWaits 2 2 w.flight → n ≤ length (bytes_of w.flight) → console_talk f t w ≡ Some v → IsFull answer_waits 0 t × (length (heard t) ≡ n)
+pub awaits_full : (f : FatesByNumber) (t : List TalkItem) (n : ℕ) (w v : Line) → Awaits answer_waits n t → FewWaits 2 2 w.flight → n ≤ length (bytes_of w.flight) → console_talk f t w ≡ Some v → IsFull answer_waits 0 t × (length (heard t) ≡ n)
 awaits_full f t n w v (inl a) few m e = a
 awaits_full f t n w v (inr a) few m e = absurd (short_none f t n 2 0 w v a.0 a.1 (few_ample n 2 w.flight few m) (omega arith) e)

@@ -12,7 +12,7 @@ use Rattle.console_model.specs.Valid.{EachFollows}
 use Rattle.dmpaft_pump.specs.Batch.{batches, records_in}
 use Rattle.dmpaft_driver.specs.Attempt.{Attempt, End}
 use Rattle.dmpaft_driver.proofs.AttemptBounds.{frame_long}
-use Rattle.schedule_file.specs.Fates.{Fates}
+use Rattle.schedule_file.specs.Fates.{FatesByNumber}
 use Rattle.station_sim.specs.Line.{Line}
 use Rattle.station_sim.specs.Talk.{ConsoleTalk}
 use Rattle.station_sim.specs.Calm.{IsCalm}
@@ -46,7 +46,7 @@ covers after stamp h are each count place kept pages few same less =
     let z = ap records_in (placed_as after p.place place kept same) in
     omega (arith, less, ap length z, ap length given, take_long (records_on_pages (length kept) p) (newer_held after h))
 
-module _ (f : Fates) (ok : AreSound f) (after : Option CivilMinute) (stamp : IsStamp after) where
+module _ (f : FatesByNumber) (ok : AreSound f) (after : Option CivilMinute) (stamp : IsStamp after) where
   -- where the pages that were taken and not refused are the first of those taken
   covered : (talk : List TalkItem) (place : ℕ) (kept more : List (List ℕ)) (end : End) (w v : Line) → IsSound w → IsCalm w → Attempt (stamp_frame_of after) talk place (kept ++ more) end → ConsoleTalk f talk w v → v.unseen ≡ None
       → pages_acknowledged f talk w ≤ length kept → CoversPages after (pages_acknowledged f talk w) w (batches after place kept) v

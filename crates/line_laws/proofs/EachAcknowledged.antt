@@ -1,5 +1,5 @@
 -- Each page counts as acknowledged that was taken, and right after which 0x06 was said.
-use Rattle.std.proofs.Common.{◌≡◌, ℕ, zero, suc, ◌+◌, ◌-◌, ◌≤◌, ◌%◌, if◌then◌else◌, true, ◌⊎◌, inl, inr, List, [], ◌∷◌, ◌++◌, length, Some, None, refl, sym, ◌∙◌, ap, subst, arith, append_assoc, append-nil, length-append}
+use Rattle.std.proofs.Common.{◌≡◌, ℕ, zero, suc, ◌+◌, ◌-◌, ◌≤◌, ◌%◌, if◌then◌else◌, true, ◌⊎◌, inl, inr, List, [], ◌∷◌, ◌++◌, length, Some, None, refl, sym, ◌∙◌, ap, subst, arith, append-nil, length-append}
 use Rattle.std.specs.Prelude.{bytes_eq}
 use Rattle.std.proofs.lemmas.Option.{same_Some}
 use Rattle.console_ring.specs.declared.plan.Plan.{Plan}
@@ -13,13 +13,13 @@ use Rattle.vantage_frames.specs.Slots.{page_size}
 use Rattle.serial_link.specs.Talk.{message}
 use Rattle.serial_link.specs.declared.talk.TalkItem.{TalkItem}
 use Rattle.serial_link.specs.declared.talk.TalkItem.TheVariants.{Said}
-use Rattle.wake_retry.specs.Parts.{heard, IsFull, Awaits, answer_waits, settled_waits}
+use Rattle.wake_retry.specs.Parts.{heard, IsFull, Awaits, answer_waits}
 use Rattle.dmpaft_pump.specs.Command.{dmpaft}
 use Rattle.dmpaft_pump.specs.Page.{is_page_for, next_said}
 use Rattle.dmpaft_pump.specs.Pump.{most_askings}
 use Rattle.dmpaft_driver.specs.Attempt.{TakesPage, Pages, Heads, Requests, Attempt, End}
 use Rattle.dmpaft_driver.specs.OneAttempt.{Acknowledges}
-use Rattle.schedule_file.specs.Fates.{Fates}
+use Rattle.schedule_file.specs.Fates.{FatesByNumber}
 use Rattle.station_sim.specs.Calm.{AreMild, ConsoleRests, IsCalm}
 use Rattle.station_sim.specs.Delivery.{delivered}
 use Rattle.station_sim.specs.Joining.{and_then_some, talks_part}
@@ -32,35 +32,32 @@ use Rattle.line_laws.specs.PagesAcknowledged.{pages_sent, acknowledged_by, pages
 use Rattle.line_laws.specs.Unharmed.{Rested}
 use Rattle.line_laws.proofs.Asked.{at_state, Answer, hears_one}
 use Rattle.line_laws.proofs.Asked.Answer.{a_page, a_wake, nothing}
-use Rattle.line_laws.proofs.Attempts.{attempt_law, listens_begun}
+use Rattle.line_laws.proofs.Attempts.{attempt_law, wakes_up, asks_part, heads_part}
 use Rattle.line_laws.proofs.Clean.{steady_full, waits_of, waits_late}
 use Rattle.line_laws.proofs.Delivery.{bytes_of_late, delivered_length}
-use Rattle.line_laws.proofs.Flight.{flight_law}
 use Rattle.line_laws.proofs.FrameStage.{quiets}
-use Rattle.line_laws.proofs.HeaderLaws.{heads_law}
 use Rattle.line_laws.proofs.HushedConsole.{bytes_of, happens-nothing, listens}
 use Rattle.line_laws.proofs.NotTooEarly.{count_on}
 use Rattle.line_laws.proofs.Pages.{awaits_listens, asked_again, goes_unseen, page_parts, takes_law}
 use Rattle.line_laws.proofs.Places.{asking, said, flight_of, happens-page, happens-wake}
 use Rattle.line_laws.proofs.RoomToHold.{HasRoom, awaiting_room, heard_holds, room_talk}
-use Rattle.line_laws.proofs.SettledConsole.{Still-listens}
 use Rattle.line_laws.proofs.Unharmed.{due_dump}
-use Rattle.line_laws.proofs.WakeLaws.{Awaiting, wakes_law, asks_law}
+use Rattle.line_laws.proofs.WakeLaws.{Awaiting}
 
 -- what counts behind a talk counts in both
-later_counts : (f : Fates) (s t : List TalkItem) (w m : Line) → console_talk f s w ≡ Some m → pages_acknowledged f t m ≤ pages_acknowledged f (s ++ t) w
+later_counts : (f : FatesByNumber) (s t : List TalkItem) (w m : Line) → console_talk f s w ≡ Some m → pages_acknowledged f t m ≤ pages_acknowledged f (s ++ t) w
 later_counts f [] t w m e = omega (arith, ap (pages_acknowledged f t) (same_Some w m e))
 later_counts f (i ∷ s) t w m e =
     let g = and_then_some (line_step f i w) (console_talk f s) m e in
     omega (arith, count_on f i (s ++ t) w g.0 g.1, later_counts f s t g.0 m g.2)
 
 -- 0x06 in a dump counts
-said_counts : (f : Fates) (t : List TalkItem) (w : Line) (p : Plan) (n : ℕ) → w.begun ≡ [] → w.console.state ≡ Dump p n → n ≤ pages_acknowledged f (Said 6 true ∷ t) w
+said_counts : (f : FatesByNumber) (t : List TalkItem) (w : Line) (p : Plan) (n : ℕ) → w.begun ≡ [] → w.console.state ≡ Dump p n → n ≤ pages_acknowledged f (Said 6 true ∷ t) w
 said_counts f t w p n begun state =
     let z : acknowledged_by (Said 6 true) w ≡ n = ap (λ (x : List ℕ). if bytes_eq (x ++ 6 ∷ []) ack then pages_sent w.console.state else 0) begun ∙ ap pages_sent state in
     omega (arith, z, count_on f (Said 6 true) t w (says_byte f 6 true w) refl)
 
-module _ (h : List (List ℕ)) (p : Plan) (f : Fates) (mild : AreMild f) where
+module _ (h : List (List ℕ)) (p : Plan) (f : FatesByNumber) (mild : AreMild f) where
   -- the console stands behind page m of the dump, a byte just heard, before records fall due
   record Sent (m : ℕ) (hs : List (List ℕ)) (u : Line) : Type 0 where
     store : Store
@@ -165,17 +162,16 @@ module _ (h : List (List ℕ)) (p : Plan) (f : Fates) (mild : AreMild f) where
   pages_dump (suc left) k talk taken w v n (inr (inl (t, trouble, split, misses, none, failed))) r room e u = absurd cc
   pages_dump (suc left) k talk taken w v n (inr (inr (floods, none, is))) r room e u = absurd cc
 
-module _ (f : Fates) (ok : AreSound f) (frame : List ℕ) (six : length frame ≡ 6) where
+module _ (f : FatesByNumber) (ok : AreSound f) (frame : List ℕ) (six : length frame ≡ 6) where
   abbrev InDumpBehind : List (List ℕ) → Line → Type 0
   InDumpBehind taken v = (p : Plan) × (v.console.state ≡ Dump p (length taken))
 
   heads_dump : (talk : List TalkItem) (place : ℕ) (taken : List (List ℕ)) (w u v : Line) → Awaiting [] w u → IsSound u → Heads frame talk place taken End.Refused → console_talk f talk u ≡ Some v → v.unseen ≡ None → InDumpBehind taken v
   heads_dump talk place taken w u v k sound (t, rest, split, awaits, next) e un =
-      let m = talks_part f (message frame ++ t) rest u v (ap (λ x. console_talk f x u) (append_assoc (message frame) t rest ∙ sym split) ∙ e) in
-      let first = heads_law f ok.mild frame t w u m.0 six k awaits m.1 (goes_unseen f rest m.0 v m.2 un) in
+      let m = heads_part f ok frame six talk t rest w u v k split awaits e un in
       elim next [
         | inr b ↦ (let y : End.Refused ≡ End.Failed b.0 = b.4 in absurd cc)
-        | inl b ↦ elim first [
+        | inl b ↦ elim m.3 [
           | inl a ↦ (let r = a.1.ready b.0 place b.1 in
               let p = plan_after a.0 frame in
               let room = room_talk f (message frame ++ t) u m.0 m.1 (awaiting_room f ok.few [] w u k sound) in
@@ -186,11 +182,10 @@ module _ (f : Fates) (ok : AreSound f) (frame : List ℕ) (six : length frame �
 
   asks_dump : (talk : List TalkItem) (place : ℕ) (taken : List (List ℕ)) (w v : Line) → Rested w → Requests frame talk place taken End.Refused → console_talk f talk w ≡ Some v → v.unseen ≡ None → InDumpBehind taken v
   asks_dump talk place taken w v r (t, rest, split, awaits, next) e un =
-      let m = talks_part f (message dmpaft ++ t) rest w v (ap (λ x. console_talk f x w) (append_assoc (message dmpaft) t rest ∙ sym split) ∙ e) in
-      let first = asks_law f ok t w m.0 r awaits m.1 (goes_unseen f rest m.0 v m.2 un) in
+      let m = asks_part f ok talk t rest w v r split awaits e un in
       elim next [
         | inr b ↦ (let y : End.Refused ≡ End.Failed _ = b.3 in absurd cc)
-        | inl b ↦ elim first [
+        | inl b ↦ elim m.3 [
           | inl a ↦ heads_dump rest place taken w m.0 v a (sound_talk f ok (message dmpaft ++ t) w m.0 m.1 r.sound) b.1 m.2 un
           | inr a ↦ absurd (a.1 b.0)
         ]
@@ -201,13 +196,9 @@ module _ (f : Fates) (ok : AreSound f) (frame : List ℕ) (six : length frame �
   attempt_dump talk place taken w v sound calm (inr (inl (flood, none, is))) e un = absurd cc
   attempt_dump talk place taken w v sound calm (inr (inr (s, t, split, still, floods, none, is))) e un = absurd cc
   attempt_dump talk place taken w v sound calm (inl (s, t, rest, awake, split, still, wakes, next)) e un =
-      let m = talks_part f s (t ++ rest) w v (ap (λ x. console_talk f x w) (sym split) ∙ e) in
-      let m2 = talks_part f t rest m.0 v m.2 in
-      let settled = flight_law f ok.mild s w m.0 calm still m.1 in
-      let b = listens_begun f s w m.0 (Still-listens settled_waits s still) m.1 in
-      let woken = wakes_law f ok 3 t awake m.0 m2.0 (record { flight = settled.0; begun = b.0 ∙ calm.begun; rests = settled.1; sound = sound_talk f ok s w m.0 m.1 sound }) wakes m2.1 in
+      let k = wakes_up f ok talk s t rest awake w v sound calm split still wakes e in
       elim next [
-        | inl a ↦ asks_dump rest place taken m2.0 v woken.0 a.1 m2.2 un
+        | inl a ↦ asks_dump rest place taken k.mid v k.rested a.1 k.goes un
         | inr a ↦ (let y : End.Refused ≡ End.Failed _ = a.3 in absurd cc)
       ]
 

@@ -5,7 +5,7 @@ use Rattle.console_model.specs.declared.reply.ReplyKind.{ReplyKind}
 use Rattle.console_model.specs.Console.ConsoleState.{Asleep, Command, Overlong, Frame, Dump, Looping}
 use Rattle.console_model.specs.declared.reply.ReplyKind.TheVariants.{Nothing, Code, Test, Wake, Ack, AckFrame, Page, Packet}
 use Rattle.console_model.specs.Tick.{tick, ticked_in, idle_after}
-use Rattle.schedule_file.specs.Fates.{Fates}
+use Rattle.schedule_file.specs.Fates.{FatesByNumber}
 use Rattle.station_sim.specs.Delivery.{delivered, late}
 use Rattle.station_sim.specs.Line.{Line, flies, joins, reply_joins}
 use Rattle.serial_link.specs.declared.talk.TalkItem.{TalkItem}
@@ -48,13 +48,13 @@ tick_little (Dump p sent) three true fifth g d hs i n = (omega arith, tt)
 tick_little (Dump p sent) three false fifth g d hs i n = (omega arith, tt)
 tick_little (Looping k) three much fifth g d hs i n = absurd n
 
-reply_bytes : (f : Fates) (o : Outcome) (w : Line) → length (bytes_of (reply_joins f o w).flight) ≤ length (bytes_of w.flight) + length o.bytes
+reply_bytes : (f : FatesByNumber) (o : Outcome) (w : Line) → length (bytes_of (reply_joins f o w).flight) ≤ length (bytes_of w.flight) + length o.bytes
 reply_bytes f o w =
     let n = w.replies + 1 in
     let got = delivered (f.reply (w.replies + 1)) o.bytes in
     omega (arith, ap length (bytes_join w.flight (late (f.late n).waits (f.late n).place got)), length-append (bytes_of w.flight) (bytes_of (late (f.late n).waits (f.late n).place got)), ap length (bytes_of_late (f.late n).waits (f.late n).place got), delivered_length (f.reply (w.replies + 1)) o.bytes)
 
-pub joins_bytes : (k : ReplyKind) (f : Fates) (o : Outcome) (w : Line) → length (bytes_of (joins k f o w).flight) ≤ length (bytes_of w.flight) + length o.bytes
+pub joins_bytes : (k : ReplyKind) (f : FatesByNumber) (o : Outcome) (w : Line) → length (bytes_of (joins k f o w).flight) ≤ length (bytes_of w.flight) + length o.bytes
 joins_bytes Nothing f o w = omega arith
 joins_bytes Code f o w = reply_bytes f o w
 joins_bytes Wake f o w = reply_bytes f o w
@@ -65,7 +65,7 @@ joins_bytes Page f o w = reply_bytes f o w
 joins_bytes Packet f o w = reply_bytes f o w
 
 -- as many bytes are heard as are in flight, and one more
-pub few_heard : (f : Fates) (t : List TalkItem) (w v : Line) → OnlyListens t → IsNoLoop w.console.state → console_talk f t w ≡ Some v → length (heard t) ≤ length (bytes_of w.flight) + pending w.console.state
+pub few_heard : (f : FatesByNumber) (t : List TalkItem) (w v : Line) → OnlyListens t → IsNoLoop w.console.state → console_talk f t w ≡ Some v → length (heard t) ≤ length (bytes_of w.flight) + pending w.console.state
 few_heard f [] w v s n e = omega arith
 few_heard f (Said b ends ∷ t) w v s n e = absurd s
 few_heard f (Heard b ∷ t) w v s n e =
@@ -102,7 +102,7 @@ brief_loops (Dump p sent) i b = (tt, omega arith)
 brief_loops (Looping n) i b = absurd b
 
 -- a settling of a calm line does not flood
-pub no_flood : (f : Fates) (q : ℕ) (t : List TalkItem) (w v : Line) → IsCalm w → Flooding q t → console_talk f t w ≡ Some v → ⊥
+pub no_flood : (f : FatesByNumber) (q : ℕ) (t : List TalkItem) (w v : Line) → IsCalm w → Flooding q t → console_talk f t w ≡ Some v → ⊥
 no_flood f q t w v calm flood e =
     let b = brief_loops w.console.state w.console.idle calm.brief in
     omega (arith, few_heard f t w v (flood_listens q 0 t flood.0) b.0 e, flood.1, calm.bytes, count_is w.flight, b.1)

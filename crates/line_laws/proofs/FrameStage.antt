@@ -9,7 +9,7 @@ use Rattle.console_model.specs.declared.reply.ReplyKind.TheVariants.{Nothing, Co
 use Rattle.console_model.specs.Tick.{tick, ticked_in}
 use Rattle.console_model.specs.Line.{says_reply}
 use Rattle.station_sim.specs.declared.part.Part.{Part}
-use Rattle.schedule_file.specs.Fates.{Fates}
+use Rattle.schedule_file.specs.Fates.{FatesByNumber}
 use Rattle.station_sim.specs.Delivery.{delivered, late}
 use Rattle.station_sim.specs.declared.part.Part.TheVariants.{Byte, Wait}
 use Rattle.station_sim.specs.Line.{Line, flies, happens, reply_joins}
@@ -68,12 +68,12 @@ hearing_is (Byte x ∷ l) b w u e g = go (x == b) refl g
     go true q h = (l, (let z : x ≡ b = grind arith in e ∙ ap (λ y. Byte y ∷ l) z), sym (same_Some (flies w l) u h))
     go false q h = absurd cc
 
-pub waiting_is : (l : List Part) (f : Fates) (w u : Line) → w.flight ≡ l → waiting l f w ≡ Some u → (m : List Part) × ((w.flight ≡ m) ⊎ (w.flight ≡ Wait ∷ m)) × (u ≡ happens f (tick w.console) (flies w m))
+pub waiting_is : (l : List Part) (f : FatesByNumber) (w u : Line) → w.flight ≡ l → waiting l f w ≡ Some u → (m : List Part) × ((w.flight ≡ m) ⊎ (w.flight ≡ Wait ∷ m)) × (u ≡ happens f (tick w.console) (flies w m))
 waiting_is [] f w u e g = ([], inl e, sym (same_Some _ u g) ∙ ap (λ l. happens f (tick w.console) (flies w l)) e)
 waiting_is (Wait ∷ l) f w u e g = (l, inr e, sym (same_Some _ u g))
 waiting_is (Byte x ∷ l) f w u e g = absurd cc
 
-pub waiting_in : (l : List Part) (f : Fates) (w u : Line) → w.flight ≡ l → waiting l f w ≡ Some u → (m : List Part) × ((w.flight ≡ []) ⊎ (w.flight ≡ Wait ∷ m)) × (u ≡ happens f (tick w.console) (flies w m))
+pub waiting_in : (l : List Part) (f : FatesByNumber) (w u : Line) → w.flight ≡ l → waiting l f w ≡ Some u → (m : List Part) × ((w.flight ≡ []) ⊎ (w.flight ≡ Wait ∷ m)) × (u ≡ happens f (tick w.console) (flies w m))
 waiting_in [] f w u e g = ([], inl e, sym (same_Some _ u g) ∙ ap (λ l. happens f (tick w.console) (flies w l)) e)
 waiting_in (Wait ∷ l) f w u e g = (l, inr e, sym (same_Some _ u g))
 waiting_in (Byte x ∷ l) f w u e g = absurd cc
@@ -96,7 +96,7 @@ pub record Unframed (h : List (List ℕ)) (p : Plan) (low high n i : ℕ) (w : L
   pub begun : v.begun ≡ w.begun
   pub dumps : v.dumps ≡ w.dumps
 
-module _ (h : List (List ℕ)) (p : Plan) (low high : ℕ) (got : List ℕ) (g : List (List ℕ)) (d : Store) (hs : List (List ℕ)) (f : Fates) (mild : AreMild f) where
+module _ (h : List (List ℕ)) (p : Plan) (low high : ℕ) (got : List ℕ) (g : List (List ℕ)) (d : Store) (hs : List (List ℕ)) (f : FatesByNumber) (mild : AreMild f) where
   Framed : ℕ → Line → List TalkItem → Line → ℕ → Type 0
   Framed i w t v n = StillFramed got g d hs i w t v ⊎ Unframed h p low high n i w t v
 

@@ -14,7 +14,7 @@ use Rattle.console_model.specs.declared.reply.ReplyKind.TheVariants.{Nothing, Co
 use Rattle.console_model.specs.Hear.{hear}
 use Rattle.console_model.specs.Line.{says_reply, silent, to}
 use Rattle.console_model.specs.Frame.{at_frame}
-use Rattle.schedule_file.specs.Fates.{Fates}
+use Rattle.schedule_file.specs.Fates.{FatesByNumber}
 use Rattle.station_sim.specs.Delivery.{delivered, late}
 use Rattle.station_sim.specs.declared.unseen.Unseen.{Unseen}
 use Rattle.station_sim.specs.Line.{Line, happens, reply_joins, hears, completes, is_harmed, passes, earlier, joins, message_counted, sends_message, waited, due_all, begins_with_ack, from_console}
@@ -40,7 +40,7 @@ use Rattle.line_laws.proofs.FrameStage.{StillFramed, Unframed, frame_listens, sh
 use Rattle.line_laws.proofs.Pages.{goes_unseen, awaits_listens}
 use Rattle.line_laws.proofs.WakeLaws.{Awaiting, Strayed, strayed_on, unframed_strayed, due_framed}
 
-pub frame_goes : (f : Fates) (frame : List ℕ) (t : List TalkItem) (w : Line) → length frame ≡ 6 → console_talk f (message frame ++ t) w ≡ console_talk f t (sends_message f (w.begun ++ frame) w)
+pub frame_goes : (f : FatesByNumber) (frame : List ℕ) (t : List TalkItem) (w : Line) → length frame ≡ 6 → console_talk f (message frame ++ t) w ≡ console_talk f t (sends_message f (w.begun ++ frame) w)
 frame_goes f [] t w e = absurd (omega arith)
 frame_goes f (b ∷ bs) t w e = message_goes f b bs t w
 
@@ -49,7 +49,7 @@ abbrev pub at_console : Line → Console → Line
 at_console w c = record { console = c; begun = w.begun; flight = w.flight; messages = w.messages; replies = w.replies; dumps = w.dumps; harmed = w.harmed; unseen = w.unseen }
 
 -- the console before an event does not matter
-joins_console : (k : ReplyKind) (f : Fates) (o : Outcome) (w : Line) (c : Console) → joins k f o (at_console w c) ≡ joins k f o w
+joins_console : (k : ReplyKind) (f : FatesByNumber) (o : Outcome) (w : Line) (c : Console) → joins k f o (at_console w c) ≡ joins k f o w
 joins_console Nothing f o w c = refl
 joins_console Code f o w c = refl
 joins_console Wake f o w c = refl
@@ -76,7 +76,7 @@ good_frame frame c e = ap (λ t. if t then heading frame c else says_reply Code 
 bad_frame : (frame : List ℕ) (c : Console) → is_good frame ≡ false → at_frame ForDump frame c ≡ says_reply Code (24 ∷ []) (to c (Command []))
 bad_frame frame c e = ap (λ t. if t then heading frame c else says_reply Code (24 ∷ []) (to c (Command []))) e
 
-module _ (g : List (List ℕ)) (d : Store) (hs : List (List ℕ)) (f : Fates) where
+module _ (g : List (List ℕ)) (d : Store) (hs : List (List ℕ)) (f : FatesByNumber) where
   -- fewer bytes than a frame has
   pub short_frame : (got acc : List ℕ) (i : ℕ) (w : Line) → length acc + length got ≤ 5 →
       (j : ℕ) × (j ≤ i) × (hears f got (at_console w (at_state g d hs (Frame ForDump acc) i)) ≡ at_console w (at_state g d hs (Frame ForDump (acc ++ got)) j))
@@ -107,7 +107,7 @@ module _ (g : List (List ℕ)) (d : Store) (hs : List (List ℕ)) (f : Fates) wh
 -- what a good frame leaves at first
 record Headed (g : List (List ℕ)) (frame : List ℕ) (w v : Line) : Type 0 where
   n : ℕ
-  fate : Fates
+  fate : FatesByNumber
   near : Near g (plan_after g frame) 0 0 v.console
   rests : ConsoleRests v.console.state
   few : FewWaits 2 2 v.flight
@@ -130,7 +130,7 @@ pub rests_start : (p : Plan) (t : Bool) → ConsoleRests (if t then Command [] e
 rests_start p true = refl
 rests_start p false = tt
 
-module _ (f : Fates) (mild : AreMild f) (m : List ℕ) (w : Line) (g : List (List ℕ)) (d : Store) (hs : List (List ℕ)) (i : ℕ) (soon : i < 3) (at : w.console ≡ at_state g d hs (Frame ForDump []) i) (empty : w.flight ≡ []) (begun : w.begun ≡ []) (six : length m ≡ 6) (records : AreRecords g) where
+module _ (f : FatesByNumber) (mild : AreMild f) (m : List ℕ) (w : Line) (g : List (List ℕ)) (d : Store) (hs : List (List ℕ)) (i : ℕ) (soon : i < 3) (at : w.console ≡ at_state g d hs (Frame ForDump []) i) (empty : w.flight ≡ []) (begun : w.begun ≡ []) (six : length m ≡ 6) (records : AreRecords g) where
   abbrev got : List ℕ
   got = delivered (f.host (w.messages + 1)) m
 
@@ -257,7 +257,7 @@ pub record Begins (g : List (List ℕ)) (frame : List ℕ) (w : Line) (t : List 
   pub rises : EachFollows [] g
   pub ready : (n k : ℕ) → IsHeader (heard t) n k → (n ≡ (plan_after g frame).pages) × (k ≡ (plan_after g frame).place) × HostIsReady g (plan_after g frame) 0 0 v
 
-headed_on : (g : List (List ℕ)) → AreRecords g → EachFollows [] g → (frame : List ℕ) (f : Fates) (t : List TalkItem) (w u v : Line) → OnlyListens t → Headed g frame w u → console_talk f t u ≡ Some v → v.unseen ≡ None → Begins g frame w t v
+headed_on : (g : List (List ℕ)) → AreRecords g → EachFollows [] g → (frame : List ℕ) (f : FatesByNumber) (t : List TalkItem) (w u v : Line) → OnlyListens t → Headed g frame w u → console_talk f t u ≡ Some v → v.unseen ≡ None → Begins g frame w t v
 headed_on g records rises frame f t w u v s k e un =
     let p = plan_after g frame in
     let l = listens g p 0 0 f t u v s k.near e in
@@ -280,7 +280,7 @@ headed_on g records rises frame f t w u v s k e un =
           );
     }
 
-unheaded_on : (f : Fates) → AreMild f → (t : List TalkItem) (w u v : Line) → Awaits answer_waits 7 t → Unheaded w u → console_talk f t u ≡ Some v → Strayed w v × ((n k : ℕ) → IsHeader (heard t) n k → ⊥)
+unheaded_on : (f : FatesByNumber) → AreMild f → (t : List TalkItem) (w u v : Line) → Awaits answer_waits 7 t → Unheaded w u → console_talk f t u ≡ Some v → Strayed w v × ((n k : ℕ) → IsHeader (heard t) n k → ⊥)
 unheaded_on f mild t w u v awaits (inl (got, g, d, hs, i, soon, console, flight, begun, dumps)) e =
     let k = frame_listens [] no_plan 0 0 got g d hs f mild t 0 i u v (awaits_listens 7 t awaits) (record { console = console; soon = soon; few = rw flight tt; closed = rw flight tt; size = rw flight (omega arith) }) e in
     go k awaits
@@ -295,7 +295,7 @@ unheaded_on f mild t w u v awaits (inr (k, size)) e =
     (strayed_on f t w u v s k e, λ n j h. omega (arith, size, (header_parts (heard t) n j h).0, ap length l.bytes, length-append (heard t) (bytes_of v.flight)))
 
 -- the stamp frame and the answer to it
-pub heads_law : (f : Fates) → AreMild f → (frame : List ℕ) (t : List TalkItem) (w u v : Line) → length frame ≡ 6 → Awaiting [] w u → Awaits answer_waits 7 t → console_talk f (message frame ++ t) u ≡ Some v → v.unseen ≡ None →
+pub heads_law : (f : FatesByNumber) → AreMild f → (frame : List ℕ) (t : List TalkItem) (w u v : Line) → length frame ≡ 6 → Awaiting [] w u → Awaits answer_waits 7 t → console_talk f (message frame ++ t) u ≡ Some v → v.unseen ≡ None →
     ((g : List (List ℕ)) × Begins g frame w t v) ⊎ (Strayed w v × ((n k : ℕ) → IsHeader (heard t) n k → ⊥))
 heads_law f mild frame t w u v six k awaits e un =
     let m = u.begun ++ frame in

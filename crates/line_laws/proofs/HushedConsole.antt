@@ -8,7 +8,7 @@ use Rattle.console_model.specs.Console.ConsoleState.{Asleep, Command, Overlong, 
 use Rattle.console_model.specs.declared.reply.ReplyKind.TheVariants.{Nothing}
 use Rattle.console_model.specs.Tick.{tick, ticked_in, idle_after}
 use Rattle.station_sim.specs.declared.part.Part.{Part}
-use Rattle.schedule_file.specs.Fates.{Fates}
+use Rattle.schedule_file.specs.Fates.{FatesByNumber}
 use Rattle.station_sim.specs.declared.part.Part.TheVariants.{Byte, Wait}
 use Rattle.station_sim.specs.Line.{Line, flies, happens, joins, unanswered}
 use Rattle.serial_link.specs.declared.talk.TalkItem.{TalkItem}
@@ -62,7 +62,7 @@ tick_hushed h p low high (Looping k) three much fifth g m hs i e n = absurd n
 pub hushed : (h : List (List ℕ)) (p : Plan) (low high : ℕ) (c : Console) → Near h p low high c → Hushed h p low high c.state (tick c)
 hushed h p low high c n = tick_hushed h p low high c.state _ _ _ c.history c.store c.held c.idle refl n
 
-pub happens-nothing : (f : Fates) (o : Outcome) (w : Line) → o.kind ≡ Nothing → happens f o w ≡ unanswered o w
+pub happens-nothing : (f : FatesByNumber) (o : Outcome) (w : Line) → o.kind ≡ Nothing → happens f o w ≡ unanswered o w
 happens-nothing f o w e = ap (λ k. joins k f o w) e
 
 -- What listening leaves.
@@ -106,7 +106,7 @@ listened_byte h p low high (Byte x ∷ l) b w u e n g = go (x == b) refl g
         })
     go false q g = absurd cc
 
-listened_quiet : (h : List (List ℕ)) (p : Plan) (low high : ℕ) (l : List Part) (f : Fates) (w u : Line) → w.flight ≡ l → Near h p low high w.console → waiting l f w ≡ Some u →
+listened_quiet : (h : List (List ℕ)) (p : Plan) (low high : ℕ) (l : List Part) (f : FatesByNumber) (w u : Line) → w.flight ≡ l → Near h p low high w.console → waiting l f w ≡ Some u →
     Listened h p low high w (Quiet ∷ []) u
 listened_quiet h p low high [] f w u e n g =
     let k = hushed h p low high w.console n in
@@ -144,7 +144,7 @@ listened_more h p low high w u v i t a b = record {
   closed = λ q. b.closed (a.closed q);
 }
 
-pub listens : (h : List (List ℕ)) (p : Plan) (low high : ℕ) (f : Fates) (t : List TalkItem) (w v : Line) → OnlyListens t → Near h p low high w.console → console_talk f t w ≡ Some v → Listened h p low high w t v
+pub listens : (h : List (List ℕ)) (p : Plan) (low high : ℕ) (f : FatesByNumber) (t : List TalkItem) (w v : Line) → OnlyListens t → Near h p low high w.console → console_talk f t w ≡ Some v → Listened h p low high w t v
 listens h p low high f [] w v s n e = subst (λ u. Listened h p low high w [] u) (same_Some w v e)
     (record { near = n; rests = λ r. r; unseen = refl; begun = refl; dumps = refl; bytes = refl; few = λ q. q; closed = λ q. q })
 listens h p low high f (Said b ends ∷ t) w v s n e = absurd s

@@ -11,7 +11,7 @@ use Rattle.console_model.specs.declared.frame.FrameKind.TheVariants.{ForDump}
 use Rattle.console_model.specs.Console.ConsoleState.{Asleep, Command, Overlong, Frame, Dump, Looping}
 use Rattle.console_model.specs.declared.reply.ReplyKind.TheVariants.{Ack}
 use Rattle.console_model.specs.Line.{does, at_line}
-use Rattle.schedule_file.specs.Fates.{Fates}
+use Rattle.schedule_file.specs.Fates.{FatesByNumber}
 use Rattle.station_sim.specs.Delivery.{delivered}
 use Rattle.station_sim.specs.declared.unseen.Unseen.{Unseen}
 use Rattle.station_sim.specs.Line.{happens, is_page, Line, reply_joins, hears, completes, pages, is_harmed, earlier, message_counted, sends_message, says_byte, waited, from_host}
@@ -25,12 +25,12 @@ use Rattle.line_laws.proofs.Delivery.{delivered_length}
 use Rattle.line_laws.proofs.Plainly.{Tame, hears_unseen, hears_any}
 
 -- a message that is said is sent
-pub message_goes : (f : Fates) (b : ℕ) (bs : List ℕ) (t : List TalkItem) (w : Line) → console_talk f (message (b ∷ bs) ++ t) w ≡ console_talk f t (sends_message f (w.begun ++ b ∷ bs) w)
+pub message_goes : (f : FatesByNumber) (b : ℕ) (bs : List ℕ) (t : List TalkItem) (w : Line) → console_talk f (message (b ∷ bs) ++ t) w ≡ console_talk f t (sends_message f (w.begun ++ b ∷ bs) w)
 message_goes f b [] t w = refl
 message_goes f b (c ∷ bs) t w = message_goes f c bs t (says_byte f b false w) ∙ ap (λ m. console_talk f t (sends_message f m w)) (append_assoc w.begun (b ∷ []) (c ∷ bs))
 
 -- what a message without unseen delivery says of its bytes
-pub seen_host : (f : Fates) (m : List ℕ) (w : Line) → (sends_message f m w).unseen ≡ None → is_harmed m (delivered (f.host (w.messages + 1)) m) ≡ true →
+pub seen_host : (f : FatesByNumber) (m : List ℕ) (w : Line) → (sends_message f m w).unseen ≡ None → is_harmed m (delivered (f.host (w.messages + 1)) m) ≡ true →
     (completes (delivered (f.host (w.messages + 1)) m) w.console ≡ false) × (nat_lt 1 (length m) ≡ true → pages (delivered (f.host (w.messages + 1)) m) w.console ≡ false)
 seen_host f m w u harm = go w.unseen (is_harmed m (delivered (f.host (w.messages + 1)) m)) (completes (delivered (f.host (w.messages + 1)) m) w.console) (nat_lt 1 (length m)) (pages (delivered (f.host (w.messages + 1)) m) w.console)
     harm (hears_unseen f (delivered (f.host (w.messages + 1)) m) (message_counted f m w) u)
@@ -69,7 +69,7 @@ pub tame_waited : (h : List (List ℕ)) (p : Plan) (low high n : ℕ) (rs : List
 tame_waited h p low high n rs w t = record { near = near_due_all h p low high rs w.console t.near; few = t.few; closed = t.closed; size = t.size }
 
 -- the host gives up, near a dump
-pub gives_up : (h : List (List ℕ)) (p : Plan) (low high n : ℕ) (f : Fates) → AreMild f → (w : Line) → w.begun ≡ [] → Tame h p low high n w → (says_byte f 27 true w).unseen ≡ None →
+pub gives_up : (h : List (List ℕ)) (p : Plan) (low high n : ℕ) (f : FatesByNumber) → AreMild f → (w : Line) → w.begun ≡ [] → Tame h p low high n w → (says_byte f 27 true w).unseen ≡ None →
     Tame h p low (high + 1) (n + page_size) (says_byte f 27 true w) × ((says_byte f 27 true w).dumps ≡ w.dumps) × ((says_byte f 27 true w).begun ≡ [])
 gives_up h p low high n f mild w b t u =
     let m = w.begun ++ 27 ∷ [] in
@@ -83,7 +83,7 @@ gives_up h p low high n f mild w b t u =
     (tame_waited h p low (high + 1) (n + page_size) (f.mids (w.messages + 1)) (hears f got (message_counted f m w)) q.0, q.1, q.2)
 
 -- DMPAFT, to a console that rests: asleep it completes nothing, and else it awaits a frame
-pub calls_dump : (f : Fates) (w : Line) → ConsoleRests w.console.state →
+pub calls_dump : (f : FatesByNumber) (w : Line) → ConsoleRests w.console.state →
     ((completes dmpaft w.console ≡ false) × (pages dmpaft w.console ≡ false))
     ⊎ ((g : List (List ℕ)) × (d : Store) × (hs : List (List ℕ)) × (hears f dmpaft w ≡ reply_joins f (does Ack (6 ∷ []) (at_state g d hs (Frame ForDump []) 0)) w))
 unfolding dmpaft

@@ -20,35 +20,32 @@ use Rattle.dmpaft_pump.specs.Page.{is_page_before, next_said}
 use Rattle.dmpaft_pump.specs.Pump.{most_askings}
 use Rattle.dmpaft_pump.specs.declared.outcome.Trouble.{Trouble}
 use Rattle.dmpaft_driver.specs.Attempt.{TakesPage, Misses, Pages, Heads, Requests, Attempt, End, esc}
-use Rattle.schedule_file.specs.Fates.{Fates}
+use Rattle.schedule_file.specs.Fates.{FatesByNumber}
 use Rattle.station_sim.specs.Line.{Line, says_byte}
 use Rattle.station_sim.specs.Talk.{line_step, console_talk}
 use Rattle.station_sim.specs.Calm.{AreMild, IsCalm}
 use Rattle.station_sim.specs.Sound.{IsSound, AreSound}
 use Rattle.station_sim.specs.Joining.{and_then_some, talks_part}
-use Rattle.station_sim.proofs.SoundLines.{sound_talk}
 use Rattle.line_laws.specs.Host.{OnlyListens, Near, NearAt, HostIsReady, HasSequence}
 use Rattle.line_laws.specs.PagesAcknowledged.{pages_sent, acknowledged_by, counted_from, pages_acknowledged}
 use Rattle.line_laws.specs.Unharmed.{Rested}
-use Rattle.line_laws.proofs.Attempts.{listens_begun, attempt_dry}
+use Rattle.line_laws.proofs.Attempts.{attempt_dry, settled_line, asks_part, heads_part}
 use Rattle.line_laws.proofs.Delivery.{page_sequence}
-use Rattle.line_laws.proofs.Flight.{flight_law}
-use Rattle.line_laws.proofs.HeaderLaws.{heads_law}
 use Rattle.line_laws.proofs.HushedConsole.{bytes_of, listens}
 use Rattle.line_laws.proofs.Pages.{awaits_listens, asked_again, goes_unseen, page_parts, settles, takes_law, pages_dry}
 use Rattle.line_laws.proofs.Places.{InFlight, asking, said, no_length}
 use Rattle.line_laws.proofs.SettledConsole.{Still-listens}
-use Rattle.line_laws.proofs.WakeLaws.{Awaiting, wakes_law, asks_law}
+use Rattle.line_laws.proofs.WakeLaws.{Awaiting, wakes_law}
 
 -- a count goes on behind an item
-pub count_on : (f : Fates) (i : TalkItem) (t : List TalkItem) (w u : Line) → line_step f i w ≡ Some u → pages_acknowledged f (i ∷ t) w ≡ max (acknowledged_by i w) (pages_acknowledged f t u)
+pub count_on : (f : FatesByNumber) (i : TalkItem) (t : List TalkItem) (w u : Line) → line_step f i w ≡ Some u → pages_acknowledged f (i ∷ t) w ≡ max (acknowledged_by i w) (pages_acknowledged f t u)
 count_on f i t w u e = ap (λ o. max (acknowledged_by i w) (counted_from o (pages_acknowledged f t))) e
 
-step_few : (n : ℕ) (f : Fates) (i : TalkItem) (t : List TalkItem) (w u : Line) → line_step f i w ≡ Some u → acknowledged_by i w ≤ n → pages_acknowledged f t u ≤ n → pages_acknowledged f (i ∷ t) w ≤ n
+step_few : (n : ℕ) (f : FatesByNumber) (i : TalkItem) (t : List TalkItem) (w u : Line) → line_step f i w ≡ Some u → acknowledged_by i w ≤ n → pages_acknowledged f t u ≤ n → pages_acknowledged f (i ∷ t) w ≤ n
 step_few n f i t w u e a b = omega (arith, a, b, count_on f i t w u e)
 
 -- where no more than n count in either of two talks, no more do in both
-join_few : (n : ℕ) (f : Fates) (s t : List TalkItem) (w m : Line) → console_talk f s w ≡ Some m → pages_acknowledged f s w ≤ n → pages_acknowledged f t m ≤ n → pages_acknowledged f (s ++ t) w ≤ n
+join_few : (n : ℕ) (f : FatesByNumber) (s t : List TalkItem) (w m : Line) → console_talk f s w ≡ Some m → pages_acknowledged f s w ≤ n → pages_acknowledged f t m ≤ n → pages_acknowledged f (s ++ t) w ≤ n
 join_few n f [] t w m e a b = subst (λ x. pages_acknowledged f t x ≤ n) (sym (same_Some w m e)) b
 join_few n f (i ∷ s) t w m e a b =
     let g = and_then_some (line_step f i w) (console_talk f s) m e in
@@ -56,7 +53,7 @@ join_few n f (i ∷ s) t w m e a b =
     step_few n f i (s ++ t) w g.0 g.1 (omega (arith, a, z)) (join_few n f s t g.0 m g.2 (omega (arith, a, z)) b)
 
 -- nothing is acknowledged while nothing is said
-listen_few : (n : ℕ) (f : Fates) (t : List TalkItem) (w v : Line) → OnlyListens t → console_talk f t w ≡ Some v → pages_acknowledged f t w ≤ n
+listen_few : (n : ℕ) (f : FatesByNumber) (t : List TalkItem) (w v : Line) → OnlyListens t → console_talk f t w ≡ Some v → pages_acknowledged f t w ≤ n
 listen_few n f [] w v quiet e = omega arith
 listen_few n f (Said b ends ∷ t) w v quiet e = absurd quiet
 listen_few n f (Heard b ∷ t) w v quiet e =
@@ -92,10 +89,10 @@ before_same : (k j m : ℕ) → j ≤ most_askings - 1 → suc k ≤ m + 1 → m
 before_same k j m a b c e = omega arith
 
 -- 0x1B acknowledges nothing
-esc_few : (n : ℕ) (f : Fates) (w : Line) → pages_acknowledged f esc w ≤ n
+esc_few : (n : ℕ) (f : FatesByNumber) (w : Line) → pages_acknowledged f esc w ≤ n
 esc_few n f w = step_few n f (Said 27 true) [] w (says_byte f 27 true w) refl (other_few n 27 w (λ none six. absurd cc)) (omega arith)
 
-module _ (h : List (List ℕ)) (p : Plan) (f : Fates) (mild : AreMild f) where
+module _ (h : List (List ℕ)) (p : Plan) (f : FatesByNumber) (mild : AreMild f) where
   -- where 0x06 is said only if the console stands just at page k, no more than k pages are acknowledged
   ack_few : (k b : ℕ) (w : Line) → (b ≡ 6 → Near h p k k w.console) → acknowledged_by (Said b true) w ≤ k
   ack_few k b w at = other_few k b w (λ none six. near_sent h p k w.console.state w.console.idle w.console.history (at six))
@@ -221,25 +218,25 @@ module _ (h : List (List ℕ)) (p : Plan) (f : Fates) (mild : AreMild f) where
       subst (λ y. pages_acknowledged f y w ≤ n) (sym split) (join_few n f t esc w m.0 m.1 (omega (arith, a, first)) (esc_few n f m.0))
 
 -- a longer message acknowledges nothing
-mid_few : (n : ℕ) (f : Fates) (ws : List ℕ) (w v : Line) → 0 < length w.begun → console_talk f (message ws) w ≡ Some v → pages_acknowledged f (message ws) w ≤ n
+mid_few : (n : ℕ) (f : FatesByNumber) (ws : List ℕ) (w v : Line) → 0 < length w.begun → console_talk f (message ws) w ≡ Some v → pages_acknowledged f (message ws) w ≤ n
 mid_few n f [] w v s e = omega arith
 mid_few n f (b ∷ []) w v s e = step_few n f (Said b true) [] w (says_byte f b true w) refl (other_few n b w (λ none six. absurd (omega (arith, s, ap length none)))) (omega arith)
 mid_few n f (b ∷ c ∷ bs) w v s e =
     step_few n f (Said b false) (message (c ∷ bs)) w (says_byte f b false w) refl (omega arith) (mid_few n f (c ∷ bs) (says_byte f b false w) v (omega (arith, length-append w.begun (b ∷ []))) e)
 
-long_few : (n : ℕ) (f : Fates) (ws : List ℕ) (w v : Line) → 2 ≤ length ws → console_talk f (message ws) w ≡ Some v → pages_acknowledged f (message ws) w ≤ n
+long_few : (n : ℕ) (f : FatesByNumber) (ws : List ℕ) (w v : Line) → 2 ≤ length ws → console_talk f (message ws) w ≡ Some v → pages_acknowledged f (message ws) w ≤ n
 long_few n f [] w v s e = absurd (omega arith)
 long_few n f (b ∷ []) w v s e = absurd (omega arith)
 long_few n f (b ∷ c ∷ bs) w v s e =
     step_few n f (Said b false) (message (c ∷ bs)) w (says_byte f b false w) refl (omega arith) (mid_few n f (c ∷ bs) (says_byte f b false w) v (omega (arith, length-append w.begun (b ∷ []))) e)
 
 -- a longer message, and what is heard behind it
-heard_few : (n size : ℕ) (f : Fates) (ws : List ℕ) (t : List TalkItem) (w v : Line) → 2 ≤ length ws → Awaits answer_waits size t → console_talk f (message ws ++ t) w ≡ Some v → pages_acknowledged f (message ws ++ t) w ≤ n
+heard_few : (n size : ℕ) (f : FatesByNumber) (ws : List ℕ) (t : List TalkItem) (w v : Line) → 2 ≤ length ws → Awaits answer_waits size t → console_talk f (message ws ++ t) w ≡ Some v → pages_acknowledged f (message ws ++ t) w ≤ n
 heard_few n size f ws t w v long awaits e =
     let m = talks_part f (message ws) t w v e in
     join_few n f (message ws) t w m.0 m.1 (long_few n f ws w m.0 long m.1) (listen_few n f t m.0 v (awaits_listens size t awaits) m.2)
 
-wakes_few : (n : ℕ) (f : Fates) (left : ℕ) (t : List TalkItem) (awake : Bool) (w v : Line) → Wakes left t awake → console_talk f t w ≡ Some v → pages_acknowledged f t w ≤ n
+wakes_few : (n : ℕ) (f : FatesByNumber) (left : ℕ) (t : List TalkItem) (awake : Bool) (w v : Line) → Wakes left t awake → console_talk f t w ≡ Some v → pages_acknowledged f t w ≤ n
 wakes_few n f zero t awake w v (none, un) e = subst (λ y. pages_acknowledged f y w ≤ n) (sym none) (omega arith)
 wakes_few n f (suc left) t awake w v (s, rest, split, still, next) e =
     let m = talks_part f (Said 10 true ∷ s) rest w v (ap (λ x. console_talk f x w) (sym split) ∙ e) in
@@ -253,16 +250,15 @@ long_dmpaft : 2 ≤ length dmpaft
 unfolding dmpaft
 long_dmpaft = omega arith
 
-module _ (f : Fates) (ok : AreSound f) (frame : List ℕ) (six : length frame ≡ 6) where
+module _ (f : FatesByNumber) (ok : AreSound f) (frame : List ℕ) (six : length frame ≡ 6) where
   heads_few : (talk : List TalkItem) (place : ℕ) (taken : List (List ℕ)) (end : End) (w u v : Line) (n : ℕ) → Awaiting [] w u → Heads frame talk place taken end → console_talk f talk u ≡ Some v → v.unseen ≡ None
       → (end ≢ End.Refused → length taken ≤ n) → (end ≡ End.Refused → length taken ≤ n + 1) → pages_acknowledged f talk u ≤ n
   heads_few talk place taken end w u v n k (t, rest, split, awaits, next) e un kept cut =
       let q = append_assoc (message frame) t rest ∙ sym split in
-      let m = talks_part f (message frame ++ t) rest u v (ap (λ x. console_talk f x u) q ∙ e) in
-      let first = heads_law f ok.mild frame t w u m.0 six k awaits m.1 (goes_unseen f rest m.0 v m.2 un) in
+      let m = heads_part f ok frame six talk t rest w u v k split awaits e un in
       subst (λ y. pages_acknowledged f y u ≤ n) q (join_few n f (message frame ++ t) rest u m.0 m.1 (heard_few n 7 f frame t u m.0 (omega (arith, six)) awaits m.1) (elim next [
         | inr b ↦ subst (λ y. pages_acknowledged f y m.0 ≤ n) (sym b.2) (esc_few n f m.0)
-        | inl b ↦ elim first [
+        | inl b ↦ elim m.3 [
           | inl a ↦ (let r = a.1.ready b.0 place b.1 in
               pages_few a.0 (plan_after a.0 frame) f ok.mild b.0 0 rest taken end m.0 v n (omega (arith, r.0)) b.2 r.2 m.2 un (λ z. omega (arith, kept z)) (λ z. omega (arith, cut z)))
           | inr a ↦ absurd (a.1 b.0 place b.1)
@@ -273,11 +269,10 @@ module _ (f : Fates) (ok : AreSound f) (frame : List ℕ) (six : length frame �
       → (end ≢ End.Refused → length taken ≤ n) → (end ≡ End.Refused → length taken ≤ n + 1) → pages_acknowledged f talk w ≤ n
   asks_few talk place taken end w v n r (t, rest, split, awaits, next) e un kept cut =
       let q = append_assoc (message dmpaft) t rest ∙ sym split in
-      let m = talks_part f (message dmpaft ++ t) rest w v (ap (λ x. console_talk f x w) q ∙ e) in
-      let first = asks_law f ok t w m.0 r awaits m.1 (goes_unseen f rest m.0 v m.2 un) in
+      let m = asks_part f ok talk t rest w v r split awaits e un in
       subst (λ y. pages_acknowledged f y w ≤ n) q (join_few n f (message dmpaft ++ t) rest w m.0 m.1 (heard_few n 1 f dmpaft t w m.0 long_dmpaft awaits m.1) (elim next [
         | inr b ↦ subst (λ y. pages_acknowledged f y m.0 ≤ n) (sym b.1) (esc_few n f m.0)
-        | inl b ↦ elim first [
+        | inl b ↦ elim m.3 [
           | inl a ↦ heads_few rest place taken end w m.0 v n a b.1 m.2 un kept cut
           | inr a ↦ absurd (a.1 b.0)
         ]
@@ -291,9 +286,7 @@ module _ (f : Fates) (ok : AreSound f) (frame : List ℕ) (six : length frame �
   attempt_few talk place taken end w v n sound calm (inl (s, t, rest, awake, split, still, wakes, next)) e un kept cut =
       let m = talks_part f s (t ++ rest) w v (ap (λ x. console_talk f x w) (sym split) ∙ e) in
       let m2 = talks_part f t rest m.0 v m.2 in
-      let settled = flight_law f ok.mild s w m.0 calm still m.1 in
-      let b = listens_begun f s w m.0 (Still-listens settled_waits s still) m.1 in
-      let woken = wakes_law f ok 3 t awake m.0 m2.0 (record { flight = settled.0; begun = b.0 ∙ calm.begun; rests = settled.1; sound = sound_talk f ok s w m.0 m.1 sound }) wakes m2.1 in
+      let woken = wakes_law f ok 3 t awake m.0 m2.0 (settled_line f ok s w m.0 sound calm still m.1).0 wakes m2.1 in
       let last : pages_acknowledged f rest m2.0 ≤ n = elim next [
         | inl a ↦ asks_few rest place taken end m2.0 v n woken.0 a.1 m2.2 un kept cut
         | inr a ↦ subst (λ y. pages_acknowledged f y m2.0 ≤ n) (sym a.1) (esc_few n f m2.0)

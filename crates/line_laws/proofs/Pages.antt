@@ -7,7 +7,7 @@ use Rattle.console_ring.specs.Picture.{page_of}
 use Rattle.crc_ccitt.specs.Check.{is_good}
 use Rattle.vantage_frames.specs.Slots.{page_size}
 use Rattle.console_model.specs.Tick.{tick}
-use Rattle.schedule_file.specs.Fates.{Fates}
+use Rattle.schedule_file.specs.Fates.{FatesByNumber}
 use Rattle.station_sim.specs.Delivery.{delivered}
 use Rattle.station_sim.specs.Line.{Line, message_counted, says_byte, flies}
 use Rattle.serial_link.specs.declared.talk.TalkItem.{TalkItem}
@@ -30,7 +30,7 @@ use Rattle.line_laws.proofs.Messages.{gives_up}
 use Rattle.line_laws.proofs.FrameStage.{hearing_is, waiting_is}
 
 -- what was unseen stays so
-pub goes_unseen : (f : Fates) (t : List TalkItem) (w v : Line) → console_talk f t w ≡ Some v → v.unseen ≡ None → w.unseen ≡ None
+pub goes_unseen : (f : FatesByNumber) (t : List TalkItem) (w v : Line) → console_talk f t w ≡ Some v → v.unseen ≡ None → w.unseen ≡ None
 goes_unseen f [] w v e u = ap (λ x. x.unseen) (same_Some w v e) ∙ u
 goes_unseen f (Said b false ∷ t) w v e u = goes_unseen f t (says_byte f b false w) v e u
 goes_unseen f (Said b true ∷ t) w v e u =
@@ -84,7 +84,7 @@ pub record Settled (h : List (List ℕ)) (p : Plan) (low high : ℕ) (w v : Line
   pub begun : v.begun ≡ w.begun
   pub dumps : v.dumps ≡ w.dumps
 
-pub settles : (h : List (List ℕ)) (p : Plan) (low high q : ℕ) (f : Fates) (s : List TalkItem) (w v : Line) → 3 ≤ q → Still q s → Near h p low high w.console → FewWaits 2 2 w.flight → console_talk f s w ≡ Some v → Settled h p low high w v
+pub settles : (h : List (List ℕ)) (p : Plan) (low high q : ℕ) (f : FatesByNumber) (s : List TalkItem) (w v : Line) → 3 ≤ q → Still q s → Near h p low high w.console → FewWaits 2 2 w.flight → console_talk f s w ≡ Some v → Settled h p low high w v
 settles h p low high q f s w v a still n few e =
     let z = near_settles h p low high q f s w v a still n few e in
     let l = listens h p low high f s w v (Still-listens q s still) n e in
@@ -102,7 +102,7 @@ tame_calm h p low high n w a b t = record {
 near_moved : (h : List (List ℕ)) (p : Plan) (low a b : ℕ) → a ≡ b → (c : Console) → Near h p low a c → Near h p low b c
 near_moved h p low a b e c n = subst (λ x. Near h p low x c) e n
 
-module _ (h : List (List ℕ)) (p : Plan) (f : Fates) (mild : AreMild f) where
+module _ (h : List (List ℕ)) (p : Plan) (f : FatesByNumber) (mild : AreMild f) where
   pub asked_again : (k j : ℕ) (s : List TalkItem) (w u v : Line) (t : List TalkItem) → AskedFor h p k j w t u → Still settled_waits s → console_talk f s u ≡ Some v → HostIsReady h p k (j + 1) v × (v.dumps ≡ w.dumps)
   asked_again k j s w u v t a still e =
       let z = settles h p k (k + j + 1) 6 f s u v (omega arith) still a.near a.calm.waits e in

@@ -9,7 +9,7 @@ use Rattle.console_model.specs.Console.ConsoleState.{Asleep, Command, Overlong, 
 use Rattle.console_model.specs.declared.reply.ReplyKind.TheVariants.{Wake, Page}
 use Rattle.console_model.specs.Hear.{hear}
 use Rattle.station_sim.specs.declared.part.Part.{Part}
-use Rattle.schedule_file.specs.Fates.{Fates}
+use Rattle.schedule_file.specs.Fates.{FatesByNumber}
 use Rattle.station_sim.specs.Delivery.{delivered, late}
 use Rattle.station_sim.specs.declared.part.Part.TheVariants.{Byte, Wait}
 use Rattle.station_sim.specs.Line.{Line, happens, joins, reply_joins, hears, message_counted, waited, says_byte, from_console}
@@ -40,17 +40,17 @@ pub record After (h : List (List ℕ)) (p : Plan) (low high : ℕ) (w v : Line) 
   pub closed : EndsInByte v.flight
   pub answer : InFlight h p low high v
 
-pub happens-page : (f : Fates) (o : Outcome) (w : Line) → o.kind ≡ Page → happens f o w ≡ reply_joins f o w
+pub happens-page : (f : FatesByNumber) (o : Outcome) (w : Line) → o.kind ≡ Page → happens f o w ≡ reply_joins f o w
 happens-page f o w e = ap (λ k. joins k f o w) e
 
-pub happens-wake : (f : Fates) (o : Outcome) (w : Line) → o.kind ≡ Wake → happens f o w ≡ reply_joins f o w
+pub happens-wake : (f : FatesByNumber) (o : Outcome) (w : Line) → o.kind ≡ Wake → happens f o w ≡ reply_joins f o w
 happens-wake f o w e = ap (λ k. joins k f o w) e
 
 -- a reply to an empty flight
-pub flight_of : (f : Fates) (o : Outcome) (w : Line) → w.flight ≡ [] → (reply_joins f o w).flight ≡ late (f.late (w.replies + 1)).waits (f.late (w.replies + 1)).place (delivered (f.reply (w.replies + 1)) o.bytes)
+pub flight_of : (f : FatesByNumber) (o : Outcome) (w : Line) → w.flight ≡ [] → (reply_joins f o w).flight ≡ late (f.late (w.replies + 1)).waits (f.late (w.replies + 1)).place (delivered (f.reply (w.replies + 1)) o.bytes)
 flight_of f o w e = ap (λ l. l ++ late (f.late (w.replies + 1)).waits (f.late (w.replies + 1)).place (delivered (f.reply (w.replies + 1)) o.bytes)) e
 
-module _ (h : List (List ℕ)) (p : Plan) (low high : ℕ) (f : Fates) (mild : AreMild f) where
+module _ (h : List (List ℕ)) (p : Plan) (low high : ℕ) (f : FatesByNumber) (mild : AreMild f) where
   replied_after : (o : Outcome) (w : Line) → w.flight ≡ [] → Hearing h p low high o → InFlight h p low high (reply_joins f o w) → After h p low high w (reply_joins f o w)
   replied_after o w e q a = record {
     near = q.near;
@@ -152,7 +152,7 @@ pub record AskedFor (h : List (List ℕ)) (p : Plan) (k j : ℕ) (w : Line) (t :
 near_same_place : (h : List (List ℕ)) (p : Plan) (m k : ℕ) → m + 1 ≡ k → (c : Console) → Near h p (m + 1) (m + 1) c → Near h p k (k + 0) c
 near_same_place h p m k e c n = let z : k + 0 ≡ m + 1 = omega arith in let y : k ≡ m + 1 = sym e in rw (z, y) n
 
-module _ (h : List (List ℕ)) (p : Plan) (k j : ℕ) (f : Fates) (mild : AreMild f) (t : List TalkItem) (quiet : OnlyListens t) where
+module _ (h : List (List ℕ)) (p : Plan) (k j : ℕ) (f : FatesByNumber) (mild : AreMild f) (t : List TalkItem) (quiet : OnlyListens t) where
   bytes_at_most : (u : Line) → InFlight h p k (k + j) u → length (bytes_of u.flight) ≤ page_size
   bytes_at_most u (inl n) = omega arith
   bytes_at_most u (inr (m, lo, hi, z, r, n, g)) = n

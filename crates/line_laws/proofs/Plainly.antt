@@ -19,7 +19,7 @@ use Rattle.station_sim.specs.Sound.{AreRecords}
 use Rattle.console_model.specs.Hear.{hear, heard_in, sends_page, dump_ended, lengthened}
 use Rattle.console_model.specs.Line.{obeyed, silent, to, at_line}
 use Rattle.station_sim.specs.declared.part.Part.{Part}
-use Rattle.schedule_file.specs.Fates.{Fates}
+use Rattle.schedule_file.specs.Fates.{FatesByNumber}
 use Rattle.station_sim.specs.Delivery.{delivered, late}
 use Rattle.station_sim.specs.declared.part.Part.TheVariants.{Byte, Wait}
 use Rattle.station_sim.specs.declared.unseen.Unseen.{Unseen}
@@ -142,7 +142,7 @@ pub earlier_none : (u v : Option Unseen) → earlier u v ≡ None → u ≡ None
 earlier_none None v e = refl
 earlier_none (Some x) v e = absurd cc
 
-pub happens_unseen : (k : ReplyKind) (f : Fates) (o : Outcome) (w : Line) → (joins k f o w).unseen ≡ None → w.unseen ≡ None
+pub happens_unseen : (k : ReplyKind) (f : FatesByNumber) (o : Outcome) (w : Line) → (joins k f o w).unseen ≡ None → w.unseen ≡ None
 happens_unseen Nothing f o w e = e
 happens_unseen Code f o w e = earlier_none w.unseen _ e
 happens_unseen Wake f o w e = earlier_none w.unseen _ e
@@ -152,7 +152,7 @@ happens_unseen AckFrame f o w e = earlier_none w.unseen _ e
 happens_unseen Page f o w e = earlier_none w.unseen _ e
 happens_unseen Packet f o w e = earlier_none w.unseen _ e
 
-pub hears_unseen : (f : Fates) (got : List ℕ) (w : Line) → (hears f got w).unseen ≡ None → w.unseen ≡ None
+pub hears_unseen : (f : FatesByNumber) (got : List ℕ) (w : Line) → (hears f got w).unseen ≡ None → w.unseen ≡ None
 hears_unseen f [] w e = e
 hears_unseen f (x ∷ got) w e = happens_unseen (hear w.console x).kind f (hear w.console x) w (hears_unseen f got (happens f (hear w.console x) w) e)
 
@@ -173,7 +173,7 @@ pub record Tame (h : List (List ℕ)) (p : Plan) (low high n : ℕ) (w : Line) :
   pub closed : EndsInByte w.flight
   pub size : length (bytes_of w.flight) ≤ n
 
-module _ (h : List (List ℕ)) (p : Plan) (low high n : ℕ) (f : Fates) (mild : AreMild f) where
+module _ (h : List (List ℕ)) (p : Plan) (low high n : ℕ) (f : FatesByNumber) (mild : AreMild f) where
   flown : (o : Outcome) (w : Line) → bytes_of (reply_joins f o w).flight ≡ bytes_of w.flight ++ delivered (f.reply (w.replies + 1)) o.bytes
   flown o w = bytes_join w.flight _ ∙ ap (λ x. bytes_of w.flight ++ x) (bytes_of_late (f.late (w.replies + 1)).waits (f.late (w.replies + 1)).place (delivered (f.reply (w.replies + 1)) o.bytes))
 
@@ -213,7 +213,7 @@ module _ (h : List (List ℕ)) (p : Plan) (low high n : ℕ) (f : Fates) (mild :
   no_ack_joins Page o w e m z u b = absurd cc
   no_ack_joins Packet o w e m z u b = absurd m
 
-pub dumps_joins : (k : ReplyKind) (f : Fates) (o : Outcome) (w : Line) → o.begins ≡ [] → (joins k f o w).dumps ≡ w.dumps
+pub dumps_joins : (k : ReplyKind) (f : FatesByNumber) (o : Outcome) (w : Line) → o.begins ≡ [] → (joins k f o w).dumps ≡ w.dumps
 dumps_joins Nothing f o w e = refl
 dumps_joins Code f o w e = rw (e, append-nil)
 dumps_joins Wake f o w e = rw (e, append-nil)
@@ -223,7 +223,7 @@ dumps_joins AckFrame f o w e = rw (e, append-nil)
 dumps_joins Page f o w e = rw (e, append-nil)
 dumps_joins Packet f o w e = rw (e, append-nil)
 
-pub begun_joins : (k : ReplyKind) (f : Fates) (o : Outcome) (w : Line) → (joins k f o w).begun ≡ w.begun
+pub begun_joins : (k : ReplyKind) (f : FatesByNumber) (o : Outcome) (w : Line) → (joins k f o w).begun ≡ w.begun
 begun_joins Nothing f o w = refl
 begun_joins Code f o w = refl
 begun_joins Wake f o w = refl
@@ -244,7 +244,7 @@ or_false : (a b : Bool) → (a || b) ≡ false → (a ≡ false) × (b ≡ false
 or_false true b e = absurd cc
 or_false false b e = (refl, e)
 
-meek_one : (h : List (List ℕ)) (p : Plan) (low high n : ℕ) (f : Fates) → AreMild f → (o : Outcome) (w : Line) → Tame h p low high n w → Plain h p low high o → is_page o.kind ≡ false → (happens f o w).unseen ≡ None → Meekly h p low high (n + page_size) w (happens f o w)
+meek_one : (h : List (List ℕ)) (p : Plan) (low high n : ℕ) (f : FatesByNumber) → AreMild f → (o : Outcome) (w : Line) → Tame h p low high n w → Plain h p low high o → is_page o.kind ≡ false → (happens f o w).unseen ≡ None → Meekly h p low high (n + page_size) w (happens f o w)
 meek_one h p low high n f mild o w t q z u = record {
   tame = tame_joins h p low high n f mild o.kind o w high t (q.same z) q.size;
   dumps = dumps_joins o.kind f o w q.begins;
@@ -252,7 +252,7 @@ meek_one h p low high n f mild o w t q z u = record {
   no_ack = no_ack_joins h p low high n f mild o.kind o w refl q.meek z u;
 }
 
-pub hears_meekly : (h : List (List ℕ)) (p : Plan) (low high : ℕ) (f : Fates) → AreMild f → (got : List ℕ) (n : ℕ) (w : Line) → Tame h p low high n w → completes got w.console ≡ false → pages got w.console ≡ false → (hears f got w).unseen ≡ None →
+pub hears_meekly : (h : List (List ℕ)) (p : Plan) (low high : ℕ) (f : FatesByNumber) → AreMild f → (got : List ℕ) (n : ℕ) (w : Line) → Tame h p low high n w → completes got w.console ≡ false → pages got w.console ≡ false → (hears f got w).unseen ≡ None →
     Meekly h p low high (n + page_size * length got) w (hears f got w)
 hears_meekly h p low high f mild [] n w t c g u = record { tame = record { near = t.near; few = t.few; closed = t.closed; size = omega (arith, t.size) }; dumps = refl; begun = refl; no_ack = λ e. e }
 hears_meekly h p low high f mild (x ∷ got) n w t c g u =
@@ -270,7 +270,7 @@ hears_meekly h p low high f mild (x ∷ got) n w t c g u =
     }
 
 -- a message of one byte at most, wherever the console stands near a dump
-pub hears_any : (h : List (List ℕ)) (p : Plan) (low high : ℕ) (f : Fates) → AreMild f → (got : List ℕ) (n : ℕ) (w : Line) → length got ≤ 1 → Tame h p low high n w → completes got w.console ≡ false →
+pub hears_any : (h : List (List ℕ)) (p : Plan) (low high : ℕ) (f : FatesByNumber) → AreMild f → (got : List ℕ) (n : ℕ) (w : Line) → length got ≤ 1 → Tame h p low high n w → completes got w.console ≡ false →
     Tame h p low (high + 1) (n + page_size) (hears f got w) × ((hears f got w).dumps ≡ w.dumps) × ((hears f got w).begun ≡ w.begun)
 hears_any h p low high f mild [] n w z t c = (record { near = wider h p low high w.console t.near; few = t.few; closed = t.closed; size = omega (arith, t.size) }, refl, refl)
 hears_any h p low high f mild (x ∷ []) n w z t c =

@@ -32,7 +32,7 @@ use Rattle.console_model.specs.Tick.{tick, ticked_in}
 use Rattle.console_model.specs.Line.{obeyed, at_line, silent, to}
 use Rattle.console_model.specs.Frame.{at_frame}
 use Rattle.console_model.specs.Due.{due_by, in_the_way, unexceeded, due, due_in_state, put, hold}
-use Rattle.schedule_file.specs.Fates.{Fates}
+use Rattle.schedule_file.specs.Fates.{FatesByNumber}
 use Rattle.station_sim.specs.Delivery.{delivered}
 use Rattle.station_sim.specs.Line.{sends_message, Line, flies, happens, joins, reply_joins, hears, completes, message_counted, waited, due_all}
 use Rattle.serial_link.specs.declared.talk.TalkItem.{TalkItem}
@@ -221,10 +221,10 @@ pub begun_more : (r rest all : List (List ℕ)) (bs : List Begun) → BegunIn r 
 begun_more r rest all [] b e = tt
 begun_more r rest all (h ∷ bs) b e = (prefix_more h.history r rest all b.0 e, begun_more r rest all bs b.1 e)
 
-sums_replied : (f : Fates) (o : Outcome) (w : Line) (r rest all : List (List ℕ)) → Same r o → r ++ rest ≡ all → BegunIn all w.dumps → Sums rest all (reply_joins f o w)
+sums_replied : (f : FatesByNumber) (o : Outcome) (w : Line) (r rest all : List (List ℕ)) → Same r o → r ++ rest ≡ all → BegunIn all w.dumps → Sums rest all (reply_joins f o w)
 sums_replied f o w r rest all s e b = record { sum = ap (λ x. x ++ rest) s.recs ∙ e; tidy = s.tidy; begun = begun_join all w.dumps o.begins b (begun_more r rest all o.begins s.begins e) }
 
-sums_joins : (k : ReplyKind) (f : Fates) (o : Outcome) (w : Line) (r rest all : List (List ℕ)) → Same r o → r ++ rest ≡ all → BegunIn all w.dumps → Sums rest all (joins k f o w)
+sums_joins : (k : ReplyKind) (f : FatesByNumber) (o : Outcome) (w : Line) (r rest all : List (List ℕ)) → Same r o → r ++ rest ≡ all → BegunIn all w.dumps → Sums rest all (joins k f o w)
 sums_joins Nothing f o w r rest all s e b = record { sum = ap (λ x. x ++ rest) s.recs ∙ e; tidy = s.tidy; begun = b }
 sums_joins Code f o w r rest all s e b = sums_replied f o w r rest all s e b
 sums_joins Wake f o w r rest all s e b = sums_replied f o w r rest all s e b
@@ -234,7 +234,7 @@ sums_joins AckFrame f o w r rest all s e b = sums_replied f o w r rest all s e b
 sums_joins Page f o w r rest all s e b = sums_replied f o w r rest all s e b
 sums_joins Packet f o w r rest all s e b = sums_replied f o w r rest all s e b
 
-messages_joins : (k : ReplyKind) (f : Fates) (o : Outcome) (w : Line) → (joins k f o w).messages ≡ w.messages
+messages_joins : (k : ReplyKind) (f : FatesByNumber) (o : Outcome) (w : Line) → (joins k f o w).messages ≡ w.messages
 messages_joins Nothing f o w = refl
 messages_joins Code f o w = refl
 messages_joins Wake f o w = refl
@@ -244,10 +244,10 @@ messages_joins AckFrame f o w = refl
 messages_joins Page f o w = refl
 messages_joins Packet f o w = refl
 
-pub sums_tick : (f : Fates) (w : Line) (rest all : List (List ℕ)) → Sums rest all w → Sums rest all (happens f (tick w.console) w)
+pub sums_tick : (f : FatesByNumber) (w : Line) (rest all : List (List ℕ)) → Sums rest all w → Sums rest all (happens f (tick w.console) w)
 sums_tick f w rest all s = let c = w.console in sums_joins (tick c).kind f (tick c) w (records_of c) rest all (tick_same c.state _ _ _ c.history c.store c.held (idle_after c.state c.idle) s.tidy) s.sum s.begun
 
-sums_hears : (f : Fates) (got : List ℕ) (w : Line) (rest all : List (List ℕ)) → Sums rest all w → Unclear got w.console → Sums rest all (hears f got w)
+sums_hears : (f : FatesByNumber) (got : List ℕ) (w : Line) (rest all : List (List ℕ)) → Sums rest all w → Unclear got w.console → Sums rest all (hears f got w)
 sums_hears f [] w rest all s u = s
 sums_hears f (b ∷ got) w rest all s u =
     let c = w.console in
@@ -255,11 +255,11 @@ sums_hears f (b ∷ got) w rest all s u =
     sums_hears f got (happens f o w) rest all (sums_joins o.kind f o w (records_of c) rest all (hear_same c.state (signal b) b c.history c.store c.held c.idle s.tidy u.0) s.sum s.begun)
     (subst (Unclear got) (sym (console_joins o.kind f o w)) u.1)
 
-hears_messages : (f : Fates) (got : List ℕ) (w : Line) → (hears f got w).messages ≡ w.messages
+hears_messages : (f : FatesByNumber) (got : List ℕ) (w : Line) → (hears f got w).messages ≡ w.messages
 hears_messages f [] w = refl
 hears_messages f (b ∷ got) w = let o = hear w.console b in hears_messages f got (happens f o w) ∙ messages_joins o.kind f o w
 
-pub hears_begun : (f : Fates) (got : List ℕ) (w : Line) → (hears f got w).begun ≡ w.begun
+pub hears_begun : (f : FatesByNumber) (got : List ℕ) (w : Line) → (hears f got w).begun ≡ w.begun
 hears_begun f [] w = refl
 hears_begun f (b ∷ got) w = let o = hear w.console b in hears_begun f got (happens f o w) ∙ begun_joins o.kind f o w
 
@@ -311,7 +311,7 @@ unfolding Fallen
 fallen_all [] c rest all h t e = (e, t)
 fallen_all (r ∷ rs) c rest all h t e = let q = fallen_due r c (rs ++ rest) all h t e in fallen_all rs (due r c) rest all h q.1 q.0
 
-module _ (f : Fates) (left : ℕ → List (List ℕ)) (falls : FallDue f left) (all : List (List ℕ)) (rises : EachFollows [] all) where
+module _ (f : FatesByNumber) (left : ℕ → List (List ℕ)) (falls : FallDue f left) (all : List (List ℕ)) (rises : EachFollows [] all) where
   -- a message of which nothing clears, where it comes as it was sent
   pub now_sends : (m : List ℕ) (w : Line) → Now left all w → (delivered (f.host (w.messages + 1)) m ≡ m → Unclear m w.console) → (sends_message f m w).unseen ≡ None → Now left all (sends_message f m w)
   now_sends m w s c u =

@@ -23,7 +23,7 @@ use Rattle.console_model.specs.Line.{at_line, obeyed, to}
 use Rattle.console_model.specs.Reading.{signal, read_order}
 use Rattle.console_model.specs.Tick.{tick, ticked_in, turned, idled}
 use Rattle.console_model.specs.Valid.{IsTidy}
-use Rattle.schedule_file.specs.Fates.{Fates}
+use Rattle.schedule_file.specs.Fates.{FatesByNumber}
 use Rattle.serial_link.specs.declared.talk.TalkItem.{TalkItem}
 use Rattle.serial_link.specs.declared.talk.TalkItem.TheVariants.{Said, Heard, Quiet}
 use Rattle.station_sim.specs.Calm.{AreFewMids, mids_count}
@@ -139,31 +139,31 @@ due_all_holds : (rs : List (List ℕ)) (c : Console) → length (due_all rs c).h
 due_all_holds [] c = omega arith
 due_all_holds (r ∷ rs) c = omega (arith, due_holds (in_the_way r c) r c, due_all_holds rs (due r c))
 
-hears_holds : (f : Fates) (got : List ℕ) (w : Line) → length (hears f got w).console.held ≤ length w.console.held
+hears_holds : (f : FatesByNumber) (got : List ℕ) (w : Line) → length (hears f got w).console.held ≤ length w.console.held
 hears_holds f [] w = omega arith
 hears_holds f (b ∷ got) w =
     let o = hear w.console b in
     omega (arith, hears_holds f got (happens f o w), heard_holds w.console b, ap (λ (c : Console). length c.held) (console_joins o.kind f o w))
 
-hears_messages : (f : Fates) (got : List ℕ) (w : Line) → (hears f got w).messages ≡ w.messages
+hears_messages : (f : FatesByNumber) (got : List ℕ) (w : Line) → (hears f got w).messages ≡ w.messages
 hears_messages f [] w = refl
 hears_messages f (b ∷ got) w = let o = hear w.console b in hears_messages f got (happens f o w) ∙ messages_joins o.kind f o w
 
 -- there is room for all that falls due after this
-abbrev pub HasRoom : Fates → Line → Type 0
+abbrev pub HasRoom : FatesByNumber → Line → Type 0
 HasRoom f w = Room f w.messages w.console.held
 
 -- a console that awaits a frame holds nothing
-pub awaiting_room : (f : Fates) → AreFewMids f → (got : List ℕ) (w u : Line) → Awaiting got w u → IsSound u → HasRoom f u
+pub awaiting_room : (f : FatesByNumber) → AreFewMids f → (got : List ℕ) (w u : Line) → Awaiting got w u → IsSound u → HasRoom f u
 awaiting_room f few got w u k sound m =
     let none : u.console.held ≡ [] = subst (λ (c : Console). IsTidy c.state c.held → c.held ≡ []) (sym k.console) (λ tidy. tidy) sound.valid.tidy in
     omega (arith, few u.messages m, ap (λ (x : List (List ℕ)). length x) none)
 
-room_same : (f : Fates) (w v : Line) → v.messages ≡ w.messages → length v.console.held ≤ length w.console.held → HasRoom f w → HasRoom f v
+room_same : (f : FatesByNumber) (w v : Line) → v.messages ≡ w.messages → length v.console.held ≤ length w.console.held → HasRoom f w → HasRoom f v
 room_same f w v same less room m = omega (arith, less, room m, ap (λ n. mids_count f n m) same)
 
 -- the room of a message, with the records that fall due with it
-room_said : (f : Fates) (b : ℕ) (w : Line) → HasRoom f w → HasRoom f (says_byte f b true w)
+room_said : (f : FatesByNumber) (b : ℕ) (w : Line) → HasRoom f w → HasRoom f (says_byte f b true w)
 room_said f b w room m =
     let message = w.begun ++ b ∷ [] in
     let got = delivered (f.host (w.messages + 1)) message in
@@ -176,14 +176,14 @@ room_said f b w room m =
       ap (λ n. mids_count f n m) (hears_messages f got (message_counted f message w)),
     )
 
-room_quiet : (f : Fates) (w u v : Line) → u.console ≡ w.console → u.messages ≡ w.messages → v ≡ happens f (tick w.console) u → HasRoom f w → HasRoom f v
+room_quiet : (f : FatesByNumber) (w u v : Line) → u.console ≡ w.console → u.messages ≡ w.messages → v ≡ happens f (tick w.console) u → HasRoom f w → HasRoom f v
 room_quiet f w u v same counted is room =
     let o = tick w.console in
     room_same f w v (ap (λ (x : Line). x.messages) is ∙ messages_joins o.kind f o u ∙ counted)
     (omega (arith, ticked_holds w.console, ap (λ (x : Line). length x.console.held) is, ap (λ (c : Console). length c.held) (console_joins o.kind f o u))) room
 
 -- and so there is room after a talk
-pub room_talk : (f : Fates) (t : List TalkItem) (w v : Line) → console_talk f t w ≡ Some v → HasRoom f w → HasRoom f v
+pub room_talk : (f : FatesByNumber) (t : List TalkItem) (w v : Line) → console_talk f t w ≡ Some v → HasRoom f w → HasRoom f v
 room_talk f [] w v e room = subst (HasRoom f) (same_Some w v e) room
 room_talk f (Said b false ∷ t) w v e room = room_talk f t (says_byte f b false w) v e room
 room_talk f (Said b true ∷ t) w v e room = room_talk f t (says_byte f b true w) v e (room_said f b w room)

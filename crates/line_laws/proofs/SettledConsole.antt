@@ -6,7 +6,7 @@ use Rattle.console_ring.specs.declared.plan.Plan.{Plan}
 use Rattle.console_model.specs.Console.ConsoleState.{Asleep, Command, Overlong, Frame, Dump, Looping}
 use Rattle.console_model.specs.Tick.{tick, ticked_in, idle_after}
 use Rattle.station_sim.specs.declared.part.Part.{Part}
-use Rattle.schedule_file.specs.Fates.{Fates}
+use Rattle.schedule_file.specs.Fates.{FatesByNumber}
 use Rattle.station_sim.specs.declared.part.Part.TheVariants.{Byte, Wait}
 use Rattle.station_sim.specs.Line.{Line, flies}
 use Rattle.serial_link.specs.declared.talk.TalkItem.{TalkItem}
@@ -76,7 +76,7 @@ tightly_byte h p low high r (Byte x ∷ l) b w u e q g = go (x == b) g
         (record { near = q.near; tight = tight_zero h p low high w.console.state w.console.idle w.console.history q.near; budget = budget_byte 2 r x l (subst (Budget 2 r) e q.budget) })
     go false g = absurd cc
 
-pub tightly_quiet : (h : List (List ℕ)) (p : Plan) (low high r : ℕ) (l : List Part) (f : Fates) (w u : Line) → w.flight ≡ l → Tightly h p low high r w → waiting l f w ≡ Some u → Tightly h p low high (r + 1) u
+pub tightly_quiet : (h : List (List ℕ)) (p : Plan) (low high r : ℕ) (l : List Part) (f : FatesByNumber) (w u : Line) → w.flight ≡ l → Tightly h p low high r w → waiting l f w ≡ Some u → Tightly h p low high (r + 1) u
 tightly_quiet h p low high r [] f w u e q g =
     let k = hushed h p low high w.console q.near in
     subst (λ v. Tightly h p low high (r + 1) v) (sym (happens-nothing f (tick w.console) w k.kind) ∙ same_Some _ u g)
@@ -87,7 +87,7 @@ tightly_quiet h p low high r (Wait ∷ l) f w u e q g =
     (record { near = k.near; tight = tight_tick w.console.state _ _ _ w.console.history w.console.store w.console.held w.console.idle r q.tight; budget = budget_wait 2 r l (subst (Budget 2 r) e q.budget) })
 tightly_quiet h p low high r (Byte x ∷ l) f w u e q g = absurd cc
 
-settles_from : (h : List (List ℕ)) (p : Plan) (low high q : ℕ) (f : Fates) (t : List TalkItem) (r n : ℕ) (w v : Line) → 3 ≤ q → StillFrom q r n t → Tightly h p low high r w → console_talk f t w ≡ Some v → (v.flight ≡ []) × ConsoleRests v.console.state
+settles_from : (h : List (List ℕ)) (p : Plan) (low high q : ℕ) (f : FatesByNumber) (t : List TalkItem) (r n : ℕ) (w v : Line) → 3 ≤ q → StillFrom q r n t → Tightly h p low high r w → console_talk f t w ≡ Some v → (v.flight ≡ []) × ConsoleRests v.console.state
 settles_from h p low high q f [] r n w v a s k e =
     subst (λ u. (u.flight ≡ []) × ConsoleRests u.console.state) (same_Some w v e)
     (spent w.flight k.budget, tight_rests h p low high w.console.state w.console.idle r w.console.history (omega (arith, s.0)) k.near k.tight)
@@ -104,7 +104,7 @@ settles_from h p low high q f (Quiet ∷ t) r n w v a s k e =
     settles_from h p low high q f t (r + 1) n g.0 v a s.1 (tightly_quiet h p low high r w.flight f w g.0 refl k g.1) g.2
 
 -- a settling of three waits or more
-pub near_settles : (h : List (List ℕ)) (p : Plan) (low high q : ℕ) (f : Fates) (t : List TalkItem) (w v : Line) → 3 ≤ q → Still q t → Near h p low high w.console → FewWaits 2 2 w.flight → console_talk f t w ≡ Some v → (v.flight ≡ []) × ConsoleRests v.console.state
+pub near_settles : (h : List (List ℕ)) (p : Plan) (low high q : ℕ) (f : FatesByNumber) (t : List TalkItem) (w v : Line) → 3 ≤ q → Still q t → Near h p low high w.console → FewWaits 2 2 w.flight → console_talk f t w ≡ Some v → (v.flight ≡ []) × ConsoleRests v.console.state
 near_settles h p low high q f t w v a s n few e = settles_from h p low high q f t 0 0 w v a s
     (record { near = n; tight = tight_zero h p low high w.console.state w.console.idle w.console.history n; budget = inr (2, omega arith, few) }) e
 

@@ -18,7 +18,7 @@ use Rattle.console_model.specs.Line.{at_line, to, says_reply, does, silent}
 use Rattle.console_model.specs.Tick.{tick}
 use Rattle.console_model.specs.Due.{due_in_state, due_by, in_the_way, hold, put}
 use Rattle.console_model.specs.Hear.{dump_ended}
-use Rattle.schedule_file.specs.Fates.{Fates}
+use Rattle.schedule_file.specs.Fates.{FatesByNumber}
 use Rattle.station_sim.specs.Delivery.{delivered, late}
 use Rattle.station_sim.specs.Line.{Line, flies, joins, happens, reply_joins, unanswered, hears, message_counted, sends_message, due_all}
 use Rattle.serial_link.specs.declared.talk.TalkItem.{TalkItem}
@@ -74,7 +74,7 @@ pub record Replied (o : Outcome) (w u : Line) : Type 0 where
   pub waits : waits_of u.flight ≤ 2
   pub bytes : bytes_of u.flight ≡ o.bytes
 
-pub replies_whole : (f : Fates) → AreMild f → (o : Outcome) (w : Line) → w.flight ≡ [] → (reply_joins f o w).harmed ≡ w.harmed → Replied o w (reply_joins f o w)
+pub replies_whole : (f : FatesByNumber) → AreMild f → (o : Outcome) (w : Line) → w.flight ≡ [] → (reply_joins f o w).harmed ≡ w.harmed → Replied o w (reply_joins f o w)
 replies_whole f mild o w e h =
     let n = w.replies + 1 in
     let got = delivered (f.reply n) o.bytes in
@@ -88,11 +88,11 @@ replies_whole f mild o w e h =
     }
 
 -- what an LF makes of a console that rests
-LfHeard : Fates → Line → ConsoleState → List (List ℕ) → Line → Type 0
+LfHeard : FatesByNumber → Line → ConsoleState → List (List ℕ) → Line → Type 0
 LfHeard f w s hs v = ((s ≡ Asleep) × ((g : List (List ℕ)) × (d : Store) × (v ≡ unanswered (silent (at_state g d [] (Command []) 0)) w)))
     ⊎ ((g : List (List ℕ)) × (d : Store) × (v ≡ reply_joins f (says_reply Wake (10 ∷ 13 ∷ []) (at_state g d [] (Command []) 0)) w))
 
-lf_by : (f : Fates) (w : Line) (g : List (List ℕ)) (d : Store) (hs : List (List ℕ)) (s : ConsoleState) (i : ℕ) → ConsoleRests s → IsTidy s hs → LfHeard f w s hs (hears f (10 ∷ []) (record w { console = at_state g d hs s i }))
+lf_by : (f : FatesByNumber) (w : Line) (g : List (List ℕ)) (d : Store) (hs : List (List ℕ)) (s : ConsoleState) (i : ℕ) → ConsoleRests s → IsTidy s hs → LfHeard f w s hs (hears f (10 ∷ []) (record w { console = at_state g d hs s i }))
 unfolding LfHeard
 lf_by f w g d hs Asleep i r t = inl (refl, (g, d, ap (λ x. unanswered (silent (at_state g d x (Command []) 0)) w) t))
 lf_by f w g d hs (Command []) i r t =
@@ -106,10 +106,10 @@ lf_by f w g d hs (Dump p sent) i r t =
     inr (g ++ hs, d, ap (λ o. happens f (at_line o (dump_ended c)) (record w { console = c })) (read_empty [] refl))
 lf_by f w g d hs (Looping n) i r t = absurd r
 
-lf_heard : (f : Fates) (w : Line) → ConsoleRests w.console.state → IsTidy w.console.state w.console.held → LfHeard f w w.console.state w.console.held (hears f (10 ∷ []) w)
+lf_heard : (f : FatesByNumber) (w : Line) → ConsoleRests w.console.state → IsTidy w.console.state w.console.held → LfHeard f w w.console.state w.console.held (hears f (10 ∷ []) w)
 lf_heard f w r t = lf_by f w w.console.history w.console.store w.console.held w.console.state w.console.idle r t
 
-rouses : (f : Fates) → AreMild f → (m : List ℕ) (w : Line) → m ≡ 10 ∷ [] → w.flight ≡ [] → ConsoleRests w.console.state → IsTidy w.console.state w.console.held → (sends_message f m w).harmed ≡ w.harmed → Roused w (sends_message f m w)
+rouses : (f : FatesByNumber) → AreMild f → (m : List ℕ) (w : Line) → m ≡ 10 ∷ [] → w.flight ≡ [] → ConsoleRests w.console.state → IsTidy w.console.state w.console.held → (sends_message f m w).harmed ≡ w.harmed → Roused w (sends_message f m w)
 unfolding LfHeard CommandAfter
 rouses f mild m w is e r t h =
     let z = sent_whole f m w h in
@@ -153,7 +153,7 @@ whole_of xs a b e l =
     (sym (e ∙ ap (λ x. a ++ x) z ∙ append-nil a), z)
 
 -- one LF and its settling
-woken : (f : Fates) → AreMild f → (s : List TalkItem) (w v : Line) → w.flight ≡ [] → w.begun ≡ [] → ConsoleRests w.console.state → IsTidy w.console.state w.console.held → Still answer_waits s → console_talk f (Said 10 true ∷ s) w ≡ Some v → v.harmed ≡ w.harmed →
+woken : (f : FatesByNumber) → AreMild f → (s : List TalkItem) (w v : Line) → w.flight ≡ [] → w.begun ≡ [] → ConsoleRests w.console.state → IsTidy w.console.state w.console.held → Still answer_waits s → console_talk f (Said 10 true ∷ s) w ≡ Some v → v.harmed ≡ w.harmed →
     Awake 5 w v × ((w.console.state ≡ Asleep) ⊎ (ends_awake (heard s) ≡ true))
 woken f mild s w v fl bg rests tidy still e h =
     let m = w.begun ++ 10 ∷ [] in
@@ -168,7 +168,7 @@ woken f mild s w v fl bg rests tidy still e h =
       ],
     )
 
-woken_again : (f : Fates) → AreMild f → (n : ℕ) (s : List TalkItem) (w u v : Line) → Awake n w u → Still answer_waits s → console_talk f (Said 10 true ∷ s) u ≡ Some v → v.harmed ≡ u.harmed → Awake 5 w v × (ends_awake (heard s) ≡ true)
+woken_again : (f : FatesByNumber) → AreMild f → (n : ℕ) (s : List TalkItem) (w u v : Line) → Awake n w u → Still answer_waits s → console_talk f (Said 10 true ∷ s) u ≡ Some v → v.harmed ≡ u.harmed → Awake 5 w v × (ends_awake (heard s) ≡ true)
 woken_again f mild n s w u v a still e h =
     let r = woken f mild s u v a.flight a.begun (subst (λ c. ConsoleRests c.state) (sym a.console) refl) (subst (λ c. IsTidy c.state c.held) (sym a.console) refl) still e h in
     let k = r.0 in (
@@ -190,7 +190,7 @@ feeds_more (Dump p sent) t x = x
 feeds_more (Looping left) t x = x
 
 -- the wake law: one line feed, or two where the console is asleep
-pub wake_law : (f : Fates) → AreMild f → (t : List TalkItem) (awake : Bool) (w v : Line) → w.flight ≡ [] → w.begun ≡ [] → ConsoleRests w.console.state → IsTidy w.console.state w.console.held → Wakes wake_tries t awake → console_talk f t w ≡ Some v → v.harmed ≡ w.harmed →
+pub wake_law : (f : FatesByNumber) → AreMild f → (t : List TalkItem) (awake : Bool) (w v : Line) → w.flight ≡ [] → w.begun ≡ [] → ConsoleRests w.console.state → IsTidy w.console.state w.console.held → Wakes wake_tries t awake → console_talk f t w ≡ Some v → v.harmed ≡ w.harmed →
     Wakes (feeds_for w.console.state) t true × Awake 5 w v × (awake ≡ true)
 wake_law f mild t awake w v fl bg r y (s, rest, split, still, inl (x, none, is)) e h =
     let q : Said 10 true ∷ s ≡ t = rw (split, none) (sym (append-nil (Said 10 true ∷ s))) in
@@ -215,13 +215,13 @@ wake_law f mild t awake w v fl bg r y (s, rest, split, still, inr (x, (s2, rest2
     absurd (let z : true ≡ false = sym b.1 ∙ x2 in cc)
 
 -- DMPAFT, to a console that is awake
-call_by : (f : Fates) (w : Line) (g : List (List ℕ)) (d : Store) (i : ℕ) → hears f dmpaft (record w { console = at_state g d [] (Command []) i }) ≡ reply_joins f (does Ack (6 ∷ []) (at_state g d [] (Frame ForDump []) 0)) w
+call_by : (f : FatesByNumber) (w : Line) (g : List (List ℕ)) (d : Store) (i : ℕ) → hears f dmpaft (record w { console = at_state g d [] (Command []) i }) ≡ reply_joins f (does Ack (6 ∷ []) (at_state g d [] (Frame ForDump []) 0)) w
 unfolding dmpaft
 call_by f w g d i =
     let c = at_state g d [] (Command (68 ∷ 77 ∷ 80 ∷ 65 ∷ 70 ∷ 84 ∷ [])) 0 in
     ap (λ o. happens f (at_line o c) (record w { console = c })) read_dump_after
 
-pub call_law : (f : Fates) → AreMild f → (n : ℕ) (t : List TalkItem) (w u v : Line) → Awake n w u → Awaits answer_waits 1 t → console_talk f (message dmpaft ++ t) u ≡ Some v → v.harmed ≡ u.harmed → Waiting w v × (heard t ≡ 6 ∷ [])
+pub call_law : (f : FatesByNumber) → AreMild f → (n : ℕ) (t : List TalkItem) (w u v : Line) → Awake n w u → Awaits answer_waits 1 t → console_talk f (message dmpaft ++ t) u ≡ Some v → v.harmed ≡ u.harmed → Waiting w v × (heard t ≡ 6 ∷ [])
 call_law f mild n t w u v a awaits e h =
     let m = u.begun ++ dmpaft in
     let is : m ≡ dmpaft = ap (λ x. x ++ dmpaft) a.begun in
@@ -281,7 +281,7 @@ due_dump (r ∷ rs) p k g d i hs n =
     held_way (λ x. Held p k g d i (length hs + length (r ∷ rs)) (due_all rs x)) (in_the_way r c) r c
     (held_room (λ x. Held p k g d i (length hs + length (r ∷ rs)) (due_all rs x)) (nat_lt (length hs) most_held) (hold r c) (put r (dump_ended c)) (grind arith) a) b
 
-pub messages_joins : (k : ReplyKind) (f : Fates) (o : Outcome) (w : Line) → (joins k f o w).messages ≡ w.messages
+pub messages_joins : (k : ReplyKind) (f : FatesByNumber) (o : Outcome) (w : Line) → (joins k f o w).messages ≡ w.messages
 messages_joins Nothing f o w = refl
 messages_joins Code f o w = refl
 messages_joins Wake f o w = refl
@@ -291,7 +291,7 @@ messages_joins AckFrame f o w = refl
 messages_joins Page f o w = refl
 messages_joins Packet f o w = refl
 
-pub listens_messages : (f : Fates) (t : List TalkItem) (w v : Line) → OnlyListens t → console_talk f t w ≡ Some v → v.messages ≡ w.messages
+pub listens_messages : (f : FatesByNumber) (t : List TalkItem) (w v : Line) → OnlyListens t → console_talk f t w ≡ Some v → v.messages ≡ w.messages
 listens_messages f [] w v s e = ap (λ x. x.messages) (sym (same_Some w v e))
 listens_messages f (Said b ends ∷ t) w v s e = absurd s
 listens_messages f (Heard b ∷ t) w v s e =
@@ -305,12 +305,12 @@ listens_messages f (Quiet ∷ t) w v s e =
     listens_messages f t g.0 v s g.2 ∙ ap (λ x. x.messages) q.2 ∙ messages_joins (tick c).kind f (tick c) (flies w q.0)
 
 -- page k, asked for
-pub next_page : (f : Fates) (w : Line) (g : List (List ℕ)) (d : Store) (i : ℕ) (hs : List (List ℕ)) (p : Plan) (k : ℕ) → nat_lt k p.pages ≡ true → hears f (6 ∷ []) (record w { console = at_state g d hs (Dump p k) i }) ≡ reply_joins f (says_reply Page (page_of g p k) (at_state g d hs (Dump p (k + 1)) 0)) w
+pub next_page : (f : FatesByNumber) (w : Line) (g : List (List ℕ)) (d : Store) (i : ℕ) (hs : List (List ℕ)) (p : Plan) (k : ℕ) → nat_lt k p.pages ≡ true → hears f (6 ∷ []) (record w { console = at_state g d hs (Dump p k) i }) ≡ reply_joins f (says_reply Page (page_of g p k) (at_state g d hs (Dump p (k + 1)) 0)) w
 next_page f w g d i hs p k e =
     let c = at_state g d hs (Dump p k) i in
     ap (λ t. happens f (if t then says_reply Page (page_of g p k) (at_state g d hs (Dump p (k + 1)) 0) else silent (to (dump_ended c) (Command []))) (record w { console = c })) e
 
-pub page_law : (f : Fates) → AreMild f → (g : List (List ℕ)) (p : Plan) (k : ℕ) (t : List TalkItem) (w v : Line) → k < p.pages → InDump f g p k w → Awaits answer_waits page_size t → console_talk f (Said 6 true ∷ t) w ≡ Some v → v.harmed ≡ w.harmed →
+pub page_law : (f : FatesByNumber) → AreMild f → (g : List (List ℕ)) (p : Plan) (k : ℕ) (t : List TalkItem) (w v : Line) → k < p.pages → InDump f g p k w → Awaits answer_waits page_size t → console_talk f (Said 6 true ∷ t) w ≡ Some v → v.harmed ≡ w.harmed →
     (heard t ≡ page_of g p k) × InDump f g p (k + 1) v
 page_law f mild g p k t w v below a awaits e h =
     let m = w.begun ++ 6 ∷ [] in

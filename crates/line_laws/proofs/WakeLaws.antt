@@ -9,7 +9,7 @@ use Rattle.console_model.specs.declared.frame.FrameKind.TheVariants.{ForDump}
 use Rattle.console_model.specs.Console.ConsoleState.{Asleep, Command, Overlong, Frame, Dump, Looping}
 use Rattle.console_model.specs.declared.reply.ReplyKind.TheVariants.{Ack}
 use Rattle.console_model.specs.Line.{does}
-use Rattle.schedule_file.specs.Fates.{Fates}
+use Rattle.schedule_file.specs.Fates.{FatesByNumber}
 use Rattle.station_sim.specs.Delivery.{delivered, late}
 use Rattle.station_sim.specs.Line.{Line, reply_joins, hears, completes, pages, message_counted, sends_message, says_byte, due_all, begins_with_ack}
 use Rattle.serial_link.specs.declared.talk.TalkItem.{TalkItem}
@@ -78,7 +78,7 @@ pub near_itself : (c : Console) → ConsoleRests c.state → AreRecords c.histor
 near_itself c r ok = near_own c.state c.idle c.history r ok
 
 -- one LF and its settling
-pub woken : (f : Fates) → AreSound f → (s : List TalkItem) (w v : Line) → Rested w → Still answer_waits s → console_talk f (Said 10 true ∷ s) w ≡ Some v → Rested v × (v.dumps ≡ w.dumps)
+pub woken : (f : FatesByNumber) → AreSound f → (s : List TalkItem) (w v : Line) → Rested w → Still answer_waits s → console_talk f (Said 10 true ∷ s) w ≡ Some v → Rested v × (v.dumps ≡ w.dumps)
 woken f ok s w v r still e =
     let h = w.console.history in
     let p = own_plan w.console.state in
@@ -88,7 +88,7 @@ woken f ok s w v r still e =
     (record { flight = z.flight; begun = z.begun ∙ a.begun; rests = z.rests; sound = sound_talk f ok (Said 10 true ∷ s) w v e r.sound }, z.dumps ∙ a.dumps)
 
 -- the wake leaves a line at rest
-pub wakes_law : (f : Fates) → AreSound f → (left : ℕ) (t : List TalkItem) (awake : Bool) (w v : Line) → Rested w → Wakes left t awake → console_talk f t w ≡ Some v → Rested v × (v.dumps ≡ w.dumps)
+pub wakes_law : (f : FatesByNumber) → AreSound f → (left : ℕ) (t : List TalkItem) (awake : Bool) (w v : Line) → Rested w → Wakes left t awake → console_talk f t w ≡ Some v → Rested v × (v.dumps ≡ w.dumps)
 wakes_law f ok zero t awake w v r (none, is) e =
     let q : w ≡ v = same_Some w v (ap (λ x. console_talk f x w) (sym none) ∙ e) in (subst Rested q r, ap (λ x. x.dumps) (sym q))
 wakes_law f ok (suc left) t awake w v r (s, rest, split, still, inl (x, none, y)) e =
@@ -101,7 +101,7 @@ wakes_law f ok (suc left) t awake w v r (s, rest, split, still, inr (x, again)) 
     (q.0, q.1 ∙ a.1)
 
 -- no settling of a wake floods
-pub wake_no_flood : (f : Fates) → AreSound f → (left : ℕ) (t : List TalkItem) (w v : Line) → Rested w → WakeFloods left t → console_talk f t w ≡ Some v → ⊥
+pub wake_no_flood : (f : FatesByNumber) → AreSound f → (left : ℕ) (t : List TalkItem) (w v : Line) → Rested w → WakeFloods left t → console_talk f t w ≡ Some v → ⊥
 wake_no_flood f ok zero t w v r x e = x
 wake_no_flood f ok (suc left) t w v r (s, rest, split, inl (flood, none)) e =
     let is : Said 10 true ∷ s ≡ t = rw (split, none) (sym (append-nil (Said 10 true ∷ s))) in
@@ -169,7 +169,7 @@ record Called (w v : Line) : Type 0 where
   begun : v.begun ≡ []
   dumps : v.dumps ≡ w.dumps
 
-pub call_goes : (f : Fates) (t : List TalkItem) (w : Line) → console_talk f (message dmpaft ++ t) w ≡ console_talk f t (sends_message f (w.begun ++ dmpaft) w)
+pub call_goes : (f : FatesByNumber) (t : List TalkItem) (w : Line) → console_talk f (message dmpaft ++ t) w ≡ console_talk f t (sends_message f (w.begun ++ dmpaft) w)
 unfolding dmpaft
 call_goes f t w = message_goes f 68 (77 ∷ 80 ∷ 65 ∷ 70 ∷ 84 ∷ 10 ∷ []) t w
 
@@ -180,7 +180,7 @@ call_length = refl
 long_call : (m : List ℕ) → m ≡ dmpaft → nat_lt 1 (length m) ≡ true
 long_call m e = let l : length m ≡ 7 = ap length e ∙ call_length in rw l refl
 
-calls_plainly : (f : Fates) → AreSound f → (m : List ℕ) (w : Line) → m ≡ dmpaft → Rested w → (sends_message f m w).unseen ≡ None →
+calls_plainly : (f : FatesByNumber) → AreSound f → (m : List ℕ) (w : Line) → m ≡ dmpaft → Rested w → (sends_message f m w).unseen ≡ None →
     completes (delivered (f.host (w.messages + 1)) m) w.console ≡ false → pages (delivered (f.host (w.messages + 1)) m) w.console ≡ false →
     Strayed w (sends_message f m w) × (begins_with_ack (bytes_of (sends_message f m w).flight) ≡ false)
 calls_plainly f ok m w e r u c g =
@@ -201,7 +201,7 @@ calls_plainly f ok m w e r u c g =
       y.no_ack (rw r.flight refl),
     )
 
-calls_frame : (f : Fates) → AreSound f → (m : List ℕ) (w : Line) → Rested w → delivered (f.host (w.messages + 1)) m ≡ dmpaft → (g : List (List ℕ)) (d : Store) (hs : List (List ℕ)) →
+calls_frame : (f : FatesByNumber) → AreSound f → (m : List ℕ) (w : Line) → Rested w → delivered (f.host (w.messages + 1)) m ≡ dmpaft → (g : List (List ℕ)) (d : Store) (hs : List (List ℕ)) →
     hears f dmpaft (message_counted f m w) ≡ reply_joins f (does Ack (6 ∷ []) (at_state g d hs (Frame ForDump []) 0)) (message_counted f m w) → Called w (sends_message f m w)
 calls_frame f ok m w r e g d hs q =
     let o = does Ack (6 ∷ []) (at_state g d hs (Frame ForDump []) 0) in
@@ -222,7 +222,7 @@ calls_frame f ok m w r e g d hs q =
       dumps = ap (λ x. x.dumps) z ∙ append-nil w.dumps;
     }
 
-called : (f : Fates) → AreSound f → (m : List ℕ) (w : Line) → m ≡ dmpaft → Rested w → (sends_message f m w).unseen ≡ None →
+called : (f : FatesByNumber) → AreSound f → (m : List ℕ) (w : Line) → m ≡ dmpaft → Rested w → (sends_message f m w).unseen ≡ None →
     Called w (sends_message f m w) ⊎ (Strayed w (sends_message f m w) × (begins_with_ack (bytes_of (sends_message f m w).flight) ≡ false))
 called f ok m w e r u = elim (harm_cases m (delivered (f.host (w.messages + 1)) m)) [
   | inl a ↦ (let z = seen_host f m w u a in inr (calls_plainly f ok m w e r u z.0 (z.1 (long_call m e))))
@@ -232,7 +232,7 @@ called f ok m w e r u = elim (harm_cases m (delivered (f.host (w.messages + 1)) 
   ]
 ]
 
-pub strayed_on : (f : Fates) (t : List TalkItem) (w u v : Line) → OnlyListens t → Strayed w u → console_talk f t u ≡ Some v → Strayed w v
+pub strayed_on : (f : FatesByNumber) (t : List TalkItem) (w u v : Line) → OnlyListens t → Strayed w u → console_talk f t u ≡ Some v → Strayed w v
 strayed_on f t w u v s k e =
     let l = listens k.history k.plan k.low k.high f t u v s k.tame.near e in
     record {
@@ -245,7 +245,7 @@ strayed_on f t w u v s k e =
       dumps = l.dumps ∙ k.dumps;
     }
 
-no_ack_heard : (f : Fates) (t : List TalkItem) (w u v : Line) → OnlyListens t → Strayed w u → console_talk f t u ≡ Some v → begins_with_ack (bytes_of u.flight) ≡ false → ¬ (heard t ≡ 6 ∷ [])
+no_ack_heard : (f : FatesByNumber) (t : List TalkItem) (w u v : Line) → OnlyListens t → Strayed w u → console_talk f t u ≡ Some v → begins_with_ack (bytes_of u.flight) ≡ false → ¬ (heard t ≡ 6 ∷ [])
 no_ack_heard f t w u v s k e b is =
     let l = listens k.history k.plan k.low k.high f t u v s k.tame.near e in
     let z : bytes_of u.flight ≡ 6 ∷ bytes_of v.flight = l.bytes ∙ ap (λ x. x ++ bytes_of v.flight) is in
@@ -273,7 +273,7 @@ called_on t w u v k sound (inr (short, none)) (inl q) = absurd (omega (arith, q.
 called_on t w u v k sound (inr (short, none)) (inr q) = inr (unframed_strayed w u v t 1 0 (omega arith) k.begun k.dumps q, λ is. omega (arith, none, ap length is))
 
 -- DMPAFT and the one byte after it: the console awaits a frame, or no 0x06 was heard
-pub asks_law : (f : Fates) → AreSound f → (t : List TalkItem) (w v : Line) → Rested w → Awaits answer_waits 1 t → console_talk f (message dmpaft ++ t) w ≡ Some v → v.unseen ≡ None →
+pub asks_law : (f : FatesByNumber) → AreSound f → (t : List TalkItem) (w v : Line) → Rested w → Awaits answer_waits 1 t → console_talk f (message dmpaft ++ t) w ≡ Some v → v.unseen ≡ None →
     Awaiting [] w v ⊎ (Strayed w v × ¬ (heard t ≡ 6 ∷ []))
 asks_law f ok t w v r awaits e u =
     let m = w.begun ++ dmpaft in

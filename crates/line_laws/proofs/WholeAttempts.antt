@@ -12,7 +12,7 @@ use Rattle.console_ring.specs.Picture.{page_of}
 use Rattle.console_model.specs.declared.frame.FrameKind.TheVariants.{ForDump}
 use Rattle.console_model.specs.Console.ConsoleState.{Asleep, Command, Overlong, Frame, Dump, Looping}
 use Rattle.console_model.specs.Tick.{tick, ticked_in, idle_after}
-use Rattle.schedule_file.specs.Fates.{Fates}
+use Rattle.schedule_file.specs.Fates.{FatesByNumber}
 use Rattle.station_sim.specs.Delivery.{delivered}
 use Rattle.station_sim.specs.Line.{Line, flies, happens, reply_joins, hears, message_counted, sends_message, due_all}
 use Rattle.serial_link.specs.declared.talk.TalkItem.{TalkItem}
@@ -46,7 +46,7 @@ use Rattle.line_laws.proofs.WakeLaws.{wake_no_flood}
 use Rattle.line_laws.proofs.Pages.{awaits_listens}
 use Rattle.line_laws.proofs.HeaderLaws.{heading, good_frame, whole_frame, frame_goes, near_start}
 use Rattle.line_laws.proofs.Clean.{sends_harmed, goes_harmed, sent_whole, steady_full, waits_of, awaits_full}
-use Rattle.line_laws.proofs.Attempts.{listens_begun}
+use Rattle.line_laws.proofs.Attempts.{listens_begun, settled_line}
 use Rattle.line_laws.specs.Unharmed.{Awake, Waiting, InDump}
 use Rattle.line_laws.proofs.Unharmed.{wake_law, call_law, Held, due_dump, listens_messages, replies_whole, whole_of, page_law}
 
@@ -103,7 +103,7 @@ tidy_tick (Dump p sent) three false fifth g d hs i t = tt
 tidy_tick (Looping n) three much true g d hs i t = tidy_if (nat_lt 1 n) (at_state g d hs (Looping (n - 1)) i) (at_state g d hs (Command []) 0) t t
 tidy_tick (Looping n) three much false g d hs i t = t
 
-listens_tidy : (f : Fates) (t : List TalkItem) (w v : Line) → OnlyListens t → IsTidy w.console.state w.console.held → console_talk f t w ≡ Some v → IsTidy v.console.state v.console.held
+listens_tidy : (f : FatesByNumber) (t : List TalkItem) (w v : Line) → OnlyListens t → IsTidy w.console.state w.console.held → console_talk f t w ≡ Some v → IsTidy v.console.state v.console.held
 listens_tidy f [] w v s k e = subst (λ x. IsTidy x.console.state x.console.held) (same_Some w v e) k
 listens_tidy f (Said b ends ∷ t) w v s k e = absurd s
 listens_tidy f (Heard b ∷ t) w v s k e =
@@ -117,7 +117,7 @@ listens_tidy f (Quiet ∷ t) w v s k e =
     let y : g.0.console ≡ (tick c).next = ap (λ x. x.console) q.2 ∙ console_joins (tick c).kind f (tick c) (flies w q.0) in
     listens_tidy f t g.0 v s (subst (λ x. IsTidy x.state x.held) (sym y) (tidy_tick c.state _ _ _ c.history c.store c.held (idle_after c.state c.idle) k)) g.2
 
-module _ (frame : List ℕ) (good : is_good frame ≡ true) (f : Fates) (ok : AreSound f) where
+module _ (frame : List ℕ) (good : is_good frame ≡ true) (f : FatesByNumber) (ok : AreSound f) where
   is_page : (g : List (List ℕ)) (p : Plan) (k : ℕ) (bytes : List ℕ) → AreRecords g → bytes ≡ page_of g p k → is_page_for k bytes ≡ true
   is_page g p k bytes records e = page_for k bytes (ap length e ∙ page_length g p k records) (ap is_good e ∙ page_is_good g p k) (ap (has_sequence (k % 256)) e ∙ page_has g p k)
 
@@ -241,9 +241,7 @@ module _ (frame : List ℕ) (good : is_good frame ≡ true) (f : Fates) (ok : Ar
   clean_law talk place taken end w v six sound calm (inr (inl (flood, none, is))) e h = absurd (no_flood f 6 talk w v calm flood e)
   clean_law talk place taken end w v six sound calm (inr (inr (s, t, split, still, floods, none, is))) e h =
       let m = talks_part f s t w v (ap (λ x. console_talk f x w) (sym split) ∙ e) in
-      let settled = flight_law f ok.mild s w m.0 calm still m.1 in
-      let b = listens_begun f s w m.0 (Still-listens settled_waits s still) m.1 in
-      absurd (wake_no_flood f ok 3 t m.0 v (record { flight = settled.0; begun = b.0 ∙ calm.begun; rests = settled.1; sound = sound_talk f ok s w m.0 m.1 sound }) floods m.2)
+      absurd (wake_no_flood f ok 3 t m.0 v (settled_line f ok s w m.0 sound calm still m.1).0 floods m.2)
   clean_law talk place taken end w v six sound calm (inl (s, t, rest, awake, split, still, wakes, next)) e h =
       let m = talks_part f s (t ++ rest) w v (ap (λ x. console_talk f x w) (sym split) ∙ e) in
       let m2 = talks_part f t rest m.0 v m.2 in

@@ -9,7 +9,7 @@ use Rattle.schedule_file.specs.declared.schedule.turn.Turn.{Turn}
 use Rattle.schedule_file.specs.declared.schedule.turn.Turn.TheVariants.{Neither, Opening, InRound}
 use Rattle.schedule_file.specs.Steps.{Said, ScheduleStep, MidRecord, records_within, records_in_steps, turn_steps, steps_said, steps_seen}
 use Rattle.schedule_file.specs.Steps.ScheduleStep.{DueStep, RunStep, IdleStep}
-use Rattle.schedule_file.specs.Kinds.{Kind, kind_if, kinds, first_applying, told_kinds, count_kinds, is_in_round, is_due, is_below_last}
+use Rattle.schedule_file.specs.Kinds.{FaultKind, kind_if, kinds, first_applying, told_kinds, count_kinds, is_in_round, is_due, is_below_last}
 use Rattle.schedule_file.specs.Steps.{record_told}
 use Rattle.schedule_file.specs.declared.schedule.step.Step as Seen
 use Rattle.schedule_file.specs.Pieces.{lines_of}
@@ -18,7 +18,7 @@ use Rattle.schedule_file.proofs.Kept.{steps_kept}
 use Rattle.schedule_file.specs.Limits.{most_records, most_mids}
 
 -- the kinds behind some, where none of all applies
-least_behind : (ks more : List Kind) → first_applying (ks ++ more) ≡ None → first_applying more ≡ None
+least_behind : (ks more : List FaultKind) → first_applying (ks ++ more) ≡ None → first_applying more ≡ None
 least_behind [] more none = none
 least_behind (k ∷ ks) more none = go k.applies (least_behind ks more) none
   where
@@ -50,7 +50,7 @@ few_after period s (Reply number fate) few none = few
 few_after period s (Late number waits place) few none = few
 few_after period s (Mid number told) few none =
     let misplaced : Bool = not (is_in_round s.turn) || list_any is_due s.since in
-    let behind : List Kind = kind_if 13 (is_below_last s.details.mids number) ∷ kind_if 14 (nat_le most_mids (length s.details.mids)) ∷ [] in
+    let behind : List FaultKind = kind_if 13 (is_below_last s.details.mids number) ∷ kind_if 14 (nat_le most_mids (length s.details.mids)) ∷ [] in
     let more = least_behind (told_kinds period s told 1) (kind_if 8 misplaced ∷ kind_if 10 (nat_lt most_records (s.records + 1)) ∷ behind) none in
     let rest = rest_fails misplaced 8 (first_applying (kind_if 10 (nat_lt most_records (s.records + 1)) ∷ behind)) more in
     ltb-false most_records (s.records + 1) (first_fails (nat_lt most_records (s.records + 1)) 10 (first_applying behind) rest)
@@ -100,7 +100,7 @@ counted_after period s (Reply number fate) c none = c
 counted_after period s (Late number waits place) c none = c
 counted_after period s (Mid number told) c none =
     let misplaced : Bool = not (is_in_round s.turn) || list_any is_due s.since in
-    let behind : List Kind = kind_if 13 (is_below_last s.details.mids number) ∷ kind_if 14 (nat_le most_mids (length s.details.mids)) ∷ [] in
+    let behind : List FaultKind = kind_if 13 (is_below_last s.details.mids number) ∷ kind_if 14 (nat_le most_mids (length s.details.mids)) ∷ [] in
     let more = least_behind (told_kinds period s told 1) (kind_if 8 misplaced ∷ kind_if 10 (nat_lt most_records (s.records + 1)) ∷ behind) none in
     let within = in_round (is_in_round s.turn) (list_any is_due s.since)
     (first_fails misplaced 8 (first_applying (kind_if 10 (nat_lt most_records (s.records + 1)) ∷ behind)) more) in

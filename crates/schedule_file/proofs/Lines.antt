@@ -10,7 +10,7 @@ use Rattle.schedule_file.specs.declared.schedule.form.Told.{Told}
 use Rattle.schedule_file.specs.declared.schedule.form.Form.TheVariants as form
 use Rattle.schedule_file.specs.declared.fates.Mid.{Mid}
 use Rattle.schedule_file.specs.Steps.{Said, Details, MidRecord, mid_seen, details_seen}
-use Rattle.schedule_file.specs.Kinds.{is_below_last, is_in_round, is_due, Kind, kind_if, first_applying, told_kinds}
+use Rattle.schedule_file.specs.Kinds.{is_below_last, is_in_round, is_due, FaultKind, kind_if, first_applying, told_kinds}
 use Rattle.schedule_file.specs.Reading.{read_schedule_line, read_lines, accept, said_with_form, said_or}
 use Rattle.schedule_file.specs.Limits.{most_records, most_mids}
 
@@ -41,7 +41,7 @@ least_step true kind front all more rest none = cc
 least_step false kind front all more rest none = rest none
 
 -- kinds that do not apply, and more
-pub least_more : (ks more : List Kind) → first_applying ks ≡ None → first_applying (ks ++ more) ≡ first_applying more
+pub least_more : (ks more : List FaultKind) → first_applying ks ≡ None → first_applying (ks ++ more) ≡ first_applying more
 least_more [] more none = refl
 least_more (k ∷ ks) more none = least_step k.applies k.kind (first_applying ks) (first_applying (ks ++ more)) (first_applying more) (least_more ks more) none
 
@@ -69,7 +69,7 @@ pub mid_accepted : (period number : ℕ) (s : Said) (told : Told) → first_appl
     → list_any is_due s.since ≡ false → s.records + 1 ≤ most_records → is_below_last s.details.mids number ≡ false → length s.details.mids < most_mids
     → accept period s (form.Mid number told) ≡ Ok (said_with_form period s (form.Mid number told))
 mid_accepted period number s told none in_round no_due few not_below room =
-    let more : List Kind = kind_if 8 (not (is_in_round s.turn) || list_any is_due s.since) ∷ kind_if 10 (nat_lt most_records (s.records + 1))
+    let more : List FaultKind = kind_if 8 (not (is_in_round s.turn) || list_any is_due s.since) ∷ kind_if 10 (nat_lt most_records (s.records + 1))
     ∷ kind_if 13 (is_below_last s.details.mids number) ∷ kind_if 14 (nat_le most_mids (length s.details.mids)) ∷ [] in
     let rest : first_applying more ≡ None = rw (in_round, no_due, not_above most_records (s.records + 1) few, not_below, not_from most_mids (length s.details.mids) room) refl in
     ap (λ k. said_or k (said_with_form period s (form.Mid number told))) (least_more (told_kinds period s told 1) more none ∙ rest)

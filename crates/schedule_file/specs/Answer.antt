@@ -11,7 +11,7 @@ pub record HasSteps (schedule : Schedule) (said : Said) : Type 0 where
   pub steps : steps_seen schedule.period schedule.steps.items ≡ steps_said said
   pub records : schedule.records ≡ said.records
 
--- it is the schedule that was said, or the fault; want of memory may come at any time
+-- the answer is the schedule that was said, or the fault; want of memory may come at any time
 abbrev pub ScheduleReadsAs : Result Said LineFault → Result Schedule ScheduleFault → Type 0
 ScheduleReadsAs outcome (Ok schedule) = (said : Said) × (outcome ≡ Ok said) × HasSteps schedule said
 ScheduleReadsAs outcome (Err (Line line kind)) = outcome ≡ Err (record { line = line; kind = kind })

@@ -8,8 +8,9 @@ pub record Lateness : Type 0 where
   pub waits : ℕ
   pub place : ℕ
 
--- By numbers: what befalls the messages of each side, how late a reply is, and the records due after a host's message.
-pub record Fates : Type 0 where
+-- The fates of a round as functions. By the number of a message of either side, what befalls it. By that of a reply,
+-- how late it is. By that of a host's message, the records that are due after it.
+pub record FatesByNumber : Type 0 where
   pub host : ℕ → Option Fate
   pub reply : ℕ → Option Fate
   pub late : ℕ → Lateness

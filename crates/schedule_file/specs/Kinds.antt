@@ -58,39 +58,42 @@ is_below_last (x ∷ []) number = nat_lt number x.number
 is_below_last (x ∷ y ∷ xs) number = is_below_last (y ∷ xs) number
 
 -- A kind of fault, and whether it applies.
-pub record Kind : Type 0 where
+pub record FaultKind : Type 0 where
   pub kind : ℕ
   pub applies : Bool
 
 -- a kind of fault of this number, and whether it applies
-abbrev pub kind_if : ℕ → Bool → Kind
+abbrev pub kind_if : ℕ → Bool → FaultKind
 kind_if kind applies = record { kind = kind; applies = applies }
 
 -- of so many records: their stamps, their order, and their values
-abbrev pub told_kinds : ℕ → Said → Told → ℕ → List Kind
+abbrev pub told_kinds : ℕ → Said → Told → ℕ → List FaultKind
 told_kinds period s told count =
     kind_if 5 (is_no_stamp period told.stamp count) ∷ kind_if 6 (is_not_later s.newest told.stamp)
     ∷ kind_if 7 (has_no_record told.values) ∷ []
 
 -- too many records
-abbrev pub count_kinds : Said → ℕ → List Kind
+abbrev pub count_kinds : Said → ℕ → List FaultKind
 count_kinds s count = kind_if 10 (nat_lt most_records (s.records + count)) ∷ []
 
 -- too many `open` and `round`
-abbrev pub turn_kinds : Said → List Kind
+abbrev pub turn_kinds : Said → List FaultKind
 turn_kinds s = kind_if 11 (nat_lt most_turns (s.turns + 1)) ∷ []
 
 -- the kinds from 5 to 14 that a line of this form can have, in their order
-abbrev pub kinds : ℕ → Said → Form → List Kind
+abbrev pub kinds : ℕ → Said → Form → List FaultKind
 kinds period s (Due told) = told_kinds period s told 1 ++ count_kinds s 1
 kinds period s (Run first count) = told_kinds period s first count ++ count_kinds s count
 kinds period s (Idle ticks) = []
 kinds period s Open = turn_kinds s
 kinds period s Round = turn_kinds s
-kinds period s (Host number fate) = kind_if 8 (not (is_in_round s.turn)) ∷ kind_if 9 (is_listed s.details.host number) ∷ []
-kinds period s (Reply number fate) = kind_if 8 (not (is_in_round s.turn)) ∷ kind_if 9 (is_listed s.details.replies number) ∷ []
+kinds period s (Host number fate) =
+    kind_if 8 (not (is_in_round s.turn)) ∷ kind_if 9 (is_listed s.details.host number) ∷ []
+kinds period s (Reply number fate) =
+    kind_if 8 (not (is_in_round s.turn)) ∷ kind_if 9 (is_listed s.details.replies number) ∷ []
 kinds period s (Late number waits place) =
-    kind_if 8 (not (is_in_round s.turn)) ∷ kind_if 9 (is_listed s.details.lates number) ∷ kind_if 12 (nat_lt 2 waits) ∷ []
+    kind_if 8 (not (is_in_round s.turn)) ∷ kind_if 9 (is_listed s.details.lates number) ∷ kind_if 12 (nat_lt 2 waits)
+    ∷ []
 kinds period s (Mid number told) =
     told_kinds period s told 1
     ++ kind_if 8 (not (is_in_round s.turn) || list_any is_due s.since)
@@ -101,6 +104,6 @@ kinds period s (Mid number told) =
 kinds period s (Stop stop) = kind_if 8 (is_neither s.turn) ∷ kind_if 9 (is_some s.stop) ∷ []
 
 -- the first that applies
-abbrev pub first_applying : List Kind → Option ℕ
+abbrev pub first_applying : List FaultKind → Option ℕ
 first_applying [] = None
 first_applying (k ∷ ks) = if k.applies then Some k.kind else first_applying ks

@@ -7,7 +7,7 @@ use Rattle.std.specs.Map.{lookup}
 use Rattle.schedule_file.specs.declared.fates.Late.{Late}
 use Rattle.schedule_file.specs.declared.fates.Mid.{Mid}
 use Rattle.schedule_file.specs.declared.fates.Fates as lists
-use Rattle.schedule_file.specs.Fates.{Fates, Lateness}
+use Rattle.schedule_file.specs.Fates.{FatesByNumber, Lateness}
 
 -- of entries by the numbers of messages, that of this number
 abbrev pub entry_of : {A : Type 0} → ℕ → List (ℕ × A) → Option A
@@ -41,7 +41,7 @@ records_left_in [] n = []
 records_left_in (x ∷ xs) n = if nat_lt n x.number then x.rec ∷ records_left_in xs n else records_left_in xs n
 
 -- what the lists of a round's fates say
-abbrev pub fates_of : lists.Fates → Fates
+abbrev pub fates_of : lists.Fates → FatesByNumber
 fates_of f = record {
   host = λ n. entry_of n f.host.entries;
   reply = λ n. entry_of n f.replies.entries;
@@ -50,7 +50,7 @@ fates_of f = record {
 }
 
 -- every message comes as it was sent, and no record falls due
-abbrev pub no_fates : Fates
+abbrev pub no_fates : FatesByNumber
 no_fates = record {
   host = λ n. None;
   reply = λ n. None;

@@ -98,8 +98,8 @@ next_line number (Ok s) read_rest = read_rest s
 -- the lines from a number on, up to the first faulty one
 abbrev pub read_lines : ℕ → ℕ → List (List ℕ) → Said → Result Said LineFault
 read_lines period number [] s = Ok s
-read_lines period number (line
-    ∷ lines) s = next_line number (read_schedule_line period number line s) (λ said. read_lines period (number + 1) lines said)
+read_lines period number (line ∷ lines) s =
+    next_line number (read_schedule_line period number line s) (λ said. read_lines period (number + 1) lines said)
 
 -- what all lines of a text say
 unfoldable pub said_by_text : List ℕ → ℕ → Result Said LineFault

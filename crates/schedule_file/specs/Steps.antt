@@ -34,7 +34,7 @@ pub record Details : Type 0 where
 abbrev pub no_details : Details
 no_details = record { host = []; replies = []; lates = []; mids = [] }
 
--- A step of a schedule. A record is told by what its bytes read as.
+-- A step of a schedule as its text has it. A record is told by what its bytes read as.
 pub data ScheduleStep : Type 0 where
   DueStep : RecordRead → ScheduleStep
   RunStep : RecordRead → ℕ → ScheduleStep
@@ -128,7 +128,7 @@ details_seen period f = record {
   mids = map (mid_seen period) f.mids.items;
 }
 
--- the same of the code's steps, of a schedule of this period
+-- a step of the code, of a schedule of this period, as its text has it
 abbrev pub step_seen : ℕ → code_step.Step → ScheduleStep
 step_seen period (code.Due r) = DueStep (reading r period)
 step_seen period (code.Run first count) = RunStep (reading first period) count
@@ -136,6 +136,6 @@ step_seen period (code.Idle ticks) = IdleStep ticks
 step_seen period (code.Open stop) = OpenStep stop
 step_seen period (code.Round fates stop) = RoundStep (details_seen period fates) stop
 
--- all of the code's steps, of a schedule of this period
+-- all steps of the code, of a schedule of this period, as its text has them
 abbrev pub steps_seen : ℕ → List code_step.Step → List ScheduleStep
 steps_seen period steps = map (step_seen period) steps

@@ -16,7 +16,7 @@ use Rattle.schedule_file.specs.declared.fate.Fate.TheVariants.{Lost, Cut, Droppe
 abbrev pub number_in_word : List ℕ → Option ℕ
 number_in_word word = number_in 10 7 word
 
--- the same in a range
+-- a number of a schedule that is in this range
 abbrev pub schedule_number_within : ℕ → ℕ → List ℕ → Option ℕ
 schedule_number_within least greatest word = decimal_within 7 least greatest word
 

@@ -21,7 +21,7 @@ pub struct Late {
     ghost mild: { waits ≤ 2 },
 }
 
-/// A record that falls due after the host's message of this number.
+/// A record that falls due in the middle of a round: after the host's message of this number.
 #[derive(Clone, Copy)]
 pub struct Mid {
     pub number: u32,

@@ -8,7 +8,7 @@ use Rattle.console_model.specs.Hear.{hear}
 use Rattle.station_sim.specs.declared.part.Part.{Part}
 use Rattle.station_sim.specs.declared.part.Part.TheVariants.{Byte}
 use Rattle.station_sim.specs.Calm.{IsCalm, IsBrief, FewWaits, EndsInByte, pending}
-use Rattle.schedule_file.specs.Fates.{Fates}
+use Rattle.schedule_file.specs.Fates.{FatesByNumber}
 use Rattle.station_sim.specs.Delivery.{late, waits, all_bytes}
 use Rattle.station_sim.specs.Line.{Line, happens, hears, joins}
 use Rattle.station_sim.specs.Talk.{fresh_line}
@@ -60,7 +60,7 @@ fresh_calm k brief = record {
   waits = tt;
 }
 
-joins_one : (kind : ReplyKind) (f : Fates) (o : Outcome) (w : Line) → (joins kind f o w).replies ≤ w.replies + 1
+joins_one : (kind : ReplyKind) (f : FatesByNumber) (o : Outcome) (w : Line) → (joins kind f o w).replies ≤ w.replies + 1
 joins_one Nothing f o w = omega arith
 joins_one Code f o w = omega arith
 joins_one Wake f o w = omega arith
@@ -71,7 +71,7 @@ joins_one Page f o w = omega arith
 joins_one Packet f o w = omega arith
 
 -- each byte that is heard is answered at most once
-pub few_replies : (f : Fates) (bs : List ℕ) (w : Line) → (hears f bs w).replies ≤ w.replies + length bs
+pub few_replies : (f : FatesByNumber) (bs : List ℕ) (w : Line) → (hears f bs w).replies ≤ w.replies + length bs
 few_replies f [] w = omega arith
 few_replies f (b ∷ bs) w =
     let v = happens f (hear w.console b) w in

@@ -21,7 +21,7 @@ use Rattle.serial_link.specs.declared.talk.TalkItem.{TalkItem}
 use Rattle.serial_link.specs.declared.talk.TalkItem.TheVariants.{Said, Heard, Quiet}
 use Rattle.station_sim.specs.declared.part.Part.{Part}
 use Rattle.station_sim.specs.declared.part.Part.TheVariants.{Byte, Wait}
-use Rattle.schedule_file.specs.Fates.{Fates}
+use Rattle.schedule_file.specs.Fates.{FatesByNumber}
 use Rattle.station_sim.specs.Delivery.{delivered}
 use Rattle.station_sim.specs.Line.{Line, flies, happens, joins, hears, due_all, message_counted, says_byte}
 use Rattle.station_sim.specs.Talk.{line_step, console_talk, hearing, waiting, ConsoleTalk, idles}
@@ -77,7 +77,7 @@ well_due_all [] c ok well = well
 well_due_all (r ∷ rs) c ok well = well_due_all rs (due r c) ok.2 (well_due r c ok.0 ok.1 well)
 
 -- what an event makes of the line's console
-pub console_joins : (k : ReplyKind) (f : Fates) (o : Outcome) (w : Line) → (joins k f o w).console ≡ o.next
+pub console_joins : (k : ReplyKind) (f : FatesByNumber) (o : Outcome) (w : Line) → (joins k f o w).console ≡ o.next
 console_joins Nothing f o w = refl
 console_joins Code f o w = refl
 console_joins Wake f o w = refl
@@ -87,14 +87,14 @@ console_joins AckFrame f o w = refl
 console_joins Page f o w = refl
 console_joins Packet f o w = refl
 
-pub well_happens : (f : Fates) (o : Outcome) (w : Line) → IsWell o.next → IsWell (happens f o w).console
+pub well_happens : (f : FatesByNumber) (o : Outcome) (w : Line) → IsWell o.next → IsWell (happens f o w).console
 well_happens f o w well = subst IsWell (sym (console_joins o.kind f o w)) well
 
-pub well_hears : (f : Fates) (got : List ℕ) (w : Line) → IsWell w.console → IsWell (hears f got w).console
+pub well_hears : (f : FatesByNumber) (got : List ℕ) (w : Line) → IsWell w.console → IsWell (hears f got w).console
 well_hears f [] w well = well
 well_hears f (b ∷ got) w well = well_hears f got (happens f (hear w.console b) w) (well_happens f (hear w.console b) w (well_heard w.console b well))
 
-pub well_says : (f : Fates) → AreSound f → (b : ℕ) (ends : Bool) (w : Line) → IsWell w.console → IsWell (says_byte f b ends w).console
+pub well_says : (f : FatesByNumber) → AreSound f → (b : ℕ) (ends : Bool) (w : Line) → IsWell w.console → IsWell (says_byte f b ends w).console
 well_says f ok b false w well = well
 well_says f ok b true w well =
     let message = w.begun ++ b ∷ [] in
@@ -110,17 +110,17 @@ well_hearing (Byte x ∷ l) b w v e well = go (x == b) e
     go true e = subst (λ (u : Line). IsWell u.console) (same_Some (flies w l) v e) well
     go false e = cc
 
-well_waiting : (l : List Part) (f : Fates) (w v : Line) → waiting l f w ≡ Some v → IsWell w.console → IsWell v.console
+well_waiting : (l : List Part) (f : FatesByNumber) (w v : Line) → waiting l f w ≡ Some v → IsWell w.console → IsWell v.console
 well_waiting [] f w v e well = subst (λ (u : Line). IsWell u.console) (same_Some _ v e) (well_happens f (tick w.console) w (well_ticked w.console well))
 well_waiting (Wait ∷ l) f w v e well = subst (λ (u : Line). IsWell u.console) (same_Some _ v e) (well_happens f (tick w.console) (flies w l) (well_ticked w.console well))
 well_waiting (Byte x ∷ l) f w v e well = cc
 
-well_step : (f : Fates) → AreSound f → (i : TalkItem) (w v : Line) → line_step f i w ≡ Some v → IsWell w.console → IsWell v.console
+well_step : (f : FatesByNumber) → AreSound f → (i : TalkItem) (w v : Line) → line_step f i w ≡ Some v → IsWell w.console → IsWell v.console
 well_step f ok (Said b ends) w v e well = subst (λ (u : Line). IsWell u.console) (same_Some _ v e) (well_says f ok b ends w well)
 well_step f ok (Heard b) w v e well = well_hearing w.flight b w v e well
 well_step f ok Quiet w v e well = well_waiting w.flight f w v e well
 
-well_talk : (f : Fates) → AreSound f → (t : List TalkItem) (w v : Line) → ConsoleTalk f t w v → IsWell w.console → IsWell v.console
+well_talk : (f : FatesByNumber) → AreSound f → (t : List TalkItem) (w v : Line) → ConsoleTalk f t w v → IsWell w.console → IsWell v.console
 well_talk f ok [] w v e well = subst (λ (u : Line). IsWell u.console) (same_Some w v e) well
 well_talk f ok (i ∷ t) w v e well =
     let g = and_then_some (line_step f i w) (console_talk f t) v e in
@@ -133,9 +133,9 @@ pub is_sound : (w : Line) → IsWell w.console → IsSound w
 is_sound w well = record { valid = well.valid; rises = well.rises; records = well.records }
 
 -- a talk keeps a line sound
-pub sound_talk : (f : Fates) → AreSound f → (t : List TalkItem) (w v : Line) → ConsoleTalk f t w v → IsSound w → IsSound v
+pub sound_talk : (f : FatesByNumber) → AreSound f → (t : List TalkItem) (w v : Line) → ConsoleTalk f t w v → IsSound w → IsSound v
 sound_talk f ok t w v e sound = is_sound v (well_talk f ok t w v e (is_well w sound))
 
-pub well_idles : (f : Fates) (n : ℕ) (w : Line) → IsWell w.console → IsWell (idles f n w).console
+pub well_idles : (f : FatesByNumber) (n : ℕ) (w : Line) → IsWell w.console → IsWell (idles f n w).console
 well_idles f zero w well = well
 well_idles f (suc n) w well = well_idles f n (happens f (tick w.console) w) (well_happens f (tick w.console) w (well_ticked w.console well))

@@ -11,7 +11,7 @@ use Rattle.console_model.specs.declared.reply.ReplyKind.TheVariants.{Nothing, Co
 use Rattle.console_model.specs.Console.{Console, Outcome}
 use Rattle.console_model.specs.Hear.{hear}
 use Rattle.station_sim.specs.declared.unseen.Unseen.{Unseen}
-use Rattle.schedule_file.specs.Fates.{Fates}
+use Rattle.schedule_file.specs.Fates.{FatesByNumber}
 use Rattle.station_sim.specs.Delivery.{delivered}
 use Rattle.station_sim.specs.Line.{Line, begins_with_ack, completes, message_counted, earlier, from_console, from_host, happens, hears, is_harmed, joins, pages, passes, reply_joins, sends_message}
 use Rattle.station_sim.specs.Unseen.{BeginsWithAck, IsGoodBehindAck, IsUnseenMessage, IsUnseenReply, NamesFirst, PassesForWhole}
@@ -77,18 +77,18 @@ names_none P this None never_so = never_so
 names_none P this (Some u) never_so = refl
 
 -- a message of the host
-pub counted_names : (f : Fates) (message : List ℕ) (w : Line) →
+pub counted_names : (f : FatesByNumber) (message : List ℕ) (w : Line) →
     NamesFirst (IsUnseenMessage message (delivered (f.host (w.messages + 1)) message) w.console) (from_host (w.messages + 1)) w.unseen (message_counted f message w).unseen
 counted_names f message w = names _ _ (from_host (w.messages + 1)) w.unseen (message_unseen message (delivered (f.host (w.messages + 1)) message) w.console)
 
 -- the name of the next reply
-abbrev pub NamesReply : Fates → Outcome → Line → Option Unseen → Type 0
+abbrev pub NamesReply : FatesByNumber → Outcome → Line → Option Unseen → Type 0
 NamesReply f o w after = NamesFirst (IsUnseenReply o (delivered (f.reply (w.replies + 1)) o.bytes)) (from_console (w.replies + 1)) w.unseen after
 
-replied_names : (f : Fates) (o : Outcome) (w : Line) → NamesReply f o w (reply_joins f o w).unseen
+replied_names : (f : FatesByNumber) (o : Outcome) (w : Line) → NamesReply f o w (reply_joins f o w).unseen
 replied_names f o w = names _ _ (from_console (w.replies + 1)) w.unseen (reply_unseen o (delivered (f.reply (w.replies + 1)) o.bytes))
 
-joins_names : (k : ReplyKind) (f : Fates) (o : Outcome) (w : Line) → o.kind ≡ k → NamesReply f o w (joins k f o w).unseen
+joins_names : (k : ReplyKind) (f : FatesByNumber) (o : Outcome) (w : Line) → o.kind ≡ k → NamesReply f o w (joins k f o w).unseen
 joins_names Nothing f o w is =
     let got = delivered (f.reply (w.replies + 1)) o.bytes in
     names_none _ (from_console (w.replies + 1)) w.unseen (λ h. subst (λ (k : ReplyKind). PassesForWhole k o.bytes got) is h.passes)
@@ -101,7 +101,7 @@ joins_names Page f o w is = replied_names f o w
 joins_names Packet f o w is = replied_names f o w
 
 -- a reply of the console
-pub happens_names : (f : Fates) (o : Outcome) (w : Line) → NamesReply f o w (happens f o w).unseen
+pub happens_names : (f : FatesByNumber) (o : Outcome) (w : Line) → NamesReply f o w (happens f o w).unseen
 happens_names f o w = joins_names o.kind f o w refl
 
 -- what is named where nothing was named before is so
@@ -126,13 +126,13 @@ none_named P this None None named none = (refl, named)
 none_named P this None (Some x) named none = absurd cc
 none_named P this (Some u) after named none = (let wrong : Some u ≡ None = sym named ∙ none in absurd cc)
 
-pub hears_stays : (f : Fates) (bs : List ℕ) (w : Line) (which : Unseen) → w.unseen ≡ Some which → (hears f bs w).unseen ≡ Some which
+pub hears_stays : (f : FatesByNumber) (bs : List ℕ) (w : Line) (which : Unseen) → w.unseen ≡ Some which → (hears f bs w).unseen ≡ Some which
 hears_stays f [] w which is = is
 hears_stays f (b ∷ bs) w which is =
     let o = hear w.console b in
     hears_stays f bs (happens f o w) which (first_stays _ _ w.unseen (happens f o w).unseen which (happens_names f o w) is)
 
-pub hears_none : (f : Fates) (bs : List ℕ) (w : Line) → (hears f bs w).unseen ≡ None → (w.unseen ≡ None) × ((which : Unseen) → ¬ (IsAmongReplies f bs w which))
+pub hears_none : (f : FatesByNumber) (bs : List ℕ) (w : Line) → (hears f bs w).unseen ≡ None → (w.unseen ≡ None) × ((which : Unseen) → ¬ (IsAmongReplies f bs w which))
 hears_none f [] w none = (none, λ which h. h)
 hears_none f (b ∷ bs) w none =
     let o = hear w.console b in
@@ -148,7 +148,7 @@ here_or_later (Some u) after which stays here later is =
     let same : u ≡ which = same_Some u which (sym (stays u refl) ∙ is) in
     inl (here (ap (λ (x : Unseen). Some x) same))
 
-pub hears_names : (f : Fates) (bs : List ℕ) (w : Line) (which : Unseen) → w.unseen ≡ None → (hears f bs w).unseen ≡ Some which → IsAmongReplies f bs w which
+pub hears_names : (f : FatesByNumber) (bs : List ℕ) (w : Line) (which : Unseen) → w.unseen ≡ None → (hears f bs w).unseen ≡ Some which → IsAmongReplies f bs w which
 hears_names f [] w which none is = absurd cc
 hears_names f (b ∷ bs) w which none is =
     let o = hear w.console b in
@@ -159,19 +159,19 @@ hears_names f (b ∷ bs) w which none is =
     here_or_later x.unseen (hears f bs x).unseen which (λ y named. hears_stays f bs x y named) here (λ later. hears_names f bs x which later is) is
 
 -- among replies no message of the host is named
-replies_only : (f : Fates) (bs : List ℕ) (w : Line) (which : Unseen) → IsAmongReplies f bs w which → which.from_host ≡ false
+replies_only : (f : FatesByNumber) (bs : List ℕ) (w : Line) (which : Unseen) → IsAmongReplies f bs w which → which.from_host ≡ false
 replies_only f [] w which h = absurd h
 replies_only f (b ∷ bs) w which h = elim h [ inl at ↦ ap (λ (u : Unseen). u.from_host) at.named | inr behind ↦ replies_only f bs (happens f (hear w.console b) w) which behind ]
 
 -- a message that is unseen is named as it is sent, where nothing was named before
-pub sent_named : (f : Fates) (message : List ℕ) (w : Line) → w.unseen ≡ None
+pub sent_named : (f : FatesByNumber) (message : List ℕ) (w : Line) → w.unseen ≡ None
     → IsUnseenMessage message (delivered (f.host (w.messages + 1)) message) w.console → (sends_message f message w).unseen ≡ Some (from_host (w.messages + 1))
 sent_named f message w none so =
     hears_stays f (delivered (f.host (w.messages + 1)) message) (message_counted f message w) (from_host (w.messages + 1))
     (first_named _ _ w.unseen (message_counted f message w).unseen (counted_names f message w) none so)
 
 -- and no other
-pub sent_only : (f : Fates) (message : List ℕ) (w : Line) → w.unseen ≡ None → (sends_message f message w).unseen ≡ Some (from_host (w.messages + 1))
+pub sent_only : (f : FatesByNumber) (message : List ℕ) (w : Line) → w.unseen ≡ None → (sends_message f message w).unseen ≡ Some (from_host (w.messages + 1))
     → IsUnseenMessage message (delivered (f.host (w.messages + 1)) message) w.console
 sent_only f message w none is =
     let got = delivered (f.host (w.messages + 1)) message in

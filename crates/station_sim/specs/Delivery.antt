@@ -30,7 +30,7 @@ abbrev pub waits : ℕ → List Part → List Part
 waits zero ps = ps
 waits (suc k) ps = Wait ∷ waits k ps
 
--- bytes with so many waits before the one at a place, if there is one
+-- what is in flight of a message that comes late: so many waits stand before the byte at this place
 abbrev pub late : ℕ → ℕ → List ℕ → List Part
 late k p [] = []
 late k zero (b ∷ bs) = waits k (Byte b ∷ all_bytes bs)

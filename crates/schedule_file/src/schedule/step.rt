@@ -10,7 +10,8 @@ use archive_record::Rec52;
 pub struct Stop {
     /// Which change, counted from 1 on.
     pub change: u64,
-    /// Which image.
+    /// Which of the images that a crash may leave there. 0 has the old bytes, 1 the new ones, 2 has 255 at each place
+    /// that was written; from 3 on it is a mix.
     pub pick: u64,
 }
 
@@ -21,7 +22,7 @@ pub enum Step {
     Due(Rec52),
     /// So many records fall due, each next one a period later with the same values.
     Run { first: Rec52, count: u32 },
-    /// So many ticks of the console.
+    /// So many ticks of the console, each the time of one quiet wait.
     Idle(u8),
     /// The archive is recovered.
     Open(Option<Stop>),
