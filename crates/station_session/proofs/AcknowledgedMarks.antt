@@ -8,19 +8,19 @@ use Rattle.dmpaft_driver.proofs.AcknowledgedPages.{acknowledged_are_kept}
 use Rattle.dmpaft_pump.proofs.HandedBatches.{kept_in_all}
 use Rattle.station_session.specs.declared.round_end.RoundEnd.{RoundEnd}
 use Rattle.station_session.specs.declared.report.Mark.{Mark}
-use Rattle.station_session.specs.Attempts.{Tried, Attempts, IsTried, batches_in, stamp_after, stamp_behind, all_batches}
+use Rattle.station_session.specs.Attempts.{MadeAttempt, AreAttempts, IsMadeAfter, batches_in, stamp_after, stamp_behind, all_batches}
 use Rattle.station_session.specs.Report.{mark, marks_for}
 use Rattle.station_session.specs.Acknowledged.{kept_up_to, AcknowledgedAreMarked}
 use Rattle.station_session.proofs.Ends.{kept_behind}
 use Rattle.station_session.proofs.Marked.{marked_for}
 
 -- An attempt behind others that were made: what they kept was kept before its own.
-record Behind (last : Option CivilMinute) (earlier : List Tried) (t : Tried) (all : Handed) : Type 0 where
-  pub tried : IsTried (stamp_behind last earlier) t
+record Behind (last : Option CivilMinute) (earlier : List MadeAttempt) (t : MadeAttempt) (all : Handed) : Type 0 where
+  pub tried : IsMadeAfter (stamp_behind last earlier) t
   pub rest : List (List (List ℕ))
   pub all_are : kept_in all ≡ kept_in (all_batches last earlier) ++ (kept_in (batches_in (stamp_behind last earlier) t) ++ rest)
 
-nothing : (xs later : List Tried) (t : Tried) → xs ++ t ∷ later ≡ [] → ⊥
+nothing : (xs later : List MadeAttempt) (t : MadeAttempt) → xs ++ t ∷ later ≡ [] → ⊥
 nothing [] later t none = cc
 nothing (y ∷ xs) later t none = cc
 
@@ -30,7 +30,7 @@ kept_first Handed.Nothing k = (kept_in k, refl)
 kept_first (Handed.Kept rows more) k = let f = kept_first more k in (f.0, ap (λ (z : List (List (List ℕ))). rows ∷ z) f.1)
 kept_first (Handed.Refused rows why) k = ([], refl)
 
-behind : (made : ℕ) (last : Option CivilMinute) (earlier : List Tried) (t : Tried) (later : List Tried) (end : RoundEnd) → Attempts made last (earlier ++ t ∷ later) end → Behind last earlier t (all_batches last (earlier ++ t ∷ later))
+behind : (made : ℕ) (last : Option CivilMinute) (earlier : List MadeAttempt) (t : MadeAttempt) (later : List MadeAttempt) (end : RoundEnd) → AreAttempts made last (earlier ++ t ∷ later) end → Behind last earlier t (all_batches last (earlier ++ t ∷ later))
 behind made last [] t later end (less, tried, how) = let f = kept_first (batches_in last t) (all_batches (stamp_after last t) later) in record { tried = tried; rest = f.0; all_are = f.1 }
 behind made last (x ∷ earlier) t later end (less, tried, inl (e, more)) =
     let stamp = stamp_after last x in
@@ -65,11 +65,11 @@ front_behind A D B rest all e (r, f) = (
   append_assoc A D (r ++ rest) ∙ ap (λ (z : List (List (List ℕ))). A ++ z) (sym (append_assoc D r rest) ∙ ap (λ (z : List (List (List ℕ))). z ++ rest) f) ∙ sym e,
 )
 
-pub acknowledged_are_marked : (last : Option CivilMinute) (tries : List Tried) (end : RoundEnd) (m before : ℕ) (marks : List Mark) → Attempts 0 last tries end → marks ≡ marks_for m before (all_batches last tries) → AcknowledgedAreMarked last tries before marks
+pub acknowledged_are_marked : (last : Option CivilMinute) (tries : List MadeAttempt) (end : RoundEnd) (m before : ℕ) (marks : List Mark) → AreAttempts 0 last tries end → marks ≡ marks_for m before (all_batches last tries) → AcknowledgedAreMarked last tries before marks
 acknowledged_are_marked last tries end m before marks attempts noted earlier t later place pages is acked =
-    let b = behind 0 last earlier t later end (subst (λ (z : List Tried). Attempts 0 last z end) is attempts) in
+    let b = behind 0 last earlier t later end (subst (λ (z : List MadeAttempt). AreAttempts 0 last z end) is attempts) in
     let all = kept_in (all_batches last tries) in
-    let same : all ≡ kept_in (all_batches last (earlier ++ t ∷ later)) = ap (λ (z : List Tried). kept_in (all_batches last z)) is in
+    let same : all ≡ kept_in (all_batches last (earlier ++ t ∷ later)) = ap (λ (z : List MadeAttempt). kept_in (all_batches last z)) is in
     let stamp = stamp_behind last earlier in
     let front = acknowledged_are_kept stamp t.said t.place place t.taken pages t.end b.tried acked in
     let kept = kept_up_to last earlier place pages in

@@ -4,7 +4,7 @@ use Rattle.disk_model.specs.Medium.{Medium}
 use Rattle.disk_model.specs.Disk.{Faults, LeavesOnly}
 use Rattle.disk_model.specs.declared.disk.Disked.{Disked}
 use Rattle.disk_model.specs.declared.disk.Disked.TheVariants as disked
-use Rattle.gated_log.specs.Calls.{up_to, four_changes}
+use Rattle.gated_log.specs.Calls.{up_to, append_changes}
 use Rattle.station_base.specs.declared.row.Row.{Row}
 use Rattle.settings_file.specs.StationSettings.{StationSettings}
 use Rattle.weather_book.specs.declared.book.Book.{Book}
@@ -39,7 +39,7 @@ pub record Tells {D : Type 0} (medium : Medium D)
   pub newest : last_stamp_of new ≡ book.last_stamp_after (last_stamp_of old) (rows_after a [] rows)
   pub moved : Moved a (medium.moment disk) (medium.moment disk')
   pub untouched : OnRefused a ((new ≡ old) × (disk' ≡ disk))
-  pub went_on : (l : List Row) → BookStandsFor old l → medium.went disk (up_to (take (medium.moment disk' - medium.moment disk) (four_changes (slot_size * (slot_total l + 1)) (slot_size * (slot_total (l ++ rows) - slot_total l)))) (disk_answer a)) disk'
+  pub went_on : (l : List Row) → BookStandsFor old l → medium.went disk (up_to (take (medium.moment disk' - medium.moment disk) (append_changes (slot_size * (slot_total l + 1)) (slot_size * (slot_total (l ++ rows) - slot_total l)))) (disk_answer a)) disk'
   pub images : (l : List Row) → StandsOn medium old disk l → LeavesOnly medium (RowsOldOrAll l rows (medium.moment disk + 3 ≤ medium.moment disk')) disk disk'
   pub gate : a ≡ stored.DiskFault → (l : List Row) → StandsOn medium old disk l
       → ByGate medium (medium.moment disk + 3 ≤ medium.moment disk') (slot_size * (slot_total l + 1)) (HasRows l) (HasRows (l ++ rows)) disk'
@@ -78,9 +78,9 @@ module _ {D : Type 0} (medium : Medium D)
   book_same : (P : Book → Type 0) → new ≡ old → P old → P new
   book_same P e h = subst P (sym e) h
 
-  went_as : (a : Disked) (n slots count : ℕ) → medium.moment disk' - medium.moment disk ≡ n → medium.went disk (up_to (take (medium.moment disk' - medium.moment disk) (four_changes slots count)) a) disk'
-      → medium.went disk (up_to (take n (four_changes slots count)) a) disk'
-  went_as a n slots count e h = subst (λ (k : ℕ). medium.went disk (up_to (take k (four_changes slots count)) a) disk') e h
+  went_as : (a : Disked) (n slots count : ℕ) → medium.moment disk' - medium.moment disk ≡ n → medium.went disk (up_to (take (medium.moment disk' - medium.moment disk) (append_changes slots count)) a) disk'
+      → medium.went disk (up_to (take n (append_changes slots count)) a) disk'
+  went_as a n slots count e h = subst (λ (k : ℕ). medium.went disk (up_to (take k (append_changes slots count)) a) disk') e h
 
   taken_done : AreTold stored.Done → AreTaken stored.Done
   taken_done t noted = record {

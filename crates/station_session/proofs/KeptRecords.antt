@@ -14,11 +14,12 @@ use Rattle.dmpaft_pump.proofs.HandedBatches.{join_none, kept_answered}
 use Rattle.dmpaft_pump.proofs.RisingBatches.{rising_joins, batches_rise}
 use Rattle.dmpaft_pump.proofs.LastBatch.{newest_joins}
 use Rattle.station_session.specs.declared.round_end.RoundEnd.{RoundEnd}
-use Rattle.station_session.specs.Attempts.{Tried, Attempts, batches_in, stamp_after, all_batches, but_last, kept_batches}
+use Rattle.station_session.specs.Attempts.{MadeAttempt, AreAttempts, batches_in, stamp_after, all_batches}
 use Rattle.station_session.specs.Batches.{kept_records, last_answer}
 use Rattle.causes.specs.Lists.{IsFrontOf}
 use Rattle.station_session.specs.SlotsTaken.{slots_taken}
-use Rattle.station_session.proofs.Ends.{goes_on, last_in, last_behind, kept_append, kept_done, kept_by_end}
+use Rattle.station_session.proofs.Ends.{goes_on, last_in, last_behind, kept_append, kept_done}
+use Rattle.station_session.proofs.KeptBatches.{but_last, kept_batches, kept_by_end}
 
 -- the batches of an attempt, put together
 joined_rise : (last : Option CivilMinute) (place : ℕ) (taken : List (List ℕ)) → records_in (batches last place taken) ≡ rising last (all_slots place taken)
@@ -69,13 +70,13 @@ front_kept dump_end.LinkFault bs = front_whole (records_in bs) (records_in bs) r
 front_kept dump_end.OutOfMemory bs = front_whole (records_in bs) (records_in bs) refl
 
 -- the records kept of one attempt
-front_of_one : (last : Option CivilMinute) (t : Tried) → IsFrontOf (kept_records (batches_in last t)) (rising last (all_slots t.place t.taken))
+front_of_one : (last : Option CivilMinute) (t : MadeAttempt) → IsFrontOf (kept_records (batches_in last t)) (rising last (all_slots t.place t.taken))
 front_of_one last t =
     subst (λ (x : List (List ℕ)). IsFrontOf x (rising last (all_slots t.place t.taken))) (sym (kept_by_end t.end (batches last t.place t.taken)))
     (subst (λ (x : List (List ℕ)). IsFrontOf (records_in (kept_batches t.end (batches last t.place t.taken))) x) (joined_rise last t.place t.taken)
     (front_kept t.end (batches last t.place t.taken)))
 
-module _ (last : Option CivilMinute) (t : Tried) (all : gathered.keeper_answer t.end ≡ Done) where
+module _ (last : Option CivilMinute) (t : MadeAttempt) (all : gathered.keeper_answer t.end ≡ Done) where
   all_kept : batches_in last t ≡ kept_all (batches last t.place t.taken)
   all_kept = ap (λ (a : Stored). answered_batches a (batches last t.place t.taken)) all ∙ kept_answered (batches last t.place t.taken)
 
@@ -92,19 +93,19 @@ module _ (last : Option CivilMinute) (t : Tried) (all : gathered.keeper_answer t
       ap (λ (h : Handed). kept_records (join h behind)) all_kept ∙ kept_append (batches last t.place t.taken) behind
       ∙ ap (λ (x : List (List ℕ)). x ++ kept_records behind) (sym (ap kept_records all_kept ∙ kept_done (batches last t.place t.taken)))
 
-  with_more : (ts : List Tried) → rising last (slots_taken (t ∷ ts)) ≡ kept_records (batches_in last t) ++ rising (stamp_after last t) (slots_taken ts)
+  with_more : (ts : List MadeAttempt) → rising last (slots_taken (t ∷ ts)) ≡ kept_records (batches_in last t) ++ rising (stamp_after last t) (slots_taken ts)
   with_more ts =
       rising_joins last (all_slots t.place t.taken) (slots_taken ts)
       ∙ ap (λ (x : List (List ℕ)). x ++ rising (newest last (all_slots t.place t.taken)) (slots_taken ts)) (sym whole_of_one)
       ∙ ap (λ (x : Option CivilMinute). kept_records (batches_in last t) ++ rising x (slots_taken ts)) (sym stamp_then)
 
-alone : (last : Option CivilMinute) (t : Tried) → kept_records (all_batches last (t ∷ [])) ≡ kept_records (batches_in last t)
+alone : (last : Option CivilMinute) (t : MadeAttempt) → kept_records (all_batches last (t ∷ [])) ≡ kept_records (batches_in last t)
 alone last t = ap kept_records (join_none (batches_in last t))
 
-slots_alone : (last : Option CivilMinute) (t : Tried) → rising last (slots_taken (t ∷ [])) ≡ rising last (all_slots t.place t.taken)
+slots_alone : (last : Option CivilMinute) (t : MadeAttempt) → rising last (slots_taken (t ∷ [])) ≡ rising last (all_slots t.place t.taken)
 slots_alone last t = ap (λ (x : List (List ℕ)). rising last x) (append-nil (all_slots t.place t.taken))
 
-pub front_of_round : (made : ℕ) (last : Option CivilMinute) (ts : List Tried) (end : RoundEnd) → Attempts made last ts end → IsFrontOf (kept_records (all_batches last ts)) (rising last (slots_taken ts))
+pub front_of_round : (made : ℕ) (last : Option CivilMinute) (ts : List MadeAttempt) (end : RoundEnd) → AreAttempts made last ts end → IsFrontOf (kept_records (all_batches last ts)) (rising last (slots_taken ts))
 front_of_round made last [] end h = ([], refl)
 front_of_round made last (t ∷ ts) end (less, attempt, inl (e, more)) =
     subst (λ (x : List (List ℕ)). IsFrontOf x (rising last (slots_taken (t ∷ ts)))) (sym (kept_more last t (goes_on t.end e) (all_batches (stamp_after last t) ts)))
@@ -112,11 +113,11 @@ front_of_round made last (t ∷ ts) end (less, attempt, inl (e, more)) =
     (front_behind (kept_records (batches_in last t)) (kept_records (all_batches (stamp_after last t) ts)) (rising (stamp_after last t) (slots_taken ts))
     (front_of_round (made + 1) (stamp_after last t) ts end more)))
 front_of_round made last (t ∷ ts) end (less, attempt, inr (e, none)) =
-    subst (λ (x : List Tried). IsFrontOf (kept_records (all_batches last (t ∷ x))) (rising last (slots_taken (t ∷ x)))) (sym none)
+    subst (λ (x : List MadeAttempt). IsFrontOf (kept_records (all_batches last (t ∷ x))) (rising last (slots_taken (t ∷ x)))) (sym none)
     (subst (λ (x : List (List ℕ)). IsFrontOf x (rising last (slots_taken (t ∷ [])))) (sym (alone last t))
     (subst (λ (x : List (List ℕ)). IsFrontOf (kept_records (batches_in last t)) x) (sym (slots_alone last t)) (front_of_one last t)))
 
-pub whole_of_round : (made : ℕ) (last : Option CivilMinute) (ts : List Tried) (end : RoundEnd) → Attempts made last ts end → last_answer (all_batches last ts) ≡ Done → kept_records (all_batches last ts) ≡ rising last (slots_taken ts)
+pub whole_of_round : (made : ℕ) (last : Option CivilMinute) (ts : List MadeAttempt) (end : RoundEnd) → AreAttempts made last ts end → last_answer (all_batches last ts) ≡ Done → kept_records (all_batches last ts) ≡ rising last (slots_taken ts)
 whole_of_round made last [] end h done = refl
 whole_of_round made last (t ∷ ts) end (less, attempt, inl (e, more)) done =
     let behind = sym (last_behind last t (all_batches (stamp_after last t) ts) e) ∙ done in
@@ -124,7 +125,7 @@ whole_of_round made last (t ∷ ts) end (less, attempt, inl (e, more)) done =
     ∙ ap (λ (x : List (List ℕ)). kept_records (batches_in last t) ++ x) (whole_of_round (made + 1) (stamp_after last t) ts end more behind)
     ∙ sym (with_more last t (goes_on t.end e) ts)
 whole_of_round made last (t ∷ ts) end (less, attempt, inr (e, none)) done =
-    let one : last_answer (all_batches last (t ∷ [])) ≡ Done = subst (λ (x : List Tried). last_answer (all_batches last (t ∷ x)) ≡ Done) none done in
+    let one : last_answer (all_batches last (t ∷ [])) ≡ Done = subst (λ (x : List MadeAttempt). last_answer (all_batches last (t ∷ x)) ≡ Done) none done in
     let all : gathered.keeper_answer t.end ≡ Done = sym (last_in last t attempt) ∙ ap last_answer (sym (join_none (batches_in last t))) ∙ one in
-    subst (λ (x : List Tried). kept_records (all_batches last (t ∷ x)) ≡ rising last (slots_taken (t ∷ x))) (sym none)
+    subst (λ (x : List MadeAttempt). kept_records (all_batches last (t ∷ x)) ≡ rising last (slots_taken (t ∷ x))) (sym none)
     (alone last t ∙ whole_of_one last t all ∙ sym (slots_alone last t))

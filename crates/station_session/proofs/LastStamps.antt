@@ -13,7 +13,7 @@ use Rattle.dmpaft_pump.specs.Shown.{all_kept, pump_answer}
 use Rattle.dmpaft_driver.specs.Standing.{place_of_part, taken_in, handed_over}
 use Rattle.dmpaft_pump.proofs.HandedBatches.{kept_answered}
 use Rattle.dmpaft_pump.proofs.Rows.{rows_rise, within_self}
-use Rattle.station_session.specs.Attempts.{Tried, batches_in, stamp_after, all_batches}
+use Rattle.station_session.specs.Attempts.{MadeAttempt, batches_in, stamp_after, all_batches}
 use Rattle.station_session.specs.Fits.{first_some}
 
 -- where one of these was kept it tells the last stamp, whatever it was before
@@ -83,9 +83,9 @@ handed_tells a (Keeping more place taken page) = kept_tell a place taken
 handed_tells a (Over place taken end) = tells (answered_batches (pump_answer end) (batches a place taken)) (answered_tells (pump_answer end) a place taken)
 handed_tells a Astray = λ before. refl
 
-all_of_each : (last : Option CivilMinute) (ts : List Tried) → AllTell (all_batches last ts)
+all_of_each : (last : Option CivilMinute) (ts : List MadeAttempt) → AllTell (all_batches last ts)
 all_of_each last [] = tt
 all_of_each last (t ∷ ts) = all_join (batches_in last t) (all_batches (stamp_after last t) ts) (answered_tells (gathered.keeper_answer t.end) last t.place t.taken) (all_of_each (stamp_after last t) ts)
 
-pub all_tell : (last : Option CivilMinute) (ts : List Tried) → TellsLast (all_batches last ts)
+pub all_tell : (last : Option CivilMinute) (ts : List MadeAttempt) → TellsLast (all_batches last ts)
 all_tell last ts = tells (all_batches last ts) (all_of_each last ts)

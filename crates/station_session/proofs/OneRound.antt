@@ -19,7 +19,7 @@ use Rattle.dmpaft_driver.proofs.Exactly.{complete}
 use Rattle.dmpaft_pump.proofs.PumpSteps.{no_astray, over_is}
 use Rattle.serial_link.specs.declared.talk.TalkItem.{TalkItem}
 use Rattle.station_base.specs.CivilMinute.{CivilMinute}
-use Rattle.station_session.specs.Attempts.{Attempts, EndsBefore, IsTried, Tried, all_said, batches_in, end_after, stamp_after}
+use Rattle.station_session.specs.Attempts.{AreAttempts, EndsBefore, IsMadeAfter, MadeAttempt, all_said, batches_in, end_after, stamp_after}
 use Rattle.station_session.specs.declared.round_end.RoundEnd.{RoundEnd}
 use Rattle.station_session.specs.declared.round_end.RoundEnd.TheVariants as round
 use Rattle.station_session.proofs.Ends.{went_on}
@@ -105,7 +105,7 @@ module _ (last : Option CivilMinute) where
     attempt : Attempt (stamp_frame_of last) said place taken (attempt_end by)
     other : attempt_end by ≢ End.Refused
 
-  goes : (t : Tried) → IsTried last t → (end_after t.end ≡ None) ⊎ (end_after t.end ≡ Some round.Done) → Goes t.said
+  goes : (t : MadeAttempt) → IsMadeAfter last t → (end_after t.end ≡ None) ⊎ (end_after t.end ≡ Some round.Done) → Goes t.said
   goes t it how = let m = mild last t.said t.place t.taken t.end it how in
       record { place = t.place; taken = t.taken; by = m.0.by; attempt = m.0.attempt; other = m.1 }
 
@@ -148,7 +148,7 @@ place_same last p q [] same = refl
 place_same last p q (page ∷ ps) same = ap (λ (n : ℕ). batches last n (page ∷ ps)) (same (λ never. cc))
 
 -- attempts that failed alike leave one last stamp
-stamps_same : (last : Option CivilMinute) (t s : Tried) → t.taken ≡ s.taken → (t.taken ≢ [] → t.place ≡ s.place) → end_after t.end ≡ None
+stamps_same : (last : Option CivilMinute) (t s : MadeAttempt) → t.taken ≡ s.taken → (t.taken ≢ [] → t.place ≡ s.place) → end_after t.end ≡ None
     → end_after s.end ≡ None → stamp_after last t ≡ stamp_after last s
 stamps_same last t s pages places one two =
     let given : batches last t.place t.taken ≡ batches last s.place s.taken =
@@ -156,7 +156,7 @@ stamps_same last t s pages places one two =
     let steps : batches_in last t ≡ batches_in last s = went_on last t one ∙ ap kept_all given ∙ sym (went_on last s two) in
     ap (λ (h : Handed). last_kept h last) steps
 
-module _ (last : Option CivilMinute) (t s : Tried) (it : IsTried last t) (is : IsTried last s)
+module _ (last : Option CivilMinute) (t s : MadeAttempt) (it : IsMadeAfter last t) (is : IsMadeAfter last s)
     (how : (end_after s.end ≡ None) ⊎ (end_after s.end ≡ Some round.Done)) where
   -- a last attempt whose talk begins with an attempt that is whole or failed
   last_so : (rest : List TalkItem) (end : RoundEnd) → t.said ≡ s.said ++ rest → end_after t.end ≡ Some end → MayEnd end
@@ -187,7 +187,7 @@ module _ (last : Option CivilMinute) (t s : Tried) (it : IsTried last t) (is : I
       (none, stamps_same last t s agree.pages agree.places fails none)
 
 -- attempts that are whole or failed, and begin one talk, said and heard the same
-same_first : (last : Option CivilMinute) (t s : Tried) (more others : List TalkItem) → Goes last t.said → Goes last s.said
+same_first : (last : Option CivilMinute) (t s : MadeAttempt) (more others : List TalkItem) → Goes last t.said → Goes last s.said
     → t.said ++ more ≡ s.said ++ others → (t.said ≡ s.said) × (more ≡ others)
 same_first last t s more others = same_front {P = Goes last} {Q = Goes last} (goes_no_longer last) (goes_no_longer last) t.said s.said more others
 
@@ -198,14 +198,14 @@ how_it_is (inr (is, more)) = inr is
 
 -- a round is done whose talk is that of attempts of which the last is whole and the others failed, unless its link failed or
 -- memory was wanting
-pub one_round : (made : ℕ) (last : Option CivilMinute) (ts ss : List Tried) (end : RoundEnd) → Attempts made last ts end
-    → Attempts made last ss round.Done → all_said ts ≡ all_said ss → MayEnd end
+pub one_round : (made : ℕ) (last : Option CivilMinute) (ts ss : List MadeAttempt) (end : RoundEnd) → AreAttempts made last ts end
+    → AreAttempts made last ss round.Done → all_said ts ≡ all_said ss → MayEnd end
 one_round made last ts [] end x (inl (begins, never)) same = absurd never
 one_round made last ts [] end x (inr (three, never)) same = absurd cc
 one_round made last [] (s ∷ ss) end (inl (begins, is)) y same = before end is
 one_round made last [] (s ∷ ss) end (inr (three, is)) (few, tried, how) same = absurd (omega (arith, three, few))
 one_round made last (t ∷ ts) (s ∷ ss) end (few, tried, inr (now, none)) (few', tried', how) same =
-    let talk : t.said ≡ s.said ++ all_said ss = sym (append-nil t.said) ∙ ap (λ (us : List Tried). t.said ++ all_said us) (sym none) ∙ same in
+    let talk : t.said ≡ s.said ++ all_said ss = sym (append-nil t.said) ∙ ap (λ (us : List MadeAttempt). t.said ++ all_said us) (sym none) ∙ same in
     last_so last t s tried tried' (how_it_is how) (all_said ss) end talk now
 one_round made last (t ∷ ts) (s ∷ ss) end (few, tried, inl (fails, more)) (few', tried', inr (whole, last_one)) same =
     let both = same_first last t s (all_said ts) (all_said ss) (goes last t tried (inl fails)) (goes last s tried' (inr whole)) same in
@@ -214,4 +214,4 @@ one_round made last (t ∷ ts) (s ∷ ss) end (few, tried, inl (fails, more)) (f
 one_round made last (t ∷ ts) (s ∷ ss) end (few, tried, inl (fails, more)) (few', tried', inl (fails', more')) same =
     let both = same_first last t s (all_said ts) (all_said ss) (goes last t tried (inl fails)) (goes last s tried' (inl fails')) same in
     let f = failed_so last t s tried tried' (inl fails') fails both.0 in
-    one_round (made + 1) (stamp_after last s) ts ss end (subst (λ (l : Option CivilMinute). Attempts (made + 1) l ts end) f.1 more) more' both.1
+    one_round (made + 1) (stamp_after last s) ts ss end (subst (λ (l : Option CivilMinute). AreAttempts (made + 1) l ts end) f.1 more) more' both.1

@@ -186,7 +186,7 @@ module _ {L D : Type 0} {traffic : Traffic L} {medium : Medium D} {end : Option 
   abbrev TheChain : Handed → Type 0
   TheChain given = Chain (AddsBatch medium (session_settings old.session)) (holding old.session.book old.disk old.report.marks.items) given (holding new.session.book new.disk new.report.marks.items)
 
-  -- where the round goes on the book is not stale, and a mark was noted for a batch, which took four changes
+  -- where the round goes on the book is not stale, and a mark was noted for a batch of `changes_in_a_batch` changes
   fresh_more : (said : List TalkItem) (more : List (List (List ℕ))) → TheChain (kept_all more) → IsOneCallOrBatch said more
       → (session_is_stale new.session ≡ false) × (length new.report.marks.items ≡ length old.report.marks.items + length more) × (medium.moment new.disk ≡ medium.moment old.disk + 4 * length more)
   fresh_more said more chain (inl (call, none)) =

@@ -11,35 +11,35 @@ use Rattle.wake_retry.proofs.TalkBounds.{bounded_joins, bounded_within}
 use Rattle.dmpaft_driver.proofs.AttemptBounds.{attempts_are_bounded}
 use Rattle.station_session.specs.declared.report.Report.{Report}
 use Rattle.station_session.specs.declared.round_end.RoundEnd.{RoundEnd}
-use Rattle.station_session.specs.Attempts.{Tried, IsTried, Attempts, all_said, stamp_after, most_attempts}
+use Rattle.station_session.specs.Attempts.{MadeAttempt, IsMadeAfter, AreAttempts, all_said, stamp_after, most_attempts}
 use Rattle.station_session.specs.Bounds.{GrowsWithin}
 use Rattle.station_session.specs.Round.{RoundHost, ServesRound}
 use Rattle.dmpaft_driver.specs.Bounds.{most_heard, most_said}
 
--- so many attempts
-abbrev AreAttempts : ℕ → List TalkItem → Type 0
-AreAttempts count talk = IsBounded (most_heard * count) (most_said * count) talk
+-- the talk of so many attempts
+abbrev AreBounded : ℕ → List TalkItem → Type 0
+AreBounded count talk = IsBounded (most_heard * count) (most_said * count) talk
 
-one_attempt : (last : Option CivilMinute) (t : Tried) → IsTried last t → IsBounded most_heard most_said t.said
+one_attempt : (last : Option CivilMinute) (t : MadeAttempt) → IsMadeAfter last t → IsBounded most_heard most_said t.said
 one_attempt last t h = attempts_are_bounded last t.said t.place t.taken t.end h
 
-none_after : (count : ℕ) → AreAttempts count []
+none_after : (count : ℕ) → AreBounded count []
 none_after count = record { hears = omega arith; says = omega arith }
 
 -- one attempt before others
-one_before : (count : ℕ) (s t : List TalkItem) → IsBounded most_heard most_said s → AreAttempts count t → (more : ℕ) → count + 1 ≤ more → AreAttempts more (s ++ t)
+one_before : (count : ℕ) (s t : List TalkItem) → IsBounded most_heard most_said s → AreBounded count t → (more : ℕ) → count + 1 ≤ more → AreBounded more (s ++ t)
 one_before count s t one others more few =
     bounded_within (most_heard + most_heard * count) (most_said + most_said * count) (most_heard * more) (most_said * more) (s ++ t) (omega (arith, few)) (omega (arith, few))
     (bounded_joins most_heard most_said (most_heard * count) (most_said * count) s t one others)
 
 -- the attempts of a round from here, so many being made and so many left
-attempts_bounded : (made left : ℕ) (last : Option CivilMinute) (tries : List Tried) (end : RoundEnd) → made + left ≡ most_attempts → Attempts made last tries end → AreAttempts left (all_said tries)
+attempts_bounded : (made left : ℕ) (last : Option CivilMinute) (tries : List MadeAttempt) (end : RoundEnd) → made + left ≡ most_attempts → AreAttempts made last tries end → AreBounded left (all_said tries)
 attempts_bounded made left last [] end three h = none_after left
 attempts_bounded made left last (t ∷ ts) end three (less, tried, inl (failed, more)) =
     let n : ℕ = left - 1 in
     one_before n t.said (all_said ts) (one_attempt last t tried) (attempts_bounded (made + 1) n (stamp_after last t) ts end (omega (arith, three, less)) more) left (omega (arith, three, less))
 attempts_bounded made left last (t ∷ ts) end three (less, tried, inr (ends, none)) =
-    subst (λ (x : List Tried). AreAttempts left (t.said ++ all_said x)) (sym none)
+    subst (λ (x : List MadeAttempt). AreBounded left (t.said ++ all_said x)) (sym none)
     (one_before 0 t.said [] (one_attempt last t tried) (none_after 0) left (omega (arith, three, less)))
 
 -- what one round adds to its link's talk

@@ -29,7 +29,7 @@ use Rattle.station_session.specs.declared.report.Report.{Report}
 use Rattle.station_session.specs.declared.round.Round.{Round}
 use Rattle.station_session.specs.declared.round_end.RoundEnd.{RoundEnd}
 use Rattle.station_session.specs.declared.round_end.RoundEnd.TheVariants as round_end
-use Rattle.station_session.specs.Attempts.{Tried, Attempts, end_after, stamp_behind, all_batches, all_said, most_attempts}
+use Rattle.station_session.specs.Attempts.{MadeAttempt, AreAttempts, end_after, stamp_behind, all_batches, all_said, most_attempts}
 use Rattle.station_session.specs.Batches.{last_answer}
 use Rattle.station_session.specs.Round.{IsTally}
 use Rattle.station_session.specs.RoundAt.{AllFailed, HasFailed, RoundAt, tally_of}
@@ -163,7 +163,7 @@ module _ {last : Option CivilMinute} {talk : List TalkItem} {kept : List (List (
   -- the attempt that is over, behind those that failed
   module _ (t : List TalkItem) (given : Handed) (s : AttemptState) (end : DumpEnd) (tally : Tally) (b : Brought start a (r.said ++ t) end (handed_over a s) tally)
       (more_given : handed_over a s ≡ join (handed_over a r.state) given) where
-    tries : List Tried
+    tries : List MadeAttempt
     tries = all last r.tries (r.said ++ t) end (handed_over a s) tally r.failed less b
 
     talk_is : talk ++ t ≡ all_said tries
@@ -199,10 +199,10 @@ module _ {last : Option CivilMinute} {talk : List TalkItem} {kept : List (List (
       troubles = troubles_are report.troubles.items noted;
     }
       where
-        ended : (end_after end ≡ Some e) ⊎ ((end_after end ≡ None) × (e ≡ round_end.GaveUp) × (round.more ≡ 0)) → Attempts 0 last tries e
+        ended : (end_after end ≡ Some e) ⊎ ((end_after end ≡ None) × (e ≡ round_end.GaveUp) × (round.more ≡ 0)) → AreAttempts 0 last tries e
         ended (inl is) = round_ends last r.tries (r.said ++ t) end (handed_over a s) tally r.failed less b e is
         ended (inr (none, is, zero)) =
-            subst (λ (x : RoundEnd). Attempts 0 last (all last r.tries (r.said ++ t) end (handed_over a s) tally r.failed less b) x) (sym is)
+            subst (λ (x : RoundEnd). AreAttempts 0 last (all last r.tries (r.said ++ t) end (handed_over a s) tally r.failed less b) x) (sym is)
             (gives_up last r.tries (r.said ++ t) end (handed_over a s) tally r.failed less b none (omega (arith, zero, r.few)))
 
     -- it failed, and the next one begins

@@ -22,7 +22,7 @@ use Rattle.station_session.specs.declared.report.Report.{Report}
 use Rattle.station_session.specs.declared.round_end.RoundEnd.{RoundEnd}
 use Rattle.station_session.specs.declared.round_end.RoundEnd.TheVariants as round
 use Rattle.station_session.specs.declared.session.Session.{Session}
-use Rattle.station_session.specs.Attempts.{Attempts, EndsBefore, all_batches, most_attempts}
+use Rattle.station_session.specs.Attempts.{AreAttempts, EndsBefore, all_batches, most_attempts}
 use Rattle.causes.specs.Stored.{stale_after}
 use Rattle.station_session.specs.Batches.{kept_records, last_answer, Fit}
 use Rattle.station_session.specs.Report.{rows_marked, marks_for, acked, IsNew}
@@ -103,7 +103,7 @@ module _ {L D : Type 0} {traffic : Traffic L} {medium : Medium D} where
 
     -- what is said of a round, by the stamp that it began after
     record Served (rows : List Row) (stamp : Option CivilMinute) : Type 0 where
-      pub attempts : Attempts 0 stamp made.tries end
+      pub attempts : AreAttempts 0 stamp made.tries end
       pub stores : Stores medium old.settings rows (all_batches stamp made.tries) (holding old.book disk []) (holding b' disk' report.marks.items)
       pub tally : IsTally stamp made.tries report.tally
       pub kept : acked report ≡ report.rows_before + length (kept_records (all_batches stamp made.tries))

@@ -7,11 +7,11 @@ use Rattle.dmpaft_pump.specs.Batch.{batches, records_in}
 use Rattle.dmpaft_pump.specs.Keeper.{Handed, kept_in}
 use Rattle.dmpaft_driver.specs.OneAttempt.{Acknowledges}
 use Rattle.station_session.specs.declared.report.Mark.{Mark}
-use Rattle.station_session.specs.Attempts.{Tried, stamp_behind, all_batches}
+use Rattle.station_session.specs.Attempts.{MadeAttempt, stamp_behind, all_batches}
 use Rattle.station_session.specs.Report.{rows_marked}
 
 -- the batches of these attempts that were kept, and those of pages of the attempt behind them
-abbrev pub kept_up_to : Option CivilMinute → List Tried → ℕ → List (List ℕ) → List (List (List ℕ))
+abbrev pub kept_up_to : Option CivilMinute → List MadeAttempt → ℕ → List (List ℕ) → List (List (List ℕ))
 kept_up_to last earlier place pages =
     kept_in (all_batches last earlier) ++ batches (stamp_behind last earlier) place pages
 
@@ -22,9 +22,10 @@ pub record AreMarked (before : ℕ) (marks : List Mark) (kept : List (List (List
   pub noted_first : IsFrontOf noted marks
   pub rows : rows_marked before noted ≡ before + length (records_in kept)
 
--- wherever 0x06 was said for pages in an attempt, their batches and all before them had been kept and marked
-abbrev pub AcknowledgedAreMarked : Option CivilMinute → List Tried → ℕ → List Mark → Type 0
+-- For each 0x06 that an attempt says right after a page was taken, the batches up to that page are kept and marked. The
+-- first marks tell just their rows.
+abbrev pub AcknowledgedAreMarked : Option CivilMinute → List MadeAttempt → ℕ → List Mark → Type 0
 AcknowledgedAreMarked last tries before marks =
-    (earlier : List Tried) (t : Tried) (later : List Tried) (place : ℕ) (pages : List (List ℕ))
+    (earlier : List MadeAttempt) (t : MadeAttempt) (later : List MadeAttempt) (place : ℕ) (pages : List (List ℕ))
     → tries ≡ earlier ++ t ∷ later → Acknowledges (stamp_frame_of (stamp_behind last earlier)) t.said place pages
     → AreMarked before marks (kept_up_to last earlier place pages) (all_batches last tries)

@@ -8,7 +8,7 @@ use Rattle.weather_book.specs.Book.{last_stamp_of}
 use Rattle.dmpaft_pump.specs.declared.outcome.Tally.{Tally}
 use Rattle.dmpaft_pump.specs.declared.outcome.Trouble.{Trouble}
 use Rattle.station_session.specs.declared.round_end.RoundEnd.{RoundEnd}
-use Rattle.station_session.specs.Attempts.{Tried, Attempts, all_said, all_batches}
+use Rattle.station_session.specs.Attempts.{MadeAttempt, AreAttempts, all_said, all_batches}
 use Rattle.station_session.specs.Holding.{Holding}
 use Rattle.station_session.specs.Round.{IsTally}
 use Rattle.station_session.specs.OneBatch.{AddsBatch, Chain}
@@ -18,8 +18,8 @@ use Rattle.station_session.specs.Troubles.{troubles_of}
 pub record MakesAttempts {L D : Type 0} (traffic : Traffic L) (medium : Medium D)
     (settings : StationSettings) (end : RoundEnd) (old : Holding D) (link : L) (new : Holding D) (link' : L)
     (made : ℕ) (tally : Tally) (troubles : List Trouble) : Type 0 where
-  pub tries : List Tried
-  pub attempts : Attempts 0 (last_stamp_of old.book) tries end
+  pub tries : List MadeAttempt
+  pub attempts : AreAttempts 0 (last_stamp_of old.book) tries end
   pub adds : Adds traffic link (all_said tries) link'
   pub chain : Chain (AddsBatch medium settings) old (all_batches (last_stamp_of old.book) tries) new
   pub count : made ≡ length tries

@@ -7,6 +7,7 @@ use Rattle.settings_file.specs.StationSettings.{StationSettings}
 use Rattle.weather_book.specs.declared.book.Book.{Book}
 use Rattle.weather_book.specs.Book.{BookStandsFor, most_rows_of}
 use Rattle.gated_log.specs.Appending.{ByGate}
+use Rattle.gated_log.specs.Calls.{changes_in_a_batch, gate_change}
 use Rattle.packed_rows.specs.Rows.{slot_total}
 use Rattle.weather_book.specs.Stands.{HasRows, StandsOn, StandsToReadOn}
 use Rattle.causes.specs.declared.stored.Stored.TheVariants as stored
@@ -14,7 +15,8 @@ use Rattle.dmpaft_pump.specs.Keeper.{Handed}
 use Rattle.gated_log.specs.Layout.{slot_size}
 use Rattle.station_session.specs.declared.report.Mark.{Mark}
 use Rattle.station_session.specs.Records.{stored_rows}
-use Rattle.station_session.specs.Batches.{kept_records, all_records, kept_count, last_answer, Fit, changes_for, ChangesAreBegun}
+use Rattle.station_session.specs.Batches.{kept_records, all_records, kept_count, last_answer}
+use Rattle.station_session.specs.Batches.{Fit, changes_for, ChangesAreBegun}
 use Rattle.station_session.specs.Images.{HasWhole}
 use Rattle.station_session.specs.Report.{marks_for}
 use Rattle.station_session.specs.Marks.{MarksHold}
@@ -42,19 +44,22 @@ pub record Stores {D : Type 0} (medium : Medium D)
   -- how many changes were begun for a batch that met a disk fault
   pub failed : ℕ
   pub begun : ChangesAreBegun (last_answer steps) failed
-  pub moved : medium.moment new.disk ≡ medium.moment old.disk + (4 * kept_count steps + failed)
+  pub moved : medium.moment new.disk ≡ medium.moment old.disk + (changes_in_a_batch * kept_count steps + failed)
   pub went_on : medium.went old.disk (changes_for settings failed rows steps) new.disk
+  -- a mark for each batch that was kept
   pub noted : new.marks ≡ old.marks ++ marks_for (medium.moment old.disk) (length rows) steps
-  -- a crash leaves the rows of a whole number of batches, and of one that met a disk fault only where its third change
-  -- was begun
+  -- a crash leaves the rows of a whole number of batches, and of one that met a disk fault only where the change that
+  -- opens its gate was begun
   pub images : StandsOn medium old.book old.disk rows
-      → LeavesOnly medium (HasWhole settings (3 ≤ failed) rows steps) old.disk new.disk
+      → LeavesOnly medium (HasWhole settings (gate_change ≤ failed) rows steps) old.disk new.disk
   -- after a disk fault the gate behind the rows tells which of the two a crash now leaves
   pub gate : last_answer steps ≡ stored.DiskFault → StandsOn medium old.book old.disk rows
-      → ByGate medium (3 ≤ failed) (slot_size * (slot_total (rows_after_batches settings rows steps) + 1))
-      (HasRows (rows_after_batches settings rows steps)) (HasRows (rows ++ stored_rows settings (all_records steps))) new.disk
+      → ByGate medium (gate_change ≤ failed) (slot_size * (slot_total (rows_after_batches settings rows steps) + 1))
+      (HasRows (rows_after_batches settings rows steps))
+      (HasRows (rows ++ stored_rows settings (all_records steps))) new.disk
   pub marked : StandsOn medium old.book old.disk rows → MarksHold medium old.disk rows old.marks
       → MarksHold medium new.disk (rows_after_batches settings rows steps) new.marks
+  -- without a disk fault the rows that were kept stand on the disk, behind the old ones
   pub stands : last_answer steps ≢ stored.DiskFault → StandsOn medium old.book old.disk rows
       → StandsOn medium new.book new.disk (rows_after_batches settings rows steps)
   -- after a disk fault the rows can still be read

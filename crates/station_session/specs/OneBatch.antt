@@ -8,6 +8,7 @@ use Rattle.settings_file.specs.StationSettings.{StationSettings}
 use Rattle.weather_book.specs.Book.{BookStandsFor, len_of, last_stamp_of, most_rows_of, book_is_stale}
 use Rattle.packed_rows.specs.Rows.{slot_total}
 use Rattle.gated_log.specs.Appending.{ByGate}
+use Rattle.gated_log.specs.Calls.{gate_change}
 use Rattle.weather_book.specs.Stands.{HasRows, NowHasRows, RowsOldOrAll, StandsOn, StandsToReadOn}
 use Rattle.causes.specs.declared.stored.Stored.{Stored}
 use Rattle.causes.specs.declared.stored.Stored.TheVariants as stored
@@ -15,7 +16,8 @@ use Rattle.dmpaft_pump.specs.Keeper.{Handed, answer_for, one_batch, kept_all, jo
 use Rattle.station_session.specs.Records.{stored_rows}
 use Rattle.causes.specs.Stored.{stale_after}
 use Rattle.gated_log.specs.Layout.{slot_size}
-use Rattle.station_session.specs.Batches.{Delivery, delivery, kept_of, BatchFits, ChangesAreBegun, begun_for, batch_changes}
+use Rattle.station_session.specs.Batches.{Delivery, delivery, kept_of, BatchFits, ChangesAreBegun}
+use Rattle.station_session.specs.Batches.{begun_for, batch_changes}
 use Rattle.station_session.specs.Batches.{slots_more}
 use Rattle.station_session.specs.Images.{MayStand}
 use Rattle.station_session.specs.Report.{mark_for}
@@ -47,10 +49,10 @@ pub record AddsBatch {D : Type 0} (medium : Medium D)
       (batch_changes s.answer failed (slot_total rows) (slots_more rows (stored_rows settings s.rows))) new.disk
   pub noted : new.marks ≡ old.marks ++ mark_for s.answer (medium.moment new.disk) (len_of old.book + length s.rows)
   pub images : (rows : List Row) → StandsOn medium old.book old.disk rows
-      → LeavesOnly medium (RowsOldOrAll rows (stored_rows settings s.rows) (MayStand s.answer (3 ≤ failed)))
+      → LeavesOnly medium (RowsOldOrAll rows (stored_rows settings s.rows) (MayStand s.answer (gate_change ≤ failed)))
       old.disk new.disk
   pub gate : s.answer ≡ stored.DiskFault → (rows : List Row) → StandsOn medium old.book old.disk rows
-      → ByGate medium (3 ≤ failed) (slot_size * (slot_total rows + 1)) (HasRows rows)
+      → ByGate medium (gate_change ≤ failed) (slot_size * (slot_total rows + 1)) (HasRows rows)
       (HasRows (rows ++ stored_rows settings s.rows)) new.disk
   pub now : s.answer ≡ stored.Done → (rows : List Row) → StandsOn medium old.book old.disk rows
       → NowHasRows medium new.disk (rows ++ stored_rows settings s.rows)

@@ -1,6 +1,6 @@
--- Where a round stands: which of its attempts failed, and how far the one under way has come. (That there are three at
--- most is this project's profile.)
-use Rattle.std.specs.Prelude.{◌-◌, ◌≡◌, ℕ, ◌+◌, ◌*◌, ◌^◌, ◌≤◌, List, [], ◌∷◌, ◌++◌, length, Option, None}
+-- Where a round stands: which of its attempts failed, and how far the one under way has come. (How many there
+-- may be is this project's profile.)
+use Rattle.std.specs.Prelude.{◌-◌, ◌≡◌, ℕ, ◌+◌, ◌*◌, ◌≤◌, List, [], ◌∷◌, ◌++◌, length, Option, None}
 use Rattle.station_base.specs.CivilMinute.{CivilMinute}
 use Rattle.serial_link.specs.declared.talk.TalkItem.{TalkItem}
 use Rattle.causes.specs.declared.stored.Stored.{Stored}
@@ -10,21 +10,23 @@ use Rattle.dmpaft_pump.specs.declared.outcome.Trouble.{Trouble}
 use Rattle.dmpaft_pump.specs.declared.pump_end.PumpEnd.TheVariants as pump_end
 use Rattle.dmpaft_driver.specs.Exact.{AllDone}
 use Rattle.dmpaft_pump.specs.Keeper.{kept_all, join, last_kept}
+use Rattle.dmpaft_pump.specs.Phases.{attempt_steps}
 use Rattle.dmpaft_pump.specs.Pump.{AttemptState, Over, pump_after}
 use Rattle.dmpaft_pump.specs.Shown.{PumpShows, steps_left}
 use Rattle.dmpaft_driver.specs.Standing.{handed_over}
 use Rattle.station_session.specs.declared.round.Round.{Round}
-use Rattle.station_session.specs.Attempts.{Tried, IsTried, end_after, stamp_after, stamp_behind, all_batches, all_said, most_attempts}
+use Rattle.station_session.specs.Attempts.{MadeAttempt, IsMadeAfter, end_after, stamp_after, stamp_behind}
+use Rattle.station_session.specs.Attempts.{all_batches, all_said, most_attempts}
 use Rattle.station_session.specs.Attempts.{page_count, skip_count}
 use Rattle.station_session.specs.Troubles.{troubles_of}
 
 -- each of these attempts failed, the first asking after this stamp and each later one after the last record kept
-abbrev pub AllFailed : Option CivilMinute → List Tried → Type 0
+abbrev pub AllFailed : Option CivilMinute → List MadeAttempt → Type 0
 AllFailed last [] = Unit {0}
-AllFailed last (t ∷ ts) = IsTried last t × (end_after t.end ≡ None) × AllFailed (stamp_after last t) ts
+AllFailed last (t ∷ ts) = IsMadeAfter last t × (end_after t.end ≡ None) × AllFailed (stamp_after last t) ts
 
 -- what these attempts brought
-abbrev pub tally_of : Option CivilMinute → List Tried → Tally
+abbrev pub tally_of : Option CivilMinute → List MadeAttempt → Tally
 tally_of last tries = record {
   pages = page_count tries;
   skipped = skip_count tries;
@@ -40,7 +42,7 @@ HasFailed s =
 -- there may be, and behind them the pump is where its attempt stands. Where that one failed too, it is the last.
 pub record RoundAt (last : Option CivilMinute) (talk : List TalkItem) (kept : List (List (List ℕ))) (round : Round)
     : Type 0 where
-  pub tries : List Tried
+  pub tries : List MadeAttempt
   pub failed : AllFailed last tries
   pub few : round.more + length tries ≡ most_attempts - 1
   pub pages : page_count tries ≤ most_pages * length tries
@@ -55,6 +57,6 @@ pub record RoundAt (last : Option CivilMinute) (talk : List TalkItem) (kept : Li
   pub kept_are : kept_all kept ≡ join (all_batches last tries) (handed_over (stamp_behind last tries) state)
   pub troubles : round.troubles.items ≡ troubles_of tries
 
--- so many turns are left at most: those of the pump, and fewer than 2^30 for each attempt that may follow
+-- so many turns are left at most: those of the pump, and the steps of each attempt that may follow
 abbrev pub round_turns_left : Round → ℕ
-round_turns_left round = steps_left round.pump + 2 ^ 30 * round.more
+round_turns_left round = steps_left round.pump + attempt_steps * round.more

@@ -18,7 +18,7 @@ use Rattle.station_session.specs.declared.round.Turn.TheVariants as turn
 use Rattle.station_session.specs.declared.round_end.RoundEnd.{RoundEnd}
 use Rattle.station_session.specs.declared.round_end.RoundEnd.TheVariants as round_end
 use Rattle.station_session.specs.declared.session.Session.{Session}
-use Rattle.station_session.specs.Attempts.{Tried, Attempts, all_batches, all_said}
+use Rattle.station_session.specs.Attempts.{MadeAttempt, AreAttempts, all_batches, all_said}
 use Rattle.station_session.specs.Holding.{holding}
 use Rattle.station_session.specs.OneBatch.{AddsBatch, Chain}
 use Rattle.station_session.specs.Round.{IsTally, stale_with}
@@ -53,8 +53,8 @@ IsOneAtMost said given = (given ≡ Handed.Nothing)
 -- failed, and what was counted.
 pub record EndsRound (last : Option CivilMinute) (talk : List TalkItem) (given : Handed) (end : RoundEnd)
     (report : Report) : Type 0 where
-  pub tries : List Tried
-  pub attempts : Attempts 0 last tries end
+  pub tries : List MadeAttempt
+  pub attempts : AreAttempts 0 last tries end
   pub talk_is : talk ≡ all_said tries
   pub given_are : given ≡ all_batches last tries
   pub made : report.attempts ≡ length tries
@@ -75,7 +75,8 @@ RoundTurnsTo (turn.Ended end) last talk kept said given new =
 -- One turn of a round that stands so: what was said and heard, which batch was given to the book and what became of it,
 -- and where the round stands then, or how it ended.
 pub record RoundTakesTurn {L D : Type 0} (traffic : Traffic L) (medium : Medium D) (result : Turn)
-    (last : Option CivilMinute) (talk : List TalkItem) (kept : List (List (List ℕ))) (old new : RoundDesk L D) : Type 0 where
+    (last : Option CivilMinute) (talk : List TalkItem) (kept : List (List (List ℕ))) (old new : RoundDesk L D)
+    : Type 0 where
   pub said : List TalkItem
   pub given : Handed
   pub adds : Adds traffic old.link said new.link
@@ -90,8 +91,8 @@ stale_by turn.More = false
 stale_by (turn.Ended end) = stale_with end false
 
 -- Which answers a turn may give.
-pub record AnswersTurn {L D : Type 0} (traffic : Traffic L) (medium : Medium D) (result : Turn) (old new : RoundDesk L D)
-    : Type 0 where
+pub record AnswersTurn {L D : Type 0} (traffic : Traffic L) (medium : Medium D) (result : Turn)
+    (old new : RoundDesk L D) : Type 0 where
   pub fault : Cause (traffic.faults old.link) (traffic.faults new.link) (result ≡ turn.Ended round_end.LinkFault)
   pub shortage : Cause (traffic.shortages old.link) (traffic.shortages new.link)
       (result ≡ turn.Ended round_end.OutOfMemory)

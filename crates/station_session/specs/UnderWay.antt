@@ -41,7 +41,8 @@ pub record UnderWay {L D : Type 0} (traffic : Traffic L) (medium : Medium D) (be
 -- A round that began with these is over, and did all that a round does.
 pub record MakesRound {L D : Type 0} (traffic : Traffic L) (medium : Medium D) (end : RoundEnd)
     (began new : RoundHost L D) (report : Report) : Type 0 where
-  pub serves : (rows : List Row) → SessionStandsFor began.session rows → ServesRound traffic medium rows end began new report
+  pub serves : (rows : List Row) → SessionStandsFor began.session rows
+      → ServesRound traffic medium rows end began new report
   pub answers : AnswersRound traffic medium end began new report.attempts
   pub leaves : LeavesRound medium end began new report.attempts
 

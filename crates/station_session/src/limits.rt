@@ -1,7 +1,7 @@
 use dmpaft_pump::MOST_RECORDS;
 use vantage_frames::MOST_PAGES;
 
-// How often a dump is tried within a round.
+// The attempts of a round, at most.
 pub const ATTEMPTS: u8 = 3;
 
 // The most troubles of a round: one for each attempt.
@@ -22,8 +22,8 @@ pub const CHANGES: usize = 4;
 // The most changes of the disk that a round begins.
 pub const MOST_CHANGES: usize = CHANGES * MOST_BATCHES;
 
-/// The most bytes that a round hears: what each of three attempts can hear.
+/// The most bytes that a round hears: what each of its attempts can hear.
 pub const MOST_HEARD: usize = ATTEMPTS as usize * dmpaft_driver::MOST_HEARD;
 
-/// The most bytes that a round says: what each of three attempts can say.
+/// The most bytes that a round says: what each of its attempts can say.
 pub const MOST_SAID: usize = ATTEMPTS as usize * dmpaft_driver::MOST_SAID;

@@ -43,6 +43,7 @@ pub enum Turn {
 
 impl Round {
     ghost use Rattle.dmpaft_pump.specs.Pump.{Settling, begun};
+    ghost use Rattle.dmpaft_pump.specs.Phases.{attempt_steps};
     ghost use Rattle.dmpaft_pump.specs.Shown.{PumpShows, steps_left, no_tally};
     ghost use Rattle.station_session.specs.RoundAt.{round_turns_left};
     ghost use Rattle.station_session.specs.Stepping.{RoundGoesOn, Notes};
@@ -50,7 +51,7 @@ impl Round {
     // A round whose first attempt asks after this stamp.
     pub(crate) fn new(last: Option<Stamp>) -> Round
         ensures shows { PumpShows no_tally last (begun last Settling) result.pump }
-        ensures left { steps_left result.pump < 2 ^ 30 }
+        ensures left { steps_left result.pump < attempt_steps }
         ensures more { result.more ≡ most_attempts - 1 }
         ensures troubles { result.troubles.items ≡ [] }
     {
