@@ -9,8 +9,8 @@ use Rattle.station_base.specs.CivilMinute.{IsCivilMinute, minute_of}
 use Rattle.station_base.proofs.Minutes.{last_minute_number}
 use Rattle.schedule_file.specs.declared.schedule.step.Step as code_step
 use Rattle.schedule_file.specs.Steps.{MidRecord, ScheduleStep, no_details, records_in_steps, steps_seen}
-use Rattle.station_replay.specs.Schedule.{records}
-use Rattle.station_replay.specs.Stopped.{IsStop}
+use Rattle.replay_laws.specs.Schedule.{records}
+use Rattle.replay_laws.specs.Stopped.{IsStop}
 use Rattle.schedule_steps.specs.Accepted.{AreAccepted, HasRecord}
 use Rattle.schedule_steps.specs.Steps.{steps_for}
 use Rattle.schedule_steps.proofs.AcceptedSchedules.{falling_accepted}

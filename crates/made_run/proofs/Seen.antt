@@ -18,13 +18,13 @@ use Rattle.console_model.specs.declared.reply.ReplyKind.TheVariants.{Nothing, Co
 use Rattle.schedule_file.specs.declared.fate.Fate.{Fate}
 use Rattle.schedule_file.specs.declared.fate.Fate.TheVariants.{Lost, Cut, Dropped, Flipped}
 use Rattle.station_sim.specs.declared.unseen.Unseen.{Unseen}
-use Rattle.schedule_file.specs.Fates.{Fates}
+use Rattle.schedule_file.specs.Fates.{FatesByNumber}
 use Rattle.station_sim.specs.Delivery.{delivered}
 use Rattle.station_sim.specs.Joining.{and_then_some}
 use Rattle.station_sim.specs.Line.{Line, begins_with_ack, completes, message_counted, earlier, flies, from_console, from_host, happens, hears, is_harmed, joins, pages, passes, reply_joins, says_byte}
 use Rattle.station_sim.specs.Talk.{console_talk, started, line_step}
 use Rattle.station_session.specs.Attempts.{all_said}
-use Rattle.station_replay.specs.Replay.{IsBroken, Item, Stage}
+use Rattle.replay_laws.specs.Replay.{IsUnseenRound, Item, Stage}
 use Rattle.schedule_file.specs.declared.schedule.step.Stop.{Stop}
 use Rattle.line_laws.proofs.FrameStage.{hearing_is, waiting_is}
 use Rattle.made_run.proofs.Replies.{Fair, IsFair, fair_hear, fair_tick}
@@ -46,7 +46,7 @@ IsWholeOrCut (Some (Dropped p n)) = ⊥
 IsWholeOrCut (Some (Flipped p ms)) = ⊥
 
 -- What befalls in a round spares what is said, or is seen.
-pub record IsPlain (f : Fates) : Type 0 where
+pub record IsPlain (f : FatesByNumber) : Type 0 where
   pub host : (n : ℕ) → IsWholeOrLost (f.host n)
   pub reply : (n : ℕ) → IsWholeOrCut (f.reply n)
 
@@ -103,7 +103,7 @@ host_seen (Some (Flipped p ms)) m c plain = absurd plain
 still_none : (u : Option Unseen) (t : Bool) (x : Unseen) → u ≡ None → t ≡ false → earlier u (if t then Some x else None) ≡ None
 still_none u t x none is = ap (λ (v : Option Unseen). earlier v (if t then Some x else None)) none ∙ ap (λ (s : Bool). if s then Some x else None) is
 
-module _ (f : Fates) (plain : IsPlain f) where
+module _ (f : FatesByNumber) (plain : IsPlain f) where
   replied_seen : (o : Outcome) (w : Line) → IsFair o → w.unseen ≡ None → (reply_joins f o w).unseen ≡ None
   replied_seen o w fair none =
       still_none w.unseen _ (from_console (w.replies + 1)) none (reply_seen o.kind (f.reply (w.replies + 1)) o.bytes (plain.reply (w.replies + 1)) fair)
@@ -146,7 +146,7 @@ module _ (f : Fates) (plain : IsPlain f) where
       goes_seen t g.0 v g.2 (ap (λ (x : Line). x.unseen) q.2 ∙ joins_seen o.kind o (flies w q.0) (fair_tick w.console) none)
 
   -- no round is broken by an unseen delivery
-  pub none_broken : (settings : StationSettings) (stop : Option Stop) (s : Stage) (i : Item) → IsBroken settings f stop s i → ⊥
+  pub none_broken : (settings : StationSettings) (stop : Option Stop) (s : Stage) (i : Item) → IsUnseenRound settings f stop s i → ⊥
   none_broken settings stop s i h =
       let none : h.line.unseen ≡ None = goes_seen (all_said h.tried) (started s.line) h.line h.talks refl in
       let e : Some h.which ≡ None = sym h.unseen ∙ none in

@@ -7,12 +7,12 @@ use Rattle.settings_file.specs.StationSettings.{StationSettings}
 use Rattle.schedule_file.specs.declared.fate.Fate.{Fate}
 use Rattle.schedule_file.specs.declared.schedule.step.Step as code_step
 use Rattle.schedule_file.specs.declared.schedule.step.Step.TheVariants as code
-use Rattle.schedule_file.specs.Fates.{Fates}
+use Rattle.schedule_file.specs.Fates.{FatesByNumber}
 use Rattle.schedule_file.specs.Lists.{entry_of}
 use Rattle.schedule_file.specs.Steps.{Details, ScheduleStep, DueStep, RunStep, IdleStep, OpenStep, RoundStep, no_details, steps_seen}
-use Rattle.station_replay.specs.Replay.{IsUnseen, Item, Stage}
+use Rattle.replay_laws.specs.Replay.{IsUnseen, Item, Stage}
 use Rattle.schedule_file.specs.declared.schedule.step.Stop.{Stop}
-use Rattle.station_replay.specs.Schedule.{ReplayStep}
+use Rattle.replay_laws.specs.Schedule.{ReplayStep}
 use Rattle.schedule_steps.specs.Steps.{steps_for}
 use Rattle.draws.specs.Draws.{next_draw}
 use Rattle.made_run.specs.Made.{after_rounds, host_lost, is_round, kind_drawn, made_steps, reply_cut, reply_late, rounds_behind, steps_from}
@@ -75,7 +75,7 @@ all_plain (code.Open stop ∷ steps) all = all_plain steps all
 all_plain (code.Round fates stop ∷ steps) all =
     (record { host = λ n. lost_at n fates.host.entries all.0.0; reply = λ n. cut_at n fates.replies.entries all.0.1 }, all_plain steps all.1)
 
-plain_in : (xs ys : List ReplayStep) (f : Fates) (left : ℕ → List (List ℕ)) (stop : Option Stop) → AllPlain (xs ++ ReplayStep.Round f left stop ∷ ys) → IsPlain f
+plain_in : (xs ys : List ReplayStep) (f : FatesByNumber) (left : ℕ → List (List ℕ)) (stop : Option Stop) → AllPlain (xs ++ ReplayStep.Round f left stop ∷ ys) → IsPlain f
 unfolding AllPlain
 plain_in [] ys f left stop all = all.0
 plain_in (ReplayStep.Due rs ∷ xs) ys f left stop all = plain_in xs ys f left stop all

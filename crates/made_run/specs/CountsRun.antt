@@ -6,9 +6,9 @@ use Rattle.loop_packet.specs.declared.packet.LoopPacket.{LoopPacket}
 use Rattle.settings_file.specs.StationSettings.{plain_settings}
 use Rattle.schedule_file.specs.declared.schedule.step.Step as code_step
 use Rattle.schedule_file.specs.Steps.{steps_seen}
-use Rattle.station_replay.specs.Kept.{Kept}
-use Rattle.station_replay.specs.Replay.{IsWhole, Item, start}
-use Rattle.station_replay.specs.Schedule.{records}
+use Rattle.replay_laws.specs.Kept.{Kept}
+use Rattle.replay_laws.specs.Replay.{IsWhole, Item, start}
+use Rattle.replay_laws.specs.Schedule.{records}
 use Rattle.schedule_replay.specs.Counting.{counts_after, no_counts}
 use Rattle.schedule_replay.specs.declared.counts.Counts.{Counts}
 use Rattle.schedule_steps.specs.Steps.{steps_for}

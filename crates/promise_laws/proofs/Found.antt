@@ -6,10 +6,10 @@ use Rattle.causes.specs.Lists.{IsFrontOf}
 use Rattle.station_base.specs.declared.row.Row.{Row}
 use Rattle.settings_file.specs.StationSettings.{StationSettings}
 use Rattle.packed_rows.specs.Rising.{rows_rise}
-use Rattle.station_replay.specs.Kept.{Kept, KeptFrom, Past, ItemHolds, HoldsRows, no_past, past_with_item}
-use Rattle.station_replay.specs.DumpCounts.{DumpsGather, DumpCount, dump_counts}
-use Rattle.station_replay.specs.Replay.{Item}
-use Rattle.station_replay.proofs.Rounds.{front_join}
+use Rattle.replay_laws.specs.Kept.{Kept, KeptFrom, Past, ItemHolds, HoldsRows, no_past, past_with_item}
+use Rattle.replay_laws.specs.DumpCounts.{DumpsGather, DumpCount, dump_counts}
+use Rattle.replay_laws.specs.Replay.{Item}
+use Rattle.replay_laws.proofs.Rounds.{front_join}
 use Rattle.promise_laws.specs.Places.{SomeItem, past_behind, rows_at}
 
 module _ (settings : StationSettings) (records : List (List ℕ)) where

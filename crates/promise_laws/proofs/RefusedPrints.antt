@@ -7,8 +7,8 @@ use Rattle.std.proofs.lemmas.List.Elements.{All-contains}
 use Rattle.station_base.specs.declared.row.Row.{Row}
 use Rattle.settings_file.specs.StationSettings.{StationSettings}
 use Rattle.weather_reports.specs.Recomputed.{AreDayLines, DayLine, IsRecomputed}
-use Rattle.station_replay.specs.Kept.{Past, ItemHolds, HoldsRound}
-use Rattle.station_replay.specs.Replay.{Item, Rounded, is_stop}
+use Rattle.replay_laws.specs.Kept.{Past, ItemHolds, HoldsRound}
+use Rattle.replay_laws.specs.Replay.{Item, Rounded, is_stop}
 use Rattle.promise_laws.specs.Printing.{Printed, printed_at, printed_unless, PrintsRowTwice, LeavesRowOut, HasWrongNumber}
 
 -- what was printed before and by an item are the rows

@@ -9,12 +9,13 @@ use Rattle.console_model.specs.Console.{Begun}
 use Rattle.dmpaft_pump.specs.Batch.{records_in}
 use Rattle.station_session.specs.Records.{stored_rows}
 use Rattle.line_laws.specs.PagesAcknowledged.{records_on_pages}
-use Rattle.station_replay.specs.Acknowledged.{AllRounds, KeepsAcknowledged}
-use Rattle.station_replay.specs.Kept.{Past, ItemHolds, HoldsRound, IsComplete, batches_given}
-use Rattle.station_replay.specs.DumpCounts.{DumpsGather, DumpCount, counts_of_attempt, dump_count, offered, dump_counts}
-use Rattle.station_replay.specs.Replay.{Item, Rounded}
-use Rattle.station_replay.specs.Round.{Attempted}
+use Rattle.replay_laws.specs.Acknowledged.{AllRounds, KeepsAcknowledged}
+use Rattle.replay_laws.specs.Kept.{Past, ItemHolds, HoldsRound, IsComplete, batches_given}
+use Rattle.replay_laws.specs.DumpCounts.{DumpsGather, DumpCount, counts_of_attempt, dump_count, offered, dump_counts}
+use Rattle.replay_laws.specs.Replay.{Item, Rounded}
+use Rattle.replay_laws.specs.Round.{LineAttempt}
 use Rattle.promise_laws.specs.Rounds.{SomeRound, DropsAcknowledgedPages, DropsPagesSaid, LeavesNewerRecord, LeavesHalfPage, GivesUpEarly, GivesUpUnharmed}
+use Rattle.replay_laws.specs.Keeping.{batches_before}
 
 -- dumps gather one list of rows
 one_gathers : (settings : StationSettings) (records : List (List ℕ)) (dumps : List DumpCount) (a b c : List Row)
@@ -30,7 +31,7 @@ gathers_parts settings records (p ∷ ps) qs a c (enough, few, g) =
     let q = gathers_parts settings records ps qs _ c g in
     (q.0, (enough, few, q.1), q.2)
 
-counts_join : (xs ys : List Attempted) → dump_counts (xs ++ ys) ≡ dump_counts xs ++ dump_counts ys
+counts_join : (xs ys : List LineAttempt) → dump_counts (xs ++ ys) ≡ dump_counts xs ++ dump_counts ys
 counts_join [] ys = refl
 counts_join (x ∷ xs) ys = ap (λ (ps : List DumpCount). counts_of_attempt x ++ ps) (counts_join xs ys) ∙ sym (append_assoc (counts_of_attempt x) (dump_counts xs) (dump_counts ys))
 
@@ -58,7 +59,7 @@ module _ (settings : StationSettings) (records : List (List ℕ)) where
       let dump = dump_count d.attempt.acknowledged d.attempt.gained d.dump in
       let own : dump_counts (d.attempt ∷ d.later) ≡ dump ∷ dump_counts d.later = ap (λ (ds : List Begun). map (dump_count d.attempt.acknowledged d.attempt.gained) ds ++ dump_counts d.later) d.began in
       let is : past.dumps ++ dump_counts round.tried ≡ (past.dumps ++ dump_counts d.earlier) ++ (dump ∷ dump_counts d.later)
-      = ap (λ (ts : List Attempted). past.dumps ++ dump_counts ts) d.tried ∙ ap (λ (ps : List DumpCount). past.dumps ++ ps) (counts_join d.earlier (d.attempt ∷ d.later) ∙ ap (λ (ps : List DumpCount). dump_counts d.earlier ++ ps) own)
+      = ap (λ (ts : List LineAttempt). past.dumps ++ dump_counts ts) d.tried ∙ ap (λ (ps : List DumpCount). past.dumps ++ ps) (counts_join d.earlier (d.attempt ∷ d.later) ∙ ap (λ (ps : List DumpCount). dump_counts d.earlier ++ ps) own)
       ∙ sym (append_assoc past.dumps (dump_counts d.earlier) (dump ∷ dump_counts d.later)) in
       let (rows, earlier, more) = gathers_parts settings records (past.dumps ++ dump_counts d.earlier) (dump ∷ dump_counts d.later) [] round.rows
       (subst (λ (ps : List DumpCount). DumpsGather settings records ps [] round.rows) is h.gathers) in
@@ -70,11 +71,11 @@ module _ (settings : StationSettings) (records : List (List ℕ)) where
   last_all : (past : Past) (round : Rounded) → LeavesNewerRecord settings records past round → IsComplete settings records past.dumps round.tried → ⊥
   last_all past round l c =
       let (earlier_same, last_same) = same_from_push c.earlier l.earlier c.last l.last (sym c.is_last ∙ l.tried) in
-      let dumps_same : c.dump ∷ [] ≡ l.dump ∷ [] = sym c.began ∙ ap (λ (t : Attempted). t.dumps) last_same ∙ l.began in
+      let dumps_same : c.dump ∷ [] ≡ l.dump ∷ [] = sym c.began ∙ ap (λ (t : LineAttempt). t.dumps) last_same ∙ l.began in
       let dump_same : c.dump ≡ l.dump = (same_from_push [] [] c.dump l.dump dumps_same).1 in
-      let gathered = subst (λ (ts : List Attempted). DumpsGather settings records (past.dumps ++ dump_counts ts) [] c.rows) earlier_same c.gathered in
+      let gathered = subst (λ (ts : List LineAttempt). DumpsGather settings records (past.dumps ++ dump_counts ts) [] c.rows) earlier_same c.gathered in
       let rows_same : c.rows ≡ l.rows = one_gathers settings records (past.dumps ++ dump_counts l.earlier) [] c.rows l.rows gathered l.gathered in
-      l.not_all (ap (λ (t : Attempted). t.gained) (sym last_same) ∙ c.whole
+      l.not_all (ap (λ (t : LineAttempt). t.gained) (sym last_same) ∙ c.whole
       ∙ ap (λ (rows : List Row). length (offered records rows (length c.dump.history))) rows_same
       ∙ ap (λ (dump : Begun). length (offered records l.rows (length dump.history))) dump_same)
 
@@ -85,7 +86,7 @@ module _ (settings : StationSettings) (records : List (List ℕ)) where
   no_half_page past round l h = either (h.stopped l.change l.stopped).1
     where
       b : ℕ
-      b = (l.change - 1) / 4
+      b = batches_before l.change
 
       either : (round.rows ≡ round.before ++ stored_rows settings (records_in (take b (batches_given round.tried))))
           ⊎ (round.rows ≡ round.before ++ stored_rows settings (records_in (take (b + 1) (batches_given round.tried)))) → ⊥
@@ -98,5 +99,5 @@ module _ (settings : StationSettings) (records : List (List ℕ)) where
   pub not_unharmed : (past : Past) (round : Rounded) → GivesUpUnharmed past round → HoldsRound settings records past round → ⊥
   not_unharmed past round (gave_up, attempt, there, none) h =
       let harmed : 0 < attempt.harmed =
-      All-contains (λ (t : Attempted). 0 < t.harmed) round.tried attempt (All-from_recursion (λ (t : Attempted). 0 < t.harmed) round.tried (h.gave_up gave_up).1) there in
+      All-contains (λ (t : LineAttempt). 0 < t.harmed) round.tried attempt (All-from_recursion (λ (t : LineAttempt). 0 < t.harmed) round.tried (h.gave_up gave_up).1) there in
       omega (arith, harmed, none)

@@ -6,8 +6,8 @@ use Rattle.settings_file.specs.StationSettings.{StationSettings}
 use Rattle.station_base.specs.declared.row.Row.{Row}
 use Rattle.std.specs.List.{Contains}
 use Rattle.std.specs.Prelude.{◌<◌, length}
-use Rattle.station_replay.specs.Kept.{Past, ItemHolds}
-use Rattle.station_replay.specs.Replay.{Item}
+use Rattle.replay_laws.specs.Kept.{Past, ItemHolds}
+use Rattle.replay_laws.specs.Replay.{Item}
 use Rattle.promise_laws.specs.Rows.{IsOfRecord, HasMadeUpRow, StampsDoNotRise, HasStampTwice, HasLostRows, HasLostAcknowledged}
 use Rattle.promise_laws.proofs.Found.{rows_hold}
 use Rattle.promise_laws.proofs.StoredRows.{gathered_are_stored}

@@ -7,7 +7,7 @@ use Rattle.settings_file.specs.StationSettings.{StationSettings}
 use Rattle.console_ring.specs.History.{retained}
 use Rattle.station_session.specs.Records.{stored_rows}
 use Rattle.station_session.proofs.Stamps.{stored_append}
-use Rattle.station_replay.specs.DumpCounts.{DumpsGather, DumpCount, offered}
+use Rattle.replay_laws.specs.DumpCounts.{DumpsGather, DumpCount, offered}
 use Rattle.promise_laws.specs.Rows.{IsOfRecord}
 
 module _ (settings : StationSettings) (records : List (List ℕ)) where

@@ -7,17 +7,17 @@ use Rattle.vantage_frames.specs.StampFrame.{stamp_frame_of}
 use Rattle.dmpaft_pump.specs.Batch.{records_in}
 use Rattle.dmpaft_driver.specs.OneAttempt.{Acknowledges}
 use Rattle.station_session.specs.Acknowledged.{kept_up_to}
-use Rattle.station_session.specs.Attempts.{Tried, stamp_behind}
+use Rattle.station_session.specs.Attempts.{MadeAttempt, stamp_behind}
 use Rattle.station_session.specs.Report.{rows_marked}
 use Rattle.station_session.specs.declared.report.Mark.{Mark}
 use Rattle.station_session.specs.declared.report.Report.{Report}
 
 -- In an attempt of a round after this stamp 0x06 was said right after these pages, and no mark tells that so many rows
 -- were stored as there are with all batches up to theirs.
-pub record AcknowledgesUnstored (last : Option CivilMinute) (tries : List Tried) (report : Report) : Type 0 where
-  pub earlier : List Tried
-  pub attempt : Tried
-  pub later : List Tried
+pub record AcknowledgesUnstored (last : Option CivilMinute) (tries : List MadeAttempt) (report : Report) : Type 0 where
+  pub earlier : List MadeAttempt
+  pub attempt : MadeAttempt
+  pub later : List MadeAttempt
   pub place : ℕ
   pub pages : List (List ℕ)
   pub tried : tries ≡ earlier ++ attempt ∷ later

@@ -2,8 +2,8 @@
 use Rattle.std.specs.Prelude.{◌≡◌, List, [], ◌∷◌, ◌++◌, Some, None}
 use Rattle.std.specs.declared.option.Option.{Option}
 use Rattle.station_base.specs.declared.row.Row.{Row}
-use Rattle.station_replay.specs.Kept.{Past, no_past, past_with_item}
-use Rattle.station_replay.specs.Replay.{Item}
+use Rattle.replay_laws.specs.Kept.{Past, no_past, past_with_item}
+use Rattle.replay_laws.specs.Replay.{Item}
 
 -- what is known behind these items
 abbrev pub past_behind : Past → List Item → Past

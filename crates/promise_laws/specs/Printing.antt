@@ -5,8 +5,8 @@ use Rattle.station_base.specs.declared.row.Row.{Row}
 use Rattle.daily_summary.specs.Readings.{readings, readings_total, time, weighted}
 use Rattle.daily_summary.specs.Summary.{rows_of_day}
 use Rattle.weather_reports.specs.Recomputed.{DayLine}
-use Rattle.station_replay.specs.Kept.{Past}
-use Rattle.station_replay.specs.Replay.{Item, is_stop}
+use Rattle.replay_laws.specs.Kept.{Past}
+use Rattle.replay_laws.specs.Replay.{Item, is_stop}
 
 -- the rows of an archive, and how many of them an item passes over as it prints them
 pub record Printed : Type 0 where

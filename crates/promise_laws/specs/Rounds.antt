@@ -13,11 +13,11 @@ use Rattle.dmpaft_driver.specs.OneAttempt.{Acknowledges}
 use Rattle.station_session.specs.Attempts.{most_attempts}
 use Rattle.station_session.specs.Records.{stored_rows}
 use Rattle.line_laws.specs.PagesAcknowledged.{records_on_pages}
-use Rattle.station_replay.specs.Acknowledged.{rows_after_attempts, rows_with_pages}
-use Rattle.station_replay.specs.Kept.{Past, batches_given}
-use Rattle.station_replay.specs.DumpCounts.{DumpsGather, offered, dump_counts}
-use Rattle.station_replay.specs.Replay.{Item, Rounded}
-use Rattle.station_replay.specs.Round.{Attempted, Ending}
+use Rattle.replay_laws.specs.Acknowledged.{rows_after_attempts, rows_with_pages}
+use Rattle.replay_laws.specs.Kept.{Past, batches_given}
+use Rattle.replay_laws.specs.DumpCounts.{DumpsGather, offered, dump_counts}
+use Rattle.replay_laws.specs.Replay.{Item, Rounded}
+use Rattle.replay_laws.specs.Round.{LineAttempt, Ending}
 
 -- the item is a round that has this
 abbrev pub SomeRound : (Past → Rounded → Type 0) → Past → Item → Type 0
@@ -26,9 +26,9 @@ SomeRound has past item = (round : Rounded) × (item ≡ Item.Ran round) × has 
 -- A dump of the round gave fewer of the newer records than stand on its acknowledged pages.
 pub record DropsAcknowledgedPages (settings : StationSettings) (records : List (List ℕ)) (past : Past) (round : Rounded)
     : Type 0 where
-  pub earlier : List Attempted
-  pub attempt : Attempted
-  pub later : List Attempted
+  pub earlier : List LineAttempt
+  pub attempt : LineAttempt
+  pub later : List LineAttempt
   pub tried : round.tried ≡ earlier ++ attempt ∷ later
   pub dump : Begun
   pub began : attempt.dumps ≡ dump ∷ []
@@ -39,9 +39,9 @@ pub record DropsAcknowledgedPages (settings : StationSettings) (records : List (
 
 -- In an attempt of the round 0x06 was said right after these pages, and the round did not keep their rows.
 pub record DropsPagesSaid (settings : StationSettings) (past : Past) (round : Rounded) : Type 0 where
-  pub earlier : List Attempted
-  pub attempt : Attempted
-  pub later : List Attempted
+  pub earlier : List LineAttempt
+  pub attempt : LineAttempt
+  pub later : List LineAttempt
   pub place : ℕ
   pub pages : List (List ℕ)
   pub tried : round.tried ≡ earlier ++ attempt ∷ later
@@ -54,8 +54,8 @@ pub record DropsPagesSaid (settings : StationSettings) (past : Past) (round : Ro
 pub record LeavesNewerRecord (settings : StationSettings) (records : List (List ℕ)) (past : Past) (round : Rounded)
     : Type 0 where
   pub ended_ok : round.end ≡ Ending.Ok
-  pub earlier : List Attempted
-  pub last : Attempted
+  pub earlier : List LineAttempt
+  pub last : LineAttempt
   pub tried : round.tried ≡ earlier ++ last ∷ []
   pub dump : Begun
   pub began : last.dumps ≡ dump ∷ []
@@ -77,4 +77,4 @@ GivesUpEarly past round = (round.end ≡ Ending.GaveUp) × (length round.tried <
 -- the round was given up, though one of its attempts had no harmed delivery
 abbrev pub GivesUpUnharmed : Past → Rounded → Type 0
 GivesUpUnharmed past round =
-    (round.end ≡ Ending.GaveUp) × (attempt : Attempted) × Contains round.tried attempt × (attempt.harmed ≡ 0)
+    (round.end ≡ Ending.GaveUp) × (attempt : LineAttempt) × Contains round.tried attempt × (attempt.harmed ≡ 0)

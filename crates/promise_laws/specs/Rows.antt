@@ -6,8 +6,8 @@ use Rattle.station_base.specs.CivilMinute.{minute_of}
 use Rattle.station_base.specs.declared.row.Row.{Row}
 use Rattle.settings_file.specs.StationSettings.{StationSettings}
 use Rattle.station_session.specs.Records.{stored_rows}
-use Rattle.station_replay.specs.Kept.{Past}
-use Rattle.station_replay.specs.Replay.{Item}
+use Rattle.replay_laws.specs.Kept.{Past}
+use Rattle.replay_laws.specs.Replay.{Item}
 use Rattle.promise_laws.specs.Places.{rows_at}
 
 -- one of the records is stored as this row

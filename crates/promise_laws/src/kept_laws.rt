@@ -1,9 +1,9 @@
 ghost use Rattle.std.specs.Prelude.{ℕ, List};
 ghost use Rattle.loop_packet.specs.declared.packet.LoopPacket.{LoopPacket};
 ghost use Rattle.settings_file.specs.StationSettings.{StationSettings};
-ghost use Rattle.station_replay.specs.Kept.{Kept};
-ghost use Rattle.station_replay.specs.Replay.{Item, IsReplay, start};
-ghost use Rattle.station_replay.specs.Schedule.{IsSchedule, ReplayStep, records};
+ghost use Rattle.replay_laws.specs.Kept.{Kept};
+ghost use Rattle.replay_laws.specs.Replay.{Item, IsReplay, start};
+ghost use Rattle.replay_laws.specs.Schedule.{IsSchedule, ReplayStep, records};
 
 /// The promises can be kept: each schedule has a run that is kept.
 pub fn each_schedule_has_a_kept_run()

@@ -3,8 +3,8 @@ ghost use Rattle.std.specs.List.{Contains};
 ghost use Rattle.station_base.specs.declared.row.Row.{Row};
 ghost use Rattle.settings_file.specs.StationSettings.{StationSettings};
 ghost use Rattle.weather_reports.specs.Recomputed.{AreDayLines, DayLine};
-ghost use Rattle.station_replay.specs.Kept.{Kept};
-ghost use Rattle.station_replay.specs.Replay.{Item};
+ghost use Rattle.replay_laws.specs.Kept.{Kept};
+ghost use Rattle.replay_laws.specs.Replay.{Item};
 ghost use Rattle.promise_laws.specs.Places.{SomeItem};
 ghost use Rattle.promise_laws.specs.Printing.{PrintsRowTwice, LeavesRowOut, HasWrongNumber};
 

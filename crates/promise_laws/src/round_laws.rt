@@ -1,8 +1,8 @@
 ghost use Rattle.std.specs.Prelude.{ℕ, List};
 ghost use Rattle.settings_file.specs.StationSettings.{StationSettings};
-ghost use Rattle.station_replay.specs.Kept.{Kept};
-ghost use Rattle.station_replay.specs.Replay.{Item, IsReplay, Stage};
-ghost use Rattle.station_replay.specs.Schedule.{ReplayStep};
+ghost use Rattle.replay_laws.specs.Kept.{Kept};
+ghost use Rattle.replay_laws.specs.Replay.{Item, IsReplay, Stage};
+ghost use Rattle.replay_laws.specs.Schedule.{ReplayStep};
 ghost use Rattle.promise_laws.specs.Places.{SomeItem};
 ghost use Rattle.promise_laws.specs.Rounds.{SomeRound, DropsAcknowledgedPages, DropsPagesSaid, LeavesNewerRecord, LeavesHalfPage};
 ghost use Rattle.promise_laws.specs.Rounds.{GivesUpEarly, GivesUpUnharmed};

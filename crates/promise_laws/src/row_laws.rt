@@ -1,7 +1,7 @@
 ghost use Rattle.std.specs.Prelude.{ℕ, List};
 ghost use Rattle.settings_file.specs.StationSettings.{StationSettings};
-ghost use Rattle.station_replay.specs.Kept.{Kept};
-ghost use Rattle.station_replay.specs.Replay.{Item};
+ghost use Rattle.replay_laws.specs.Kept.{Kept};
+ghost use Rattle.replay_laws.specs.Replay.{Item};
 ghost use Rattle.promise_laws.specs.Places.{SomeItem};
 ghost use Rattle.promise_laws.specs.Rows.{HasMadeUpRow, HasStampTwice, HasLostRows, HasLostAcknowledged};
 

@@ -19,7 +19,7 @@ use Rattle.disk_model.specs.Stored.{disk_answer}
 use Rattle.dmpaft_pump.specs.Keeper.{Handed, answer_for}
 use Rattle.gated_log.proofs.Chains.{first_front}
 use Rattle.gated_log.proofs.Versions.{not_first}
-use Rattle.gated_log.specs.Calls.{up_to, four_changes}
+use Rattle.gated_log.specs.Calls.{up_to, append_changes}
 use Rattle.gated_log.specs.Chain.{batch_bytes}
 use Rattle.gated_log.specs.Log.{begins_first, stand_from}
 use Rattle.gated_log.specs.Version.{version_of}
@@ -150,7 +150,7 @@ second_left book d e rows calls stands went behind c now =
     not_first c (stand_same 0 (codes "DVARCH01") c image (λ p low high. new.same c (image_of e c now) p high) ∙ begins)
 
 -- the first changes of a batch, so many, are behind the first eight bytes
-four_behind : (gate len j : ℕ) (answer : Disked) → 8 ≤ gate → AreBehind (up_to (take j (four_changes gate len)) answer)
+four_behind : (gate len j : ℕ) (answer : Disked) → 8 ≤ gate → AreBehind (up_to (take j (append_changes gate len)) answer)
 four_behind gate len zero answer far = tt
 four_behind gate len (suc zero) answer far = (omega (arith, far), tt)
 four_behind gate len (suc (suc zero)) answer far = (omega (arith, far), tt)

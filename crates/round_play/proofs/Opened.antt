@@ -25,9 +25,9 @@ use Rattle.settings_file.specs.StationSettings.{StationSettings}
 use Rattle.gated_log.specs.Layout.{empty_size}
 use Rattle.station_session.specs.Session.{book_of, session_settings}
 use Rattle.station_session.specs.declared.session.Session.{Session}
-use Rattle.station_replay.specs.Keeping.{Archive}
-use Rattle.station_replay.specs.Replay.{archive_made_ready, stops_opening}
-use Rattle.station_replay.specs.Stopped.{DiskRests}
+use Rattle.replay_laws.specs.Keeping.{Archive}
+use Rattle.replay_laws.specs.Replay.{archive_made_ready, stops_opening}
+use Rattle.replay_laws.specs.Stopped.{DiskRests}
 use Rattle.round_play.specs.Opening.{IsOpened, stopping_limits}
 use Rattle.round_play.specs.Resting.{AtRest, HasLeft}
 use Rattle.round_play.proofs.RecoveryCalls.{Starts, is_armed, went_well}

@@ -18,8 +18,8 @@ use Rattle.weather_book.specs.Stands.{HasRows}
 use Rattle.weather_book.specs.Start.{FindsBook}
 use Rattle.weather_book.specs.declared.start.BookStart.{BookStart}
 use Rattle.weather_book.specs.declared.start.BookStart.TheVariants as start
-use Rattle.station_replay.specs.Keeping.{Archive}
-use Rattle.station_replay.specs.Stopped.{DiskRests}
+use Rattle.replay_laws.specs.Keeping.{Archive}
+use Rattle.replay_laws.specs.Stopped.{DiskRests}
 use Rattle.gated_log.proofs.StoppedCalls.{IsArmed}
 use Rattle.gated_log.specs.Layout.{empty_size}
 use Rattle.round_play.specs.Opening.{CanOpen, stopping_limits}

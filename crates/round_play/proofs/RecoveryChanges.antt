@@ -12,7 +12,7 @@ use Rattle.disk_model.specs.Effects.{Effect}
 use Rattle.disk_model.specs.StoppingState.{StoppingState, within_stop, go_on, after_stop, after_stops, stop_effect, stop_effects}
 use Rattle.gated_log.specs.Calls.{changes, any_failed, reads_fit}
 use Rattle.gated_log.proofs.StoppedCalls.{going}
-use Rattle.station_replay.proofs.Stops.{stops_part}
+use Rattle.replay_laws.proofs.Stops.{stops_part}
 
 -- what each call does to a disk: it is counted, the file grows no shorter, the room that it was made with stays
 pub record Counts (s m : DiskState) : Type 0 where

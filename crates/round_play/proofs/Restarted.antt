@@ -18,9 +18,9 @@ use Rattle.station_base.specs.declared.row.Row.{Row}
 use Rattle.gated_log.specs.Layout.{empty_size}
 use Rattle.weather_book.specs.Stands.{HasRows, NowHasRows}
 use Rattle.schedule_file.specs.declared.schedule.step.Stop.{Stop}
-use Rattle.station_replay.specs.Keeping.{Archive}
-use Rattle.station_replay.specs.Replay.{cut_archive, stops_opening}
-use Rattle.station_replay.specs.Stopped.{DiskRests}
+use Rattle.replay_laws.specs.Keeping.{Archive}
+use Rattle.replay_laws.specs.Replay.{cut_archive, stops_opening}
+use Rattle.replay_laws.specs.Stopped.{DiskRests}
 use Rattle.round_play.specs.Opening.{stopping_limits}
 use Rattle.round_play.specs.Resting.{AtRest, HasLeft}
 use Rattle.round_play.proofs.RecoveryCalls.{Starts, went_wrong, few}

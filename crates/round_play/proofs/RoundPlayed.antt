@@ -22,7 +22,7 @@ use Rattle.station_session.specs.declared.session.Session.{Session}
 use Rattle.station_session.specs.declared.round_end.RoundEnd.{RoundEnd}
 use Rattle.station_session.specs.declared.round_end.RoundEnd.TheVariants as round_end
 use Rattle.station_session.specs.Session.{SessionStandsFor, book_of, held, session_settings}
-use Rattle.station_session.specs.Attempts.{Tried, all_said, all_batches, page_count, skip_count}
+use Rattle.station_session.specs.Attempts.{MadeAttempt, all_said, all_batches, page_count, skip_count}
 use Rattle.station_session.specs.Batches.{Fit, ChangesAreBegun, all_records, changes_for, kept_count, kept_records, last_answer}
 use Rattle.station_session.specs.Holding.{rows_after_batches}
 use Rattle.station_session.specs.Records.{stored_rows}
@@ -31,23 +31,23 @@ use Rattle.station_session.proofs.Stamps.{same_count}
 use Rattle.station_sim.specs.declared.sim.Sim.{Sim}
 use Rattle.station_sim.specs.declared.unseen.Unseen.{Unseen}
 use Rattle.schedule_file.specs.declared.fates.Fates as code
-use Rattle.schedule_file.specs.Fates.{Fates}
+use Rattle.schedule_file.specs.Fates.{FatesByNumber}
 use Rattle.station_sim.specs.Line.{Line, waited}
 use Rattle.schedule_file.specs.Lists.{fates_of, entry_of, late_in, records_left_in, mids_in}
 use Rattle.station_sim.specs.Standing.{LineBehind, SimStandsFor}
 use Rattle.station_sim.specs.Talk.{started}
 use Rattle.station_sim.specs.Telling.{sim_traffic}
-use Rattle.station_replay.specs.Keeping.{Archive}
-use Rattle.station_replay.specs.Round.{Attempted, Ending, finished, tried_of}
-use Rattle.station_replay.specs.Replay.{Item, Rounded, Stage, IsBroken, after_round, is_stop, left_by_round}
-use Rattle.station_replay.specs.Room.{AreFew}
+use Rattle.replay_laws.specs.Keeping.{Archive}
+use Rattle.replay_laws.specs.Round.{LineAttempt, Ending, finished, made_attempts}
+use Rattle.replay_laws.specs.Replay.{Item, Rounded, Stage, IsUnseenRound, after_round, is_stop, left_by_round}
+use Rattle.replay_laws.specs.Room.{AreFew}
 use Rattle.schedule_file.specs.declared.schedule.step.Stop.{Stop}
-use Rattle.station_replay.specs.Session.{AreRound, RoundEndsAs, IsKnown, NotPast, RoundStopsAt, archive_left_after}
-use Rattle.station_replay.specs.Stopped.{DiskHasRoom, IsStop, armed_by}
-use Rattle.station_replay.proofs.Bridge.{session_law}
-use Rattle.station_replay.proofs.PassedStops.{calls_keep, chain_takes, round_passes}
-use Rattle.station_replay.proofs.RowsOfRounds.{all_read, kept_read, rows_after, total_few}
-use Rattle.station_replay.proofs.Stops.{chain_stopped, has_armed, has_length, round_goes, round_stops, round_sure, slots_is, changes_after, total_grows}
+use Rattle.replay_laws.specs.Session.{AreRound, RoundEndsAs, IsKnown, NotPast, RoundStopsAt, archive_left_after}
+use Rattle.replay_laws.specs.Stopped.{DiskHasRoom, IsStop, armed_by}
+use Rattle.replay_laws.proofs.Bridge.{session_law}
+use Rattle.replay_laws.proofs.PassedStops.{calls_keep, chain_takes, round_passes}
+use Rattle.replay_laws.proofs.RowsOfRounds.{all_read, kept_read, rows_after, total_few}
+use Rattle.replay_laws.proofs.Stops.{chain_stopped, has_armed, has_length, round_goes, round_stops, round_sure, slots_is, changes_after, total_grows}
 use Rattle.round_play.proofs.Opened.{left_by, synced_seen}
 use Rattle.round_play.specs.Opening.{stopping_limits}
 use Rattle.round_play.specs.Played.{IsPlayedOut, MayPlay, PlaysBy}
@@ -134,7 +134,7 @@ archive_after : (t : Bool) (s : Stage) (a : Archive) (w : Line) → (after_round
 archive_after true s a w = refl
 archive_after false s a w = refl
 
-tried_count : (ts : List Attempted) → length (tried_of ts) ≡ length ts
+tried_count : (ts : List LineAttempt) → length (made_attempts ts) ≡ length ts
 tried_count [] = refl
 tried_count (t ∷ ts) = omega (arith, tried_count ts)
 
@@ -143,12 +143,12 @@ module _ (fates : code.Fates) (stop : Option Stop) (s0 s2 : Session) (l0 l1 l2 l
   sv : ServesRound sim_traffic stopping_medium s.archive.rows end (round_host s0 l1 d1) (round_host s2 l2 d2) report
   sv = c.serves s.archive.rows may.session.stands.stands_for
 
-  abbrev batches_given : List Tried → Handed
+  abbrev batches_given : List MadeAttempt → Handed
   batches_given ts = all_batches (last_row_stamp s.archive.rows) ts
 
   went : LineBehind (fates_of fates) (all_said sv.tries) (started s.line) l2
   went =
-      subst (λ (g : Fates). LineBehind g (all_said sv.tries) (started s.line) l2) c.fates_are
+      subst (λ (g : FatesByNumber). LineBehind g (all_said sv.tries) (started s.line) l2) c.fates_are
       (sv.adds.went.line (started s.line) (c.starts s.line may.line))
 
   fit : Fit (session_settings s0).most (length s.archive.rows) (batches_given sv.tries)
@@ -170,7 +170,7 @@ module _ (fates : code.Fates) (stop : Option Stop) (s0 s2 : Session) (l0 l1 l2 l
   not_stale is = let z = c.answers.stale.0 is in let y : true ≡ false = sym z ∙ may.session.fresh in cc
 
   -- a round with an unseen delivery
-  broken : (which : Unseen) → went.line.unseen ≡ Some which → IsBroken (session_settings s0) (fates_of fates) stop s (Item.Unsaid (s.rounds + 1) which)
+  broken : (which : Unseen) → went.line.unseen ≡ Some which → IsUnseenRound (session_settings s0) (fates_of fates) stop s (Item.Unsaid (s.rounds + 1) which)
   broken which un = record { tried = sv.tries; end = end; line = went.line; attempts = sv.attempts; talks = went.talks; fits = fit; not_past = passes; ends = by end refl; which = which; unseen = un; is = refl }
     where
       known : (e : RoundEnd) → end ≡ e → IsKnown e → IsKnown end ⊎ (end ≡ round_end.Flood)

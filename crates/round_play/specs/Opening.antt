@@ -10,20 +10,20 @@ use Rattle.disk_model.specs.declared.stopping.Stopping.{Stopping}
 use Rattle.gated_log.specs.Layout.{empty_size}
 use Rattle.station_session.specs.declared.session.Session.{Session}
 use Rattle.schedule_file.specs.declared.schedule.step.Stop.{Stop}
-use Rattle.station_replay.specs.Keeping.{Archive}
-use Rattle.station_replay.specs.Replay.{archive_made_ready, cut_archive}
+use Rattle.replay_laws.specs.Keeping.{Archive, changes_in_an_opening}
+use Rattle.replay_laws.specs.Replay.{archive_made_ready, cut_archive}
 use Rattle.round_play.specs.Resting.{AtRest, SessionGoesOn}
 
 -- what the disk was made with
 abbrev pub stopping_limits : Stopping MemDisk → Limits
 stopping_limits disk = (stopping_state_of disk).inner.limits
 
--- The disk has room for an opening: three changes at most, which write an archive without slots.
+-- The disk has room for an opening: its changes at most, which write an archive without slots.
 pub record CanOpen (disk : Stopping MemDisk) : Type 0 where
   pub capacity : empty_size ≤ (stopping_limits disk).capacity
-  pub changes : 3 ≤ (stopping_state_of disk).inner.changes
+  pub changes : changes_in_an_opening ≤ (stopping_state_of disk).inner.changes
   pub bytes : empty_size ≤ (stopping_state_of disk).inner.bytes
-  pub moments : MayBegin stopping_medium 3 disk
+  pub moments : MayBegin stopping_medium changes_in_an_opening disk
 
 -- it is at rest with some archive, which can be opened
 abbrev pub DiskIsReady : Stopping MemDisk → Type 0

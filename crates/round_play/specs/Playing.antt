@@ -24,7 +24,7 @@ use Rattle.station_sim.specs.Standing.{SimStandsFor}
 use Rattle.station_sim.specs.Talk.{started}
 use Rattle.station_sim.specs.Telling.{sim_traffic}
 use Rattle.schedule_file.specs.declared.schedule.step.Stop.{Stop}
-use Rattle.station_replay.specs.Stopped.{IsStop}
+use Rattle.replay_laws.specs.Stopped.{IsStop}
 use Rattle.round_play.specs.declared.playing.Playing.{Playing}
 use Rattle.round_play.specs.Played.{PlayedHost}
 use Rattle.round_play.specs.Restarting.{armed_with}

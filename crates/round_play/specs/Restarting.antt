@@ -7,7 +7,7 @@ use Rattle.disk_model.specs.Stopping.{stopping_medium, stopping_state_of}
 use Rattle.disk_model.specs.declared.mem_disk.MemDisk.{MemDisk}
 use Rattle.disk_model.specs.declared.stopping.Stopping.{Stopping}
 use Rattle.schedule_file.specs.declared.schedule.step.Stop.{Stop}
-use Rattle.station_replay.specs.Stopped.{IsRestart}
+use Rattle.replay_laws.specs.Stopped.{IsRestart}
 
 -- the state with the stop armed, if one is set
 abbrev pub armed_with : Option Stop → StoppingState → StoppingState

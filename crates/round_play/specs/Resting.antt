@@ -8,25 +8,40 @@ use Rattle.disk_model.specs.StoppingState.{StoppingState}
 use Rattle.disk_model.specs.Stopping.{stopping_medium, stopping_state_of}
 use Rattle.disk_model.specs.declared.mem_disk.MemDisk.{MemDisk}
 use Rattle.disk_model.specs.declared.stopping.Stopping.{Stopping}
+use Rattle.gated_log.specs.Calls.{changes_in_a_batch}
 use Rattle.gated_log.specs.Layout.{empty_size, slot_size}
 use Rattle.weather_book.specs.Stands.{HasRows, NowHasRows, StandsOn}
 use Rattle.station_session.specs.declared.session.Session.{Session}
 use Rattle.station_session.specs.Session.{book_of, session_settings, session_most_rows, session_is_stale}
-use Rattle.station_replay.specs.Keeping.{Archive, slots_for_rows}
-use Rattle.station_replay.specs.Stopped.{DiskRests}
+use Rattle.replay_laws.specs.Keeping.{Archive, changes_in_an_opening, slots_for_rows}
+use Rattle.replay_laws.specs.Room.{changes_of_turns, slots_in_a_record}
+use Rattle.replay_laws.specs.Stopped.{DiskRests}
 
--- The room that a run of so many records asks for.
+-- the bytes that a record takes in the file at most
+abbrev pub bytes_of_a_record : ℕ
+bytes_of_a_record = slots_in_a_record * slot_size
+
+-- the bytes of writes that are counted for an opening, which writes an archive without slots at most
+abbrev pub bytes_of_an_opening : ℕ
+bytes_of_an_opening = 200
+
+-- room for the bytes that the openings of a run write, of which there is one more than turns: far more than they take
+abbrev pub bytes_of_openings : ℕ
+bytes_of_openings = 2500000
+
+-- The room that a run of so many records asks for: a record may be a batch of its own, with a gate, and the archive is
+-- opened once more behind all turns.
 pub record IsRoomFor (records : ℕ) (limits : Limits) : Type 0 where
-  pub capacity : empty_size + 14 * slot_size * records ≤ limits.capacity
-  pub changes : 1403 + 4 * records ≤ limits.changes
-  pub bytes : 2500000 + (14 * slot_size + 1) * records ≤ limits.bytes
+  pub capacity : empty_size + bytes_of_a_record * records ≤ limits.capacity
+  pub changes : changes_of_turns + changes_in_an_opening + changes_in_a_batch * records ≤ limits.changes
+  pub bytes : bytes_of_openings + (bytes_of_a_record + 1) * records ≤ limits.bytes
 
--- The record has room left: all but what the archive's changes took since the disk was made, and what was written of
--- its rows and at each opening.
+-- The room that the journal has left: all but what the archive's changes took since the disk was made, its rows, and
+-- each opening.
 pub record HasLeft (openings : ℕ) (a : Archive) (s : StoppingState) : Type 0 where
   pub changes : s.inner.limits.changes ≤ s.inner.changes + a.changes
   pub bytes : s.inner.limits.bytes ≤ s.inner.bytes
-      + (slot_size * slots_for_rows a.rows + length a.rows + 200 * openings)
+      + (slot_size * slots_for_rows a.rows + length a.rows + bytes_of_an_opening * openings)
 
 -- The disk is at rest, of the archive's length, with its rows in what it reads and in each image that a crash may
 -- leave, which is what it reads. No stop is armed, and no call is to fail. So many openings were made.

@@ -1,6 +1,6 @@
 ghost use Rattle.std.specs.Prelude.{◌≡◌, ◌≤◌, ℕ, IfOk};
-ghost use Rattle.station_replay.specs.Keeping.{Archive};
-ghost use Rattle.station_replay.specs.Replay.{stops_opening};
+ghost use Rattle.replay_laws.specs.Keeping.{Archive};
+ghost use Rattle.replay_laws.specs.Replay.{stops_opening};
 ghost use Rattle.round_play.specs.Opening.{DiskIsReady, IsOpened, OpensBy, stopping_limits};
 ghost use Rattle.round_play.specs.Resting.{AtRest};
 
@@ -13,7 +13,8 @@ use std::alloc::Global;
 use weather_book::{Book, BookStart, Purpose};
 
 /// Opens the archive on a disk at rest: recovers its book for writing, and begins a session of these settings over it.
-/// A file of at most 177 bytes is made anew. `OutOfMemory` where there is no memory for the days of the rows.
+/// A file that is no longer than an archive without slots is made anew. `OutOfMemory` where there is no memory for the
+/// days of the rows.
 pub fn recover(
     alloc: Global,
     settings: &Settings,

@@ -10,9 +10,9 @@ ghost use Rattle.station_session.specs.declared.round_end.RoundEnd.{RoundEnd};
 ghost use Rattle.station_session.specs.declared.session.Session.{Session};
 ghost use Rattle.schedule_file.specs.declared.fates.Fates as code_fates;
 ghost use Rattle.schedule_file.specs.Lists.{fates_of, records_left_in, no_fates};
-ghost use Rattle.station_replay.specs.Replay.{Stage};
+ghost use Rattle.replay_laws.specs.Replay.{Stage};
 ghost use Rattle.schedule_file.specs.declared.schedule.step.Stop.{Stop};
-ghost use Rattle.station_replay.specs.Stopped.{IsStop};
+ghost use Rattle.replay_laws.specs.Stopped.{IsStop};
 ghost use Rattle.round_play.specs.Played.{PlayedHost, MayPlay, PlaysBy};
 ghost use Rattle.round_play.specs.Playing.{RoundIsOver, IsStill, RoundIsUnderWay, MayGoOn};
 

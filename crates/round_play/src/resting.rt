@@ -1,7 +1,7 @@
 ghost use Rattle.std.specs.Prelude.{◌≡◌, true, false};
 ghost use Rattle.disk_model.specs.Disk.{Stays};
 ghost use Rattle.disk_model.specs.Stopping.{stopping_medium, stopping_state_of};
-ghost use Rattle.station_replay.specs.Stopped.{IsStop};
+ghost use Rattle.replay_laws.specs.Stopped.{IsStop};
 ghost use Rattle.round_play.specs.Restarting.{IsBegunAgain, IsDisarmed, armed_with};
 
 use disk_model::{MemDisk, Stopping};

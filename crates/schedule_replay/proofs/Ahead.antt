@@ -9,8 +9,8 @@ use Rattle.schedule_file.specs.declared.fates.Fates as code_fates
 use Rattle.schedule_file.specs.declared.schedule.step.Stop.{Stop}
 use Rattle.station_sim.specs.declared.sim.Sim.{Sim}
 use Rattle.station_sim.specs.declared.unseen.Unseen.{Unseen}
-use Rattle.schedule_file.specs.Fates.{Fates}
-use Rattle.station_replay.specs.Replay.{IsBroken, Item, Stage, opening_if_closed, opened}
+use Rattle.schedule_file.specs.Fates.{FatesByNumber}
+use Rattle.replay_laws.specs.Replay.{IsUnseenRound, Item, Stage, opening_if_closed, opened}
 use Rattle.schedule_replay.specs.declared.cut.Cut.{Cut}
 use Rattle.round_play.specs.declared.playing.Played.{Played}
 use Rattle.schedule_replay.specs.declared.run.Run.{Run}
@@ -57,13 +57,13 @@ holds_ready openings settings s run session disk r = record {
 pub none_first : {T : Type 0} (telling : Telling T) (s : Stage) (a : T) → s.is_open ≡ true → telling.tells a (opening_if_closed s.is_open s) a
 none_first telling s a is = subst (λ (z : List Item). telling.tells a z a) (ap (λ (t : Bool). opening_if_closed t s) (sym is)) (telling.tells_none a)
 
-pub played_opened : (settings : StationSettings) (f : Fates) (left : ℕ → List (List ℕ)) (stop : Option Stop) (openings : ℕ) (s : Stage) (old : PlayedHost) (played : Played) (new : PlayedHost) → s.is_open ≡ true
+pub played_opened : (settings : StationSettings) (f : FatesByNumber) (left : ℕ → List (List ℕ)) (stop : Option Stop) (openings : ℕ) (s : Stage) (old : PlayedHost) (played : Played) (new : PlayedHost) → s.is_open ≡ true
     → IsPlayedOut settings f left stop openings s old played new → IsPlayedOut settings f left stop openings (opened s.is_open s) old played new
 played_opened settings f left stop openings s old played new is o = subst (λ (u : Stage). IsPlayedOut settings f left stop openings u old played new) (ap (λ (t : Bool). opened t s) (sym is)) o
 
-pub broken_opened : (settings : StationSettings) (f : Fates) (stop : Option Stop) (s : Stage) (which : Unseen) → s.is_open ≡ true
-    → IsBroken settings f stop s (Item.Unsaid (s.rounds + 1) which) → IsBroken settings f stop (opened s.is_open s) (Item.Unsaid ((opened s.is_open s).rounds + 1) which)
-broken_opened settings f stop s which is b = subst (λ (u : Stage). IsBroken settings f stop u (Item.Unsaid (u.rounds + 1) which)) (ap (λ (t : Bool). opened t s) (sym is)) b
+pub broken_opened : (settings : StationSettings) (f : FatesByNumber) (stop : Option Stop) (s : Stage) (which : Unseen) → s.is_open ≡ true
+    → IsUnseenRound settings f stop s (Item.Unsaid (s.rounds + 1) which) → IsUnseenRound settings f stop (opened s.is_open s) (Item.Unsaid ((opened s.is_open s).rounds + 1) which)
+broken_opened settings f stop s which is b = subst (λ (u : Stage). IsUnseenRound settings f stop u (Item.Unsaid (u.rounds + 1) which)) (ap (λ (t : Bool). opened t s) (sym is)) b
 
 pub with_limits : {T : Type 0} (telling : Telling T) (openings : ℕ) (settings : StationSettings) (fates : code_fates.Fates) (stop : Option Stop) (s : Stage) (before line : Sim) (made disk : Stopping MemDisk) (run : Run) (a b : T) → stopping_limits disk ≡ stopping_limits made
     → After telling false settings (round_step fates stop) s (λ is u. HoldsAt openings settings u run disk × LineAt u line × HasSaid is before line) a b

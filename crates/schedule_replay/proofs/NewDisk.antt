@@ -11,7 +11,7 @@ use Rattle.gated_log.specs.Log.{log_of}
 use Rattle.gated_log.specs.Version.{version_of}
 use Rattle.packed_rows.specs.Rows.{rows_of}
 use Rattle.weather_book.specs.Stands.{HasRows}
-use Rattle.station_replay.specs.Keeping.{Archive}
+use Rattle.replay_laws.specs.Keeping.{Archive}
 use Rattle.loop_packet.specs.declared.packet.LoopPacket.{LoopPacket}
 use Rattle.schedule_replay.specs.Replayed.{IsNewDisk}
 use Rattle.round_play.specs.Resting.{AtRest, IsRoomFor}

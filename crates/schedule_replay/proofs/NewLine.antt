@@ -13,8 +13,8 @@ use Rattle.station_sim.specs.Sound.{IsSound}
 use Rattle.station_sim.specs.Standing.{SimStandsFor}
 use Rattle.station_sim.specs.Talk.{fresh_line}
 use Rattle.station_sim.specs.declared.sim.Sim.{Sim}
-use Rattle.station_replay.proofs.Minutes.{new_sound}
-use Rattle.station_replay.specs.Replay.{start}
+use Rattle.replay_laws.proofs.Minutes.{new_sound}
+use Rattle.replay_laws.specs.Replay.{start}
 use Rattle.schedule_replay.specs.Standing.{LineAt}
 
 pub begins_line : (eeprom : List ℕ) (packet : LoopPacket) (console : Console) (made : Result Sim OutOfMemory) → ConsoleStandsFor console (fresh_console eeprom packet)

@@ -1,10 +1,15 @@
 -- Texts that are written one behind another.
-use Rattle.std.proofs.Common.{ℕ, List, ◌++◌, Ok, Err, refl, ap, subst, ◌∙◌}
+use Rattle.std.proofs.Common.{◌≡◌, ℕ, List, ◌++◌, Some, Ok, Err, refl, ap, subst, ◌∙◌}
 use Rattle.std.specs.declared.result.Result.{Result}
+use Rattle.disk_model.specs.Medium.{Medium}
+use Rattle.station_base.specs.declared.row.Row.{Row}
 use Rattle.station_io.specs.declared.sink.Put.TheVariants.{Done, Failed}
 use Rattle.station_io.specs.Sink.{Emits, Outlet}
+use Rattle.weather_book.specs.Stands.{StandsToReadOn}
+use Rattle.weather_book.specs.declared.book.Book.{Book}
 use Rattle.weather_reports.specs.declared.end.ReportEnd.TheVariants as ReportEnd
-use Rattle.weather_reports.specs.Reported.{IsReport, Reports, text_of_lines}
+use Rattle.weather_reports.specs.Made.{MakesReport}
+use Rattle.weather_reports.specs.Reported.{text_of_lines}
 use Rattle.schedule_replay.specs.declared.cut.Cut.{Cut}
 use Rattle.schedule_replay.specs.declared.cut.Cut.TheVariants.{WriteFault, OutOfMemory}
 use Rattle.schedule_replay.specs.TextTelling.{first_cut, second_cut, written_join}
@@ -41,21 +46,23 @@ put_failed outlet old new text emits = record {
   wrote = emits.call.wrote;
 }
 
--- a report of the disk's rows, by its end
-pub report_done : {K : Type 0} (outlet : Outlet K) (old new : K) (lines : List (List ℕ)) (written : List ℕ)
-    → Reports (outlet.taken old) (outlet.taken new) lines ReportEnd.Done → outlet.wrote old written new
-    → IsReport lines ReportEnd.Done written → IsWritten outlet old new (text_of_lines lines)
-report_done outlet old new lines written reports wrote is = record {
-  appended = reports;
-  wrote = subst (λ (t : List ℕ). outlet.wrote old t new) is wrote;
-}
+-- a report of the rows of a disk, by its end
+module _ {K D : Type 0} {outlet : Outlet K} {medium : Medium D} {book : Book} {report : List Row → List (List ℕ)} {disk disk' : D} {out out' : K}
+    (rows : List Row) (stands : StandsToReadOn medium book disk rows) (image : List ℕ) (seen : medium.seen disk ≡ Some image) where
+  pub report_done : MakesReport outlet medium book report ReportEnd.Done disk disk' out out' → IsWritten outlet out out' (text_of_lines (report rows))
+  report_done made =
+      let wrote = made.by_reads.wrote in
+      record {
+        appended = made.lines rows stands image seen;
+        wrote = subst (λ (t : List ℕ). outlet.wrote out t out') (wrote.2 rows stands image seen) wrote.1;
+      }
 
-pub report_failed : {K : Type 0} (outlet : Outlet K) (old new : K) (lines : List (List ℕ)) (written : List ℕ)
-    → Reports (outlet.taken old) (outlet.taken new) lines ReportEnd.WriteFault → outlet.wrote old written new
-    → IsReport lines ReportEnd.WriteFault written → IsFrontWritten outlet old new (text_of_lines lines)
-report_failed outlet old new lines written reports wrote is = record {
-  part = reports;
-  written = written;
-  front = (is.left, ap (λ (l : List ℕ). l ++ is.left) is.leaves.appended ∙ is.leaves.whole);
-  wrote = wrote;
-}
+  pub report_failed : MakesReport outlet medium book report ReportEnd.WriteFault disk disk' out out' → IsFrontWritten outlet out out' (text_of_lines (report rows))
+  report_failed made =
+      let wrote = made.by_reads.wrote in let is = wrote.2 rows stands image seen in
+      record {
+        part = made.lines rows stands image seen;
+        written = wrote.0;
+        front = (is.left, ap (λ (l : List ℕ). l ++ is.left) is.leaves.appended ∙ is.leaves.whole);
+        wrote = wrote.1;
+      }

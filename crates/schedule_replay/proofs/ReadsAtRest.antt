@@ -12,17 +12,19 @@ use Rattle.gated_log.proofs.CallsMade.{fit, no_changes}
 use Rattle.gated_log.proofs.Chains.{gate_place}
 use Rattle.gated_log.proofs.RecoveryFinds.{still_durable}
 use Rattle.station_base.specs.declared.row.Row.{Row}
+use Rattle.station_io.specs.Sink.{Outlet}
 use Rattle.settings_file.specs.StationSettings.{StationSettings}
 use Rattle.gated_log.specs.Layout.{slot_size}
 use Rattle.weather_book.specs.declared.book.Book.{Book}
 use Rattle.weather_book.specs.Book.{BookStandsFor}
 use Rattle.packed_rows.specs.Rows.{slot_total}
 use Rattle.weather_book.specs.Stands.{StandsToReadOn}
-use Rattle.weather_reports.specs.Reported.{AsFailed, ReadsOver}
+use Rattle.weather_reports.specs.Made.{WritesByReads}
+use Rattle.weather_reports.specs.Reported.{AsFailed}
 use Rattle.weather_reports.specs.declared.end.ReportEnd.{ReportEnd}
 use Rattle.station_session.specs.declared.session.Session.{Session}
 use Rattle.station_session.specs.Session.{book_of}
-use Rattle.station_replay.specs.Keeping.{Archive}
+use Rattle.replay_laws.specs.Keeping.{Archive}
 use Rattle.round_play.specs.Resting.{AtRest, SessionGoesOn, HasLeft}
 use Rattle.round_play.proofs.RecoveryChanges.{by_changes, fails_by_changes}
 use Rattle.weather_book.proofs.BookOnDisk.{can_be_read, stands_stays}
@@ -91,11 +93,12 @@ reads_at_rest old new session settings rows openings a failed at goes stays look
     (sym looked.fails ∙ done.1, only_read old new done.0 stays)
 
 -- the same of the reads of a report, which meets no fault of the disk
-pub report_reads : (old new : Stopping MemDisk) (session : Session) (book : Book) (end : ReportEnd) → IsReadable session old → book ≡ book_of session → Stays stopping_medium old new
-    → ((rows : List Row) → BookStandsFor book rows → ReadsOver stopping_medium rows end old new) → IsOnlyRead old new × (end ≢ ReportEnd.DiskFault)
-report_reads old new session book end readable is stays went =
-    let reads = went readable.rows (subst (λ (b : Book). BookStandsFor b readable.rows) (sym is) readable.goes_on.stands.stands_for) in
-    let done = reads_at_rest old new session readable.settings readable.rows readable.openings readable.archive reads.failed readable.rests readable.goes_on stays reads.looked in
+pub report_reads : {K : Type 0} {outlet : Outlet K} {P : List Row → List ℕ → Type 0} {old new : Stopping MemDisk} {out out' : K}
+    (session : Session) (book : Book) (end : ReportEnd) → IsReadable session old → book ≡ book_of session
+    → WritesByReads outlet stopping_medium book P end old new out out' → IsOnlyRead old new × (end ≢ ReportEnd.DiskFault)
+report_reads {old = old} {new = new} session book end readable is writes =
+    let reads = writes.went readable.rows (subst (λ (b : Book). BookStandsFor b readable.rows) (sym is) readable.goes_on.stands.stands_for) in
+    let done = reads_at_rest old new session readable.settings readable.rows readable.openings readable.archive reads.failed readable.rests readable.goes_on writes.stays reads.looked in
     (done.1, λ fault. let failed : reads.failed ≡ true = subst (λ (e : ReportEnd). AsFailed e reads.failed) fault reads.by_end in let not_so = done.0 in cc)
 
 -- the rows of a session that goes on can be read of the book

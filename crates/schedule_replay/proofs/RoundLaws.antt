@@ -12,18 +12,18 @@ use Rattle.schedule_file.specs.declared.fates.Fates as code
 use Rattle.schedule_file.specs.declared.schedule.step.Stop.{Stop}
 use Rattle.station_sim.specs.declared.sim.Sim.{Sim}
 use Rattle.station_sim.specs.declared.unseen.Unseen.{Unseen}
-use Rattle.schedule_file.specs.Fates.{Fates}
+use Rattle.schedule_file.specs.Fates.{FatesByNumber}
 use Rattle.schedule_file.specs.Lists.{fates_of, records_left_in}
 use Rattle.station_sim.specs.Standing.{SimStandsFor}
 use Rattle.gated_log.specs.Layout.{empty_size}
-use Rattle.station_replay.specs.Keeping.{Archive}
-use Rattle.station_replay.specs.Replay.{IsBroken, Item, Stage, after_round, opening_if_closed, is_stop, left_by_round, opened}
-use Rattle.station_replay.specs.Schedule.{ReplayStep}
+use Rattle.replay_laws.specs.Keeping.{Archive}
+use Rattle.replay_laws.specs.Replay.{IsUnseenRound, Item, Stage, after_round, opening_if_closed, is_stop, left_by_round, opened}
+use Rattle.replay_laws.specs.Schedule.{ReplayStep}
 use Rattle.schedule_file.specs.Lists.{no_fates}
-use Rattle.station_replay.specs.Round.{tried_of}
+use Rattle.replay_laws.specs.Round.{made_attempts}
 use Rattle.station_session.specs.Attempts.{all_said}
-use Rattle.station_replay.proofs.RowsOfRounds.{total_few}
-use Rattle.station_replay.proofs.Stops.{slots_is}
+use Rattle.replay_laws.proofs.RowsOfRounds.{total_few}
+use Rattle.replay_laws.proofs.Stops.{slots_is}
 use Rattle.round_play.specs.declared.playing.Played.{Played}
 use Rattle.schedule_replay.specs.declared.run.Run.{Run}
 use Rattle.round_play.specs.Opening.{CanOpen, stopping_limits}
@@ -53,7 +53,7 @@ opened_changes : (t : Bool) (s : Stage) → (opened t s).archive.changes ≤ s.a
 opened_changes true s = omega arith
 opened_changes false s = let n = one_or_three (Rattle.std.specs.Prelude.nat_lt empty_size s.archive.size) in omega (arith, n)
 
-opened_counted : (t : Bool) (records : ℕ) (settings : StationSettings) (f : Fates) (s : Stage) → RoundIsCounted records settings f s → RoundIsCounted records settings f (opened t s)
+opened_counted : (t : Bool) (records : ℕ) (settings : StationSettings) (f : FatesByNumber) (s : Stage) → RoundIsCounted records settings f s → RoundIsCounted records settings f (opened t s)
 opened_counted true records settings f s c = c
 opened_counted false records settings f s c = c
 
@@ -95,7 +95,7 @@ archive_of true s a w = refl
 archive_of false s a w = refl
 
 -- what was played is told
-pub told_of : (settings : StationSettings) (f : Fates) (left : ℕ → List (List ℕ)) (stop : Option Stop) (openings : ℕ) (s : Stage) (old : PlayedHost) (played : Played) (session : Session) (line : Sim) (disk : Stopping MemDisk)
+pub told_of : (settings : StationSettings) (f : FatesByNumber) (left : ℕ → List (List ℕ)) (stop : Option Stop) (openings : ℕ) (s : Stage) (old : PlayedHost) (played : Played) (session : Session) (line : Sim) (disk : Stopping MemDisk)
     → (o : IsPlayedOut settings f left stop openings s old played (round_host session line disk)) → IsToldOf settings openings stop session played disk o.round o.next.archive
 told_of settings f left stop openings s old played session line disk o =
     let arc : o.next.archive ≡ left_by_round settings stop s o.is_round.made = ap (λ u. u.archive) o.is_round.next ∙ archive_of (is_stop o.round.end) s (left_by_round settings stop s o.is_round.made) _ in
@@ -103,7 +103,7 @@ told_of settings f left stop openings s old played session line disk o =
     let same : o.next.archive.rows ≡ o.round.rows = ap (λ a. a.rows) arc ∙ sym rows in
     record { tells = o.tells; rests = o.disk; rows = same; goes_on = λ still. subst (λ z. SessionGoesOn settings z session disk) same (o.session still) }
 
-pub number_of : (settings : StationSettings) (f : Fates) (left : ℕ → List (List ℕ)) (stop : Option Stop) (openings : ℕ) (s : Stage) (old : PlayedHost) (played : Played) (new : PlayedHost)
+pub number_of : (settings : StationSettings) (f : FatesByNumber) (left : ℕ → List (List ℕ)) (stop : Option Stop) (openings : ℕ) (s : Stage) (old : PlayedHost) (played : Played) (new : PlayedHost)
     → (o : IsPlayedOut settings f left stop openings s old played new) → o.round.number ≡ s.rounds + 1
 number_of settings f left stop openings s old played new o = ap (λ r. r.number) o.is_round.is
 
@@ -148,7 +148,7 @@ told_after telling openings settings fates stop s old played session line disk n
           written = told.written ∙ ap (λ (k : ℕ). if t then k else length o.next.archive.rows) written ∙ ap (λ (z : Archive). if t then (opened s.is_open s).written else length z.rows) arc ∙ sym written_is;
         },
         record { stands = o.line; fates = none },
-        o.said ∙ ap (λ l. old.link.talk.items ++ l) (sym (append-nil (all_said (tried_of o.round.tried)))) ∙ ap (λ l. old.link.talk.items ++ l) (sym (said_first s.is_open s (Item.Ran o.round ∷ []))),
+        o.said ∙ ap (λ l. old.link.talk.items ++ l) (sym (append-nil (all_said (made_attempts o.round.tried)))) ∙ ap (λ l. old.link.talk.items ++ l) (sym (said_first s.is_open s (Item.Ran o.round ∷ []))),
       ),
       telling.tells_joins a b c (opening_if_closed s.is_open s) (Item.Ran o.round ∷ []) one two,
     )
@@ -160,7 +160,7 @@ told_cut telling settings openings fates stop s old played new a b c o one two =
     inl (opening_if_closed s.is_open s ++ Item.Ran o.round ∷ [], o.next, (o.round, o.is_round, refl), telling.breaks_later a b c (opening_if_closed s.is_open s) (Item.Ran o.round ∷ []) one two)
 
 pub unseen_after : {T : Type 0} (telling : Telling T) (settings : StationSettings) (fates : code.Fates) (stop : Option Stop) (s : Stage) (P : List Item → Stage → Type 0) (number : ℕ) (which : Unseen) (a b c : T)
-    → IsBroken settings (fates_of fates) stop (opened s.is_open s) (Item.Unsaid ((opened s.is_open s).rounds + 1) which) → number ≡ s.rounds + 1
+    → IsUnseenRound settings (fates_of fates) stop (opened s.is_open s) (Item.Unsaid ((opened s.is_open s).rounds + 1) which) → number ≡ s.rounds + 1
     → telling.tells a (opening_if_closed s.is_open s) b → telling.tells b (Item.Unsaid number which ∷ []) c → After telling true settings (round_step fates stop) s P a c
 unseen_after telling settings fates stop s P number which a b c broken is one two =
     let same : number ≡ (opened s.is_open s).rounds + 1 = is ∙ ap (λ (k : ℕ). k + 1) (sym (opened_rounds s.is_open s)) in
@@ -171,7 +171,7 @@ unseen_after telling settings fates stop s P number which a b c broken is one tw
     )
 
 pub unseen_cut : {T : Type 0} (telling : Telling T) (settings : StationSettings) (fates : code.Fates) (stop : Option Stop) (s : Stage) (number : ℕ) (which : Unseen) (a b c : T)
-    → IsBroken settings (fates_of fates) stop (opened s.is_open s) (Item.Unsaid ((opened s.is_open s).rounds + 1) which) → number ≡ s.rounds + 1
+    → IsUnseenRound settings (fates_of fates) stop (opened s.is_open s) (Item.Unsaid ((opened s.is_open s).rounds + 1) which) → number ≡ s.rounds + 1
     → telling.tells a (opening_if_closed s.is_open s) b → telling.breaks_off b (Item.Unsaid number which ∷ []) c → StepIsCut telling settings (round_step fates stop) s a c
 unseen_cut telling settings fates stop s number which a b c broken is one two =
     let same : number ≡ (opened s.is_open s).rounds + 1 = is ∙ ap (λ (k : ℕ). k + 1) (sym (opened_rounds s.is_open s)) in
@@ -185,15 +185,15 @@ unseen_cut telling settings fates stop s number which a b c broken is one two =
 pub front_whole : {T : Type 0} (telling : Telling T) (a b : T) (is : List Item) → telling.tells a is b → telling.breaks_off a is b
 front_whole telling a b is told = subst (λ (z : List Item). telling.breaks_off a z b) (append-nil is) (telling.breaks_later a b b is [] told (telling.breaks_none b []))
 
-pub written_of : (settings : StationSettings) (f : Fates) (left : ℕ → List (List ℕ)) (stop : Option Stop) (openings : ℕ) (s : Stage) (old : PlayedHost) (played : Played) (new : PlayedHost)
+pub written_of : (settings : StationSettings) (f : FatesByNumber) (left : ℕ → List (List ℕ)) (stop : Option Stop) (openings : ℕ) (s : Stage) (old : PlayedHost) (played : Played) (new : PlayedHost)
     → (o : IsPlayedOut settings f left stop openings s old played new) → o.round.written ≡ s.written
 written_of settings f left stop openings s old played new o = ap (λ r. r.written) o.is_round.is
 
 -- what was played, by whether a delivery was unseen
-pub played_seen : (u : Option Unseen) (settings : StationSettings) (f : Fates) (left : ℕ → List (List ℕ)) (stop : Option Stop) (openings : ℕ) (s : Stage) (old : PlayedHost) (played : Played) (new : PlayedHost)
+pub played_seen : (u : Option Unseen) (settings : StationSettings) (f : FatesByNumber) (left : ℕ → List (List ℕ)) (stop : Option Stop) (openings : ℕ) (s : Stage) (old : PlayedHost) (played : Played) (new : PlayedHost)
     → u ≡ None → PlaysBy u settings f left stop openings s old played new → IsPlayedOut settings f left stop openings s old played new
 played_seen u settings f left stop openings s old played new is p = subst (λ (o : Option Unseen). PlaysBy o settings f left stop openings s old played new) is p
 
-pub played_unseen : (u : Option Unseen) (which : Unseen) (settings : StationSettings) (f : Fates) (left : ℕ → List (List ℕ)) (stop : Option Stop) (openings : ℕ) (s : Stage) (old : PlayedHost) (played : Played) (new : PlayedHost)
-    → u ≡ Some which → PlaysBy u settings f left stop openings s old played new → IsBroken settings f stop s (Item.Unsaid (s.rounds + 1) which)
+pub played_unseen : (u : Option Unseen) (which : Unseen) (settings : StationSettings) (f : FatesByNumber) (left : ℕ → List (List ℕ)) (stop : Option Stop) (openings : ℕ) (s : Stage) (old : PlayedHost) (played : Played) (new : PlayedHost)
+    → u ≡ Some which → PlaysBy u settings f left stop openings s old played new → IsUnseenRound settings f stop s (Item.Unsaid (s.rounds + 1) which)
 played_unseen u which settings f left stop openings s old played new is p = subst (λ (o : Option Unseen). PlaysBy o settings f left stop openings s old played new) is p

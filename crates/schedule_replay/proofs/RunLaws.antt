@@ -6,10 +6,10 @@ use Rattle.disk_model.specs.declared.mem_disk.MemDisk.{MemDisk}
 use Rattle.disk_model.specs.declared.stopping.Stopping.{Stopping}
 use Rattle.station_session.specs.declared.session.Session.{Session}
 use Rattle.station_session.specs.Report.{acked}
-use Rattle.station_replay.specs.Keeping.{Archive}
-use Rattle.station_replay.specs.Round.{Ending}
+use Rattle.replay_laws.specs.Keeping.{Archive}
+use Rattle.replay_laws.specs.Round.{Ending}
 use Rattle.schedule_file.specs.declared.schedule.step.Stop.{Stop}
-use Rattle.station_replay.specs.Replay.{Does, Item, Opens, Stage, cut_archive, cut_short, opening_if_closed, archive_made_ready, opened, opening, recovered, stops_opening, is_stop, Rounded}
+use Rattle.replay_laws.specs.Replay.{Does, Item, Opens, Stage, cut_archive, cut_short, opening_if_closed, archive_made_ready, opened, opening, recovered, stops_opening, is_stop, Rounded}
 use Rattle.schedule_replay.specs.declared.cut.Cut.{Cut}
 use Rattle.schedule_replay.specs.declared.cut.Cut.TheVariants.{WriteFault, OutOfMemory}
 use Rattle.round_play.specs.declared.playing.Played.{Played}

@@ -8,9 +8,9 @@ use Rattle.disk_model.specs.declared.stopping.Stopping.{Stopping}
 use Rattle.schedule_file.specs.declared.schedule.Schedule.{Schedule}
 use Rattle.schedule_file.specs.declared.schedule.step.Step as code_step
 use Rattle.station_sim.specs.declared.sim.Sim.{Sim}
-use Rattle.station_replay.specs.Replay.{Item, Stage}
-use Rattle.station_replay.specs.Schedule.{ReplayStep}
-use Rattle.station_replay.specs.Texts.{item_text}
+use Rattle.replay_laws.specs.Replay.{Item, Stage}
+use Rattle.replay_laws.specs.Schedule.{ReplayStep}
+use Rattle.replay_laws.specs.Texts.{item_text}
 use Rattle.schedule_replay.specs.declared.cut.Cut.{Cut}
 use Rattle.schedule_replay.specs.declared.cut.Cut.TheVariants.{WriteFault, OutOfMemory}
 use Rattle.schedule_replay.specs.Replayed.{ReplayIsCutOff, IsReplayed, TookPart, steps_in}

@@ -10,8 +10,8 @@ use Rattle.schedule_file.specs.declared.schedule.step.Stop.{Stop}
 use Rattle.station_sim.specs.declared.sim.Sim.{Sim}
 use Rattle.schedule_file.specs.Lists.{fates_of}
 use Rattle.station_sim.specs.Standing.{SimStandsFor}
-use Rattle.station_replay.specs.Replay.{Does, Item, Opens, Stage, on_line, stops_opening}
-use Rattle.station_replay.specs.Schedule.{ReplayStep}
+use Rattle.replay_laws.specs.Replay.{Does, Item, Opens, Stage, on_line, stops_opening}
+use Rattle.replay_laws.specs.Schedule.{ReplayStep}
 use Rattle.schedule_replay.specs.declared.run.Run.{Run}
 use Rattle.schedule_replay.specs.Running.{After, StepIsCut}
 use Rattle.schedule_replay.specs.Standing.{HasSaid, HoldsAt, LeadsTo, LineAt, open_step, said_in}

@@ -11,20 +11,20 @@ use Rattle.weather_book.specs.Stands.{HasRows}
 use Rattle.schedule_file.specs.declared.schedule.step.Step as code_step
 use Rattle.schedule_file.specs.declared.schedule.step.Step.TheVariants as code
 use Rattle.station_sim.specs.declared.sim.Sim.{Sim}
-use Rattle.schedule_file.specs.Fates.{Fates}
+use Rattle.schedule_file.specs.Fates.{FatesByNumber}
 use Rattle.gated_log.specs.Layout.{slot_size}
 use Rattle.station_session.specs.Attempts.{all_said}
 use Rattle.station_session.specs.declared.session.Session.{Session}
-use Rattle.station_replay.specs.Replay.{Does, RunIsBegun, IsBroken, IsReplay, IsRound, IsUnseen, IsWhole, Item, Opens, OpensNext, Runs, Stage, closing_items, opening_if_closed, is_stop, left_by_round, opened, start, stops_opening}
-use Rattle.station_replay.specs.Room.{step_lines, lines}
+use Rattle.replay_laws.specs.Replay.{Does, RunIsBegun, IsUnseenRound, IsReplay, IsRound, IsUnseen, IsWhole, Item, Opens, OpensNext, Runs, Stage, closing_items, opening_if_closed, is_stop, left_by_round, opened, start, stops_opening}
+use Rattle.replay_laws.specs.Room.{step_lines, lines, changes_in_a_turn, slots_in_a_record}
 use Rattle.schedule_file.specs.declared.schedule.step.Stop.{Stop}
-use Rattle.station_replay.specs.Schedule.{IsSchedule, ReplayStep, records}
-use Rattle.station_replay.specs.Stopped.{IsStop}
-use Rattle.station_replay.specs.Round.{tried_of}
-use Rattle.station_replay.proofs.RowsOfRounds.{total_few}
-use Rattle.station_replay.proofs.Roomy.{room_law, round_in_run}
-use Rattle.station_replay.proofs.WholeRun.{begun_law, schedules_law}
-use Rattle.station_replay.proofs.Stops.{slots_is}
+use Rattle.replay_laws.specs.Schedule.{IsSchedule, ReplayStep, records}
+use Rattle.replay_laws.specs.Stopped.{IsStop}
+use Rattle.replay_laws.specs.Round.{made_attempts}
+use Rattle.replay_laws.proofs.RowsOfRounds.{total_few}
+use Rattle.replay_laws.proofs.Roomy.{room_law, round_in_run}
+use Rattle.replay_laws.proofs.WholeRun.{begun_law, schedules_law}
+use Rattle.replay_laws.proofs.Stops.{slots_is}
 use Rattle.schedule_replay.specs.declared.run.Run.{Run}
 use Rattle.schedule_steps.specs.Accepted.{AreAccepted, IsInRange}
 use Rattle.round_play.specs.Opening.{stopping_limits}
@@ -38,6 +38,7 @@ use Rattle.schedule_replay.specs.Turns.{BreaksRun, CutsRun, EndsRun}
 use Rattle.schedule_replay.proofs.Ahead.{is_opened}
 use Rattle.schedule_replay.proofs.RoundLaws.{after_rounds, front_whole, opened_rounds, opened_rows, said_first}
 use Rattle.schedule_file.specs.Limits.{most_records, most_turns}
+use Rattle.gated_log.specs.Calls.{changes_in_a_batch}
 
 pub runs_more : (settings : StationSettings) (xs : List ReplayStep) (x : ReplayStep) (s u v : Stage) (is now : List Item) → Runs settings xs s is u → Does settings x u now v → Runs settings (xs ++ x ∷ []) s (is ++ now) v
 runs_more settings [] x s u v is now (none, same) h = (v, now, [], ap (λ z. z ++ now) none ∙ sym (append-nil now), subst (λ (z : Stage). Does settings x z now v) same h, (refl, refl))
@@ -48,7 +49,7 @@ pub said_join : (xs ys : List Item) → said_in (xs ++ ys) ≡ said_in xs ++ sai
 said_join [] ys = refl
 said_join (Item.Opened rows n ∷ o) ys = said_join o ys
 said_join (Item.OpenStopped k rows ∷ o) ys = said_join o ys
-said_join (Item.Ran x ∷ o) ys = ap (λ z. all_said (tried_of x.tried) ++ z) (said_join o ys) ∙ sym (append_assoc (all_said (tried_of x.tried)) (said_in o) (said_in ys))
+said_join (Item.Ran x ∷ o) ys = ap (λ z. all_said (made_attempts x.tried) ++ z) (said_join o ys) ∙ sym (append_assoc (all_said (made_attempts x.tried)) (said_in o) (said_in ys))
 said_join (Item.Unsaid n u ∷ o) ys = said_join o ys
 said_join (Item.Ended rows ∷ o) ys = said_join o ys
 
@@ -111,7 +112,7 @@ stop_in period (code.Open stop) h = h
 stop_in period (code.Round fates stop) h = h
 
 may_take : (settings : StationSettings) (eeprom : List ℕ) (packet : LoopPacket) (xs ys : List ReplayStep) (x : ReplayStep) (is : List Item) (s : Stage) → IsSchedule (xs ++ x ∷ ys) → Runs settings xs (start eeprom packet) is s → MayStop x
-    → lines (xs ++ x ∷ ys) ≤ most_turns → s.archive.changes ≤ 4 * length s.archive.rows + 7 * lines xs → MayTake (length (records (xs ++ x ∷ ys))) settings x s
+    → lines (xs ++ x ∷ ys) ≤ most_turns → s.archive.changes ≤ changes_in_a_batch * length s.archive.rows + changes_in_a_turn * lines xs → MayTake (length (records (xs ++ x ∷ ys))) settings x s
 may_take settings eeprom packet xs ys (ReplayStep.Due rs) is s ok runs stop few changes = tt
 may_take settings eeprom packet xs ys (ReplayStep.Idle n) is s ok runs stop few changes = tt
 may_take settings eeprom packet xs ys (ReplayStep.Open k) is s ok runs stop few changes = stop
@@ -125,7 +126,7 @@ pub stands_there : (settings : StationSettings) (eeprom : List ℕ) (packet : Lo
     → StandsThere (length (records (xs ++ x ∷ ys))) openings settings x s disk
 stands_there settings eeprom packet xs ys x is s openings disk ok few records_few stop room runs openings_few =
     let n = length (records (xs ++ x ∷ ys)) in
-    let fits = room_law settings eeprom packet xs (x ∷ ys) ok (slot_size * (14 * n + 1) + 1) (λ (rows : List Row) less. let a = total_few rows in let b = slots_is rows in omega (arith, a, b, less)) is s runs in
+    let fits = room_law settings eeprom packet xs (x ∷ ys) ok (slot_size * (slots_in_a_record * n + 1) + 1) (λ (rows : List Row) less. let a = total_few rows in let b = slots_is rows in omega (arith, a, b, less)) is s runs in
     let e = lines_join xs (x ∷ ys) in (
       record {
         room = room;
@@ -187,7 +188,7 @@ unseen_in settings from xs ys x is now u runs b = record {
 }
 
 -- a round from an open stage is one from where the archive was closed, behind its opening
-does_opened : (settings : StationSettings) (f : Fates) (left : ℕ → List (List ℕ)) (stop : Option Stop) (s u : Stage) (is : List Item) → Does settings (ReplayStep.Round f left stop) (opened s.is_open s) is u → Does settings (ReplayStep.Round f left stop) s (opening_if_closed s.is_open s ++ is) u
+does_opened : (settings : StationSettings) (f : FatesByNumber) (left : ℕ → List (List ℕ)) (stop : Option Stop) (s u : Stage) (is : List Item) → Does settings (ReplayStep.Round f left stop) (opened s.is_open s) is u → Does settings (ReplayStep.Round f left stop) s (opening_if_closed s.is_open s ++ is) u
 does_opened settings f left stop s u is (r, made, i) =
     let t = opened s.is_open s in
     let same : opened t.is_open t ≡ t = ap (λ (b : Bool). opened b t) (is_opened s) in
@@ -205,12 +206,12 @@ breaks_opened settings x s is b =
       stop = b.stop;
       is_round = b.is_round;
       unsaid = b.unsaid;
-      broken = subst (λ (z : Stage). IsBroken settings b.fates b.stop z b.unsaid) same b.broken;
+      broken = subst (λ (z : Stage). IsUnseenRound settings b.fates b.stop z b.unsaid) same b.broken;
       items_are = ap (λ z. opening_if_closed s.is_open s ++ z) (b.items_are ∙ ap (λ z. z ++ b.unsaid ∷ []) none);
     }
 
 -- a round behind its opening was taken
-pub round_more : (settings : StationSettings) (from : Stage) (xs : List ReplayStep) (f : Fates) (left : ℕ → List (List ℕ)) (stop : Option Stop) (given is : List Item) (s u : Stage) (openings : ℕ) (before line now : Sim) (made next : Stopping MemDisk) (after : Run)
+pub round_more : (settings : StationSettings) (from : Stage) (xs : List ReplayStep) (f : FatesByNumber) (left : ℕ → List (List ℕ)) (stop : Option Stop) (given is : List Item) (s u : Stage) (openings : ℕ) (before line now : Sim) (made next : Stopping MemDisk) (after : Run)
     → Runs settings xs from given s → openings ≤ lines xs → HasSaid given before line → Does settings (ReplayStep.Round f left stop) (opened s.is_open s) is u → HoldsAt (openings + 1) settings u after next → LineAt u now → HasSaid is line now
     → stopping_limits next ≡ stopping_limits made → SoFar settings from (xs ++ ReplayStep.Round f left stop ∷ []) ((given ++ opening_if_closed s.is_open s) ++ is) before now made next after
 round_more settings from xs f left stop given is s u openings before line now made next after runs few before_said does holds at said limits =
@@ -253,7 +254,7 @@ step_cut telling settings eeprom packet xs ys x b c is u ok runs (inr (inr (inr 
     (subst (λ (z : List Item). RunIsBegun settings (start eeprom packet) (xs ++ x ∷ ys) z) (sym (append-nil is)) (begun_to settings (start eeprom packet) xs (x ∷ ys) (xs ++ x ∷ ys) is u refl runs)) (front_whole telling b c [] w)
 
 -- a round behind its opening was cut off
-pub round_cut : {T : Type 0} (telling : Telling T) (settings : StationSettings) (eeprom : List ℕ) (packet : LoopPacket) (xs ys : List ReplayStep) (f : Fates) (left : ℕ → List (List ℕ)) (stop : Option Stop) (b c : T) (given : List Item) (s : Stage) → IsSchedule (xs ++ ReplayStep.Round f left stop ∷ ys)
+pub round_cut : {T : Type 0} (telling : Telling T) (settings : StationSettings) (eeprom : List ℕ) (packet : LoopPacket) (xs ys : List ReplayStep) (f : FatesByNumber) (left : ℕ → List (List ℕ)) (stop : Option Stop) (b c : T) (given : List Item) (s : Stage) → IsSchedule (xs ++ ReplayStep.Round f left stop ∷ ys)
     → Runs settings xs (start eeprom packet) given s → StepIsCut telling settings (ReplayStep.Round f left stop) (opened s.is_open s) b c → CutsRun telling settings (start eeprom packet) (xs ++ ReplayStep.Round f left stop ∷ ys) (given ++ opening_if_closed s.is_open s) b c
 round_cut telling settings eeprom packet xs ys f left stop b c given s ok runs (inl (now, v, does, w)) =
     let x = ReplayStep.Round f left stop in
@@ -344,7 +345,7 @@ module _ (settings : StationSettings) (eeprom : List ℕ) (packet : LoopPacket) 
       let all : z ++ w ≡ steps_for q xs = steps_parts q xs i in
       let n = length (records (steps_for q xs)) in
       let m = length (records (z ++ w)) in
-      let fits = room_law settings eeprom packet z w (subst IsSchedule (sym all) r.ok) (slot_size * (14 * m + 1) + 1) (λ (rows : List Row) less. let a = total_few rows in let t = slots_is rows in omega (arith, a, t, less)) given s runs in
+      let fits = room_law settings eeprom packet z w (subst IsSchedule (sym all) r.ok) (slot_size * (slots_in_a_record * m + 1) + 1) (λ (rows : List Row) less. let a = total_few rows in let t = slots_is rows in omega (arith, a, t, less)) given s runs in
       let same : m ≡ n = ap (λ (y : List ReplayStep). length (records y)) all in
       let l = lines_part q xs i in
       record {

@@ -1,8 +1,8 @@
 -- What a line tells of a round.
 use Rattle.std.proofs.Common.{◌≡◌, ◌≢◌, ℕ, false, length, codes, refl, ap}
-use Rattle.station_replay.specs.Round.{Ending}
-use Rattle.station_replay.specs.Replay.{Rounded, is_stop}
-use Rattle.station_replay.specs.Texts.{named_number, round_line, rows_text_behind, rows_counted, rows_text}
+use Rattle.replay_laws.specs.Round.{Ending}
+use Rattle.replay_laws.specs.Replay.{Rounded, is_stop}
+use Rattle.replay_laws.specs.Texts.{named_number, round_line, rows_text_behind, rows_counted, rows_text}
 use Rattle.schedule_replay.specs.RoundLine.{RoundLineTells, ending_of, round_line_text}
 use Rattle.schedule_replay.specs.declared.round_line.RoundEnding.{RoundEnding}
 use Rattle.schedule_replay.specs.declared.round_line.RoundEnding.TheVariants.{Done, GaveUp, Full, Stopped}

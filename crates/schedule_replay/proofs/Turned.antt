@@ -15,9 +15,9 @@ use Rattle.schedule_file.specs.declared.schedule.step.Step as code_step
 use Rattle.schedule_file.specs.declared.schedule.step.Step.TheVariants as code
 use Rattle.schedule_file.specs.declared.schedule.step.Stop.{Stop}
 use Rattle.station_sim.specs.declared.sim.Sim.{Sim}
-use Rattle.station_replay.specs.Replay.{Item, OpensNext, Runs, Stage, opening_if_closed, opened, start}
-use Rattle.station_replay.specs.Room.{step_lines, lines}
-use Rattle.station_replay.specs.Schedule.{IsSchedule, ReplayStep, records}
+use Rattle.replay_laws.specs.Replay.{Item, OpensNext, Runs, Stage, opening_if_closed, opened, start}
+use Rattle.replay_laws.specs.Room.{step_lines, lines}
+use Rattle.replay_laws.specs.Schedule.{IsSchedule, ReplayStep, records}
 use Rattle.round_play.specs.declared.playing.Playing.{Playing}
 use Rattle.schedule_replay.specs.declared.run.Run.{Run}
 use Rattle.schedule_replay.specs.declared.turns.ReplayRun.{ReplayRun}

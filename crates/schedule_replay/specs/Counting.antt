@@ -2,8 +2,8 @@
 use Rattle.std.specs.Prelude.{◌≡◌, ℕ, ◌+◌, ◌-◌, ◌^◌, min, List, [], ◌∷◌, ◌++◌, length}
 use Rattle.std.proofs.Common.{refl, sym, ap, ◌∙◌, append_assoc}
 use Rattle.packed_rows.specs.Days.{days_of}
-use Rattle.station_replay.specs.Round.{Ending}
-use Rattle.station_replay.specs.Replay.{Item}
+use Rattle.replay_laws.specs.Round.{Ending}
+use Rattle.replay_laws.specs.Replay.{Item}
 use Rattle.schedule_replay.specs.declared.counts.Counts.{Counts}
 use Rattle.schedule_replay.specs.Telling.{Telling}
 
@@ -11,14 +11,14 @@ use Rattle.schedule_replay.specs.Telling.{Telling}
 abbrev pub raised_by : ℕ → ℕ → ℕ
 raised_by more count = min (count + more) (2 ^ 64 - 1)
 
--- with a round that ended so
+-- the counts with a round that ended so
 abbrev pub with_ending : Ending → Counts → Counts
 with_ending Ending.Ok c = record c { ok = raised_by 1 c.ok }
 with_ending Ending.GaveUp c = record c { gave_up = raised_by 1 c.gave_up }
 with_ending Ending.Full c = record c { full = raised_by 1 c.full }
 with_ending (Ending.Stopped change) c = record c { stopped = raised_by 1 c.stopped }
 
--- with a round that ended so, with so many harmed deliveries
+-- the counts with a round that ended so, and had so many harmed deliveries
 abbrev pub with_round : Ending → ℕ → Counts → Counts
 with_round end harmed c =
     with_ending end (record c { rounds = raised_by 1 c.rounds; harmed = raised_by harmed c.harmed })

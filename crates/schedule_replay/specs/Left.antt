@@ -4,7 +4,7 @@ use Rattle.std.specs.declared.option.Option.{Option}
 use Rattle.station_session.specs.RoundAt.{round_turns_left}
 use Rattle.station_session.specs.declared.session.Session.{Session}
 use Rattle.schedule_file.specs.declared.schedule.step.Step as code_step
-use Rattle.station_replay.specs.Room.{lines}
+use Rattle.replay_laws.specs.Room.{lines}
 use Rattle.round_play.specs.declared.playing.Playing.{Playing}
 use Rattle.schedule_steps.specs.Steps.{steps_for}
 
@@ -13,7 +13,7 @@ use Rattle.schedule_steps.specs.Steps.{steps_for}
 abbrev pub turns_left_in : ℕ → List code_step.Step → ℕ
 turns_left_in period steps = length steps + 2 ^ 33 * lines (steps_for period steps)
 
--- and one for a recovery, where the archive is closed
+-- one turn for a recovery, if the archive is closed
 abbrev pub left_to_open : Option Session → ℕ
 left_to_open None = 1
 left_to_open (Some session) = 0

@@ -12,10 +12,10 @@ use Rattle.weather_book.specs.Stands.{HasRows}
 use Rattle.schedule_file.specs.declared.schedule.Schedule.{Schedule}
 use Rattle.station_sim.specs.declared.sim.Sim.{Sim}
 use Rattle.station_sim.specs.Standing.{SimStandsFor}
-use Rattle.station_replay.specs.Kept.{Kept}
-use Rattle.station_replay.specs.Schedule.{ReplayStep, records}
-use Rattle.station_replay.specs.Replay.{RunIsBegun, IsReplay, IsReplayBy, IsWhole, Item, Stage, opened, start}
-use Rattle.station_replay.specs.Texts.{text}
+use Rattle.replay_laws.specs.Kept.{Kept}
+use Rattle.replay_laws.specs.Schedule.{ReplayStep, records}
+use Rattle.replay_laws.specs.Replay.{RunIsBegun, IsReplay, IsReplayBy, IsWhole, Item, Stage, opened, start}
+use Rattle.replay_laws.specs.Texts.{text}
 use Rattle.round_play.specs.Opening.{stopping_limits}
 use Rattle.round_play.specs.Resting.{AtRest, IsRoomFor}
 use Rattle.schedule_replay.specs.Standing.{said_in}

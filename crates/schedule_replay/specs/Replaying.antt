@@ -8,9 +8,9 @@ use Rattle.disk_model.specs.declared.stopping.Stopping.{Stopping}
 use Rattle.schedule_file.specs.declared.fates.Fates as code_fates
 use Rattle.schedule_file.specs.declared.schedule.step.Step as code_step
 use Rattle.station_sim.specs.declared.sim.Sim.{Sim}
-use Rattle.station_replay.specs.Room.{lines}
-use Rattle.station_replay.specs.Schedule.{ReplayStep, records}
-use Rattle.station_replay.specs.Replay.{Item, OpensNext, Runs, Stage, opening_if_closed, opened, start}
+use Rattle.replay_laws.specs.Room.{lines}
+use Rattle.replay_laws.specs.Schedule.{ReplayStep, records}
+use Rattle.replay_laws.specs.Replay.{Item, OpensNext, Runs, Stage, opening_if_closed, opened, start}
 use Rattle.round_play.specs.declared.playing.Playing.{Playing}
 use Rattle.schedule_replay.specs.declared.run.Run.{Run}
 use Rattle.schedule_replay.specs.declared.turns.ReplayRun.{ReplayRun}
@@ -97,7 +97,7 @@ pub record StandsAt (playing : Option Playing) (c : Course) (settings : StationS
   pub few : turns + turns_left_by playing settings.period c.steps taken run.session ≤ length c.steps + 2 ^ 41
   pub stands : StandsBy playing c settings taken items run line disk
 
--- the same of a run whose round under way is this one
+-- a run that is taken turn by turn stands so, its round under way being this one
 abbrev pub StandsWith : Option Playing → Course → List Item → ReplayRun → Sim → Stopping MemDisk → Type 0
 StandsWith playing c items run line disk =
     StandsAt playing c run.settings run.taken run.turns items run.run line disk

@@ -1,9 +1,9 @@
 -- What a line tells of a round.
 use Rattle.std.specs.Prelude.{ℕ, ◌≡◌, false, List, ◌++◌, length, codes}
 use Rattle.station_session.specs.Attempts.{page_count, skip_count}
-use Rattle.station_replay.specs.Round.{Ending, tried_of}
-use Rattle.station_replay.specs.Replay.{Rounded, is_stop}
-use Rattle.station_replay.specs.Texts.{named_number, ending_text, rows_counted}
+use Rattle.replay_laws.specs.Round.{Ending, made_attempts}
+use Rattle.replay_laws.specs.Replay.{Rounded, is_stop}
+use Rattle.replay_laws.specs.Texts.{named_number, ending_text, rows_counted}
 use Rattle.schedule_replay.specs.declared.round_line.RoundEnding.{RoundEnding}
 use Rattle.schedule_replay.specs.declared.round_line.RoundEnding.TheVariants.{Done, GaveUp, Full, Stopped}
 use Rattle.schedule_replay.specs.declared.round_line.RoundLine.{RoundLine}
@@ -28,8 +28,8 @@ pub record RoundLineTells (line : RoundLine) (written : ℕ) (x : Rounded) : Typ
   pub number : x.number ≡ line.number
   pub end : x.end ≡ ending_of line.end
   pub attempts : length x.tried ≡ line.attempts
-  pub pages : page_count (tried_of x.tried) ≡ line.pages
-  pub skipped : skip_count (tried_of x.tried) ≡ line.skipped
+  pub pages : page_count (made_attempts x.tried) ≡ line.pages
+  pub skipped : skip_count (made_attempts x.tried) ≡ line.skipped
   pub harmed : x.harmed ≡ line.harmed
   pub acked : length x.kept ≡ line.acked
   pub rows : is_stop x.end ≡ false → length x.rows ≡ line.rows

@@ -2,20 +2,20 @@
 use Rattle.std.specs.Prelude.{◌≡◌, ℕ, ◌⊎◌, Bool, true, false, List, [], ◌∷◌, ◌++◌}
 use Rattle.std.specs.declared.option.Option.{Option}
 use Rattle.settings_file.specs.StationSettings.{StationSettings}
-use Rattle.schedule_file.specs.Fates.{Fates}
+use Rattle.schedule_file.specs.Fates.{FatesByNumber}
 use Rattle.schedule_file.specs.declared.schedule.step.Stop.{Stop}
-use Rattle.station_replay.specs.Schedule.{ReplayStep}
-use Rattle.station_replay.specs.Replay.{Does, IsBroken, Item, Stage, opening_if_closed, opened}
+use Rattle.replay_laws.specs.Schedule.{ReplayStep}
+use Rattle.replay_laws.specs.Replay.{Does, IsUnseenRound, Item, Stage, opening_if_closed, opened}
 use Rattle.schedule_replay.specs.Telling.{Telling}
 
 -- The step is a round in which a delivery was unseen, and these are its items.
 pub record BreaksAt (settings : StationSettings) (step : ReplayStep) (from : Stage) (items : List Item) : Type 0 where
-  pub fates : Fates
+  pub fates : FatesByNumber
   pub left : ℕ → List (List ℕ)
   pub stop : Option Stop
   pub is_round : step ≡ ReplayStep.Round fates left stop
   pub unsaid : Item
-  pub broken : IsBroken settings fates stop (opened from.is_open from) unsaid
+  pub broken : IsUnseenRound settings fates stop (opened from.is_open from) unsaid
   pub items_are : items ≡ opening_if_closed from.is_open from ++ unsaid ∷ []
 
 -- what is known after a step, by whether a delivery was unseen: its items are told, and P holds of where it leads
@@ -30,6 +30,6 @@ abbrev pub StepIsCut : {T : Type 0} → Telling T → StationSettings → Replay
 StepIsCut telling settings x s old new =
     ((is : List Item) × (u : Stage) × Does settings x s is u × telling.breaks_off old is new)
     ⊎ ((is : List Item) × BreaksAt settings x s is × telling.breaks_off old is new)
-    ⊎ ((f : Fates) × (left : ℕ → List (List ℕ)) × (stop : Option Stop) × (x ≡ ReplayStep.Round f left stop)
+    ⊎ ((f : FatesByNumber) × (left : ℕ → List (List ℕ)) × (stop : Option Stop) × (x ≡ ReplayStep.Round f left stop)
     × telling.breaks_off old (opening_if_closed s.is_open s) new)
     ⊎ telling.tells old [] new

@@ -4,9 +4,9 @@ use Rattle.settings_file.specs.StationSettings.{StationSettings}
 use Rattle.disk_model.specs.declared.mem_disk.MemDisk.{MemDisk}
 use Rattle.disk_model.specs.declared.stopping.Stopping.{Stopping}
 use Rattle.station_sim.specs.declared.sim.Sim.{Sim}
-use Rattle.station_replay.specs.Schedule.{ReplayStep}
-use Rattle.station_replay.specs.Replay.{Item, Runs, Stage}
-use Rattle.station_replay.specs.Room.{lines}
+use Rattle.replay_laws.specs.Schedule.{ReplayStep}
+use Rattle.replay_laws.specs.Replay.{Item, Runs, Stage}
+use Rattle.replay_laws.specs.Room.{lines}
 use Rattle.schedule_replay.specs.declared.run.Run.{Run}
 use Rattle.round_play.specs.Opening.{stopping_limits}
 use Rattle.schedule_replay.specs.Standing.{HasSaid, HoldsAt, LineAt}

@@ -16,12 +16,14 @@ use Rattle.schedule_file.specs.declared.schedule.step.Step as code_step
 use Rattle.schedule_file.specs.declared.schedule.step.Step.TheVariants as code
 use Rattle.schedule_file.specs.declared.schedule.step.Stop.{Stop}
 use Rattle.station_sim.specs.Standing.{SimStandsFor}
-use Rattle.station_replay.specs.Schedule.{ReplayStep}
+use Rattle.gated_log.specs.Calls.{changes_in_a_batch}
+use Rattle.replay_laws.specs.Room.{changes_in_a_turn, changes_of_turns}
+use Rattle.replay_laws.specs.Schedule.{ReplayStep}
 use Rattle.schedule_file.specs.Lists.{no_fates}
-use Rattle.station_replay.specs.Replay.{Does, Item, Rounded, Stage, is_stop, opened}
-use Rattle.station_replay.specs.Keeping.{Archive}
-use Rattle.station_replay.specs.Stopped.{IsStop}
-use Rattle.station_replay.specs.Round.{tried_of}
+use Rattle.replay_laws.specs.Replay.{Does, Item, Rounded, Stage, is_stop, opened}
+use Rattle.replay_laws.specs.Keeping.{Archive}
+use Rattle.replay_laws.specs.Stopped.{IsStop}
+use Rattle.replay_laws.specs.Round.{made_attempts}
 use Rattle.schedule_replay.specs.declared.run.Run.{Run}
 use Rattle.round_play.specs.Opening.{CanOpen, stopping_limits}
 use Rattle.round_play.specs.Played.{PlayedHost, RoundIsCounted, MayPlay}
@@ -44,7 +46,7 @@ pub record HoldsAt (openings : ℕ) (settings : StationSettings) (s : Stage) (ru
   pub rounds : run.rounds ≡ s.rounds
   pub written : run.written ≡ s.written
 
--- Its line does too, and no fates are set on it.
+-- The line in memory stands where the run stands, and no fates are set on it.
 pub record LineAt (s : Stage) (line : Sim) : Type 0 where
   pub stands : SimStandsFor line s.line
   pub fates : fates_of line.fates ≡ no_fates
@@ -54,29 +56,31 @@ abbrev pub said_in : List Item → List TalkItem
 said_in [] = []
 said_in (Item.Opened rows n ∷ o) = said_in o
 said_in (Item.OpenStopped k rows ∷ o) = said_in o
-said_in (Item.Ran x ∷ o) = all_said (tried_of x.tried) ++ said_in o
+said_in (Item.Ran x ∷ o) = all_said (made_attempts x.tried) ++ said_in o
 said_in (Item.Unsaid n u ∷ o) = said_in o
 said_in (Item.Ended rows ∷ o) = said_in o
 
--- its talk grew by those of the rounds among the items
+-- the talk of a line grew by those of the rounds among the items
 abbrev pub HasSaid : List Item → Sim → Sim → Type 0
 HasSaid o before after = after.talk.items ≡ before.talk.items ++ said_in o
 
 -- A run of so many records has room at this stage, so many openings made.
 pub record HasRunRoom (records openings : ℕ) (s : Stage) (disk : Stopping MemDisk) : Type 0 where
   pub room : IsRoomFor records (stopping_limits disk)
-  pub changes : s.archive.changes ≤ 4 * length s.archive.rows + 1400
+  pub changes : s.archive.changes ≤ changes_in_a_batch * length s.archive.rows + changes_of_turns
   pub rows : length s.archive.rows ≤ records
   pub records_are : records ≤ most_records
   pub few : openings ≤ most_turns
 
--- what is so of a step that comes next in a run of so many records
+-- what is so of a step that comes next in a run of so many records; before a round there is room for the changes of a
+-- turn
 abbrev pub MayTake : ℕ → StationSettings → ReplayStep → Stage → Type 0
 MayTake records settings (ReplayStep.Due rs) s = Unit {0}
 MayTake records settings (ReplayStep.Idle n) s = Unit {0}
 MayTake records settings (ReplayStep.Open stop) s = IsStop stop
 MayTake records settings (ReplayStep.Round f left stop) s =
-    IsStop stop × RoundIsCounted records settings f s × (s.archive.changes ≤ 4 * length s.archive.rows + 1393)
+    IsStop stop × RoundIsCounted records settings f s
+    × (s.archive.changes + changes_in_a_turn ≤ changes_in_a_batch * length s.archive.rows + changes_of_turns)
 
 -- a step opens the archive, or makes a round
 abbrev pub open_step : Option Stop → ReplayStep
@@ -133,8 +137,7 @@ pub record WasBegun (records openings : ℕ) (settings : StationSettings) (s : S
 
 -- the step is taken, its items are told, and the run stands where it leads
 abbrev pub LeadsTo : {T : Type 0} → Telling T → ℕ → StationSettings → ReplayStep → Stage → Run → Stopping MemDisk → T
-    → T
-    → Type 0
+    → T → Type 0
 LeadsTo telling openings settings x s run disk old new =
     (is : List Item) × (u : Stage) × Does settings x s is u × HoldsAt openings settings u run disk
     × telling.tells old is new

@@ -1,7 +1,7 @@
 -- What is told of the items of a run.
 use Rattle.std.specs.Prelude.{ℕ, List, [], ◌++◌, Ok, Err}
 use Rattle.std.specs.declared.result.Result.{Result}
-use Rattle.station_replay.specs.Replay.{Item}
+use Rattle.replay_laws.specs.Replay.{Item}
 use Rattle.schedule_replay.specs.declared.cut.Cut.{Cut}
 use Rattle.schedule_replay.specs.declared.cut.Cut.TheVariants.{WriteFault, OutOfMemory}
 

@@ -5,8 +5,8 @@ use Rattle.causes.specs.Written.{Leaves}
 use Rattle.causes.proofs.WritesInTurn.{Appends-nil, leaves_all, leaves_less, leaves_none, part_of_all, part_of_front}
 use Rattle.causes.proofs.WritesInTurn.{writes_nothing}
 use Rattle.station_io.specs.Sink.{Outlet}
-use Rattle.station_replay.specs.Replay.{Item}
-use Rattle.station_replay.specs.Texts.{text, item_text}
+use Rattle.replay_laws.specs.Replay.{Item}
+use Rattle.replay_laws.specs.Texts.{text, item_text}
 use Rattle.schedule_replay.specs.Telling.{Telling}
 use Rattle.schedule_replay.specs.Writing.{IsFrontWritten, IsWritten}
 

@@ -1,9 +1,9 @@
 -- What a teller is told of the run of a schedule's steps.
 use Rattle.std.specs.Prelude.{◌⊎◌, Bool, List}
 use Rattle.settings_file.specs.StationSettings.{StationSettings}
-use Rattle.station_replay.specs.Kept.{Kept}
-use Rattle.station_replay.specs.Schedule.{ReplayStep, records}
-use Rattle.station_replay.specs.Replay.{RunIsBegun, IsReplay, IsReplayBy, Item, Stage}
+use Rattle.replay_laws.specs.Kept.{Kept}
+use Rattle.replay_laws.specs.Schedule.{ReplayStep, records}
+use Rattle.replay_laws.specs.Replay.{RunIsBegun, IsReplay, IsReplayBy, Item, Stage}
 use Rattle.schedule_replay.specs.Telling.{Telling}
 
 -- What was told are items that are the run of the steps, by whether a delivery was unseen, and all is kept of them.

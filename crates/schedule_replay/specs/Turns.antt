@@ -5,9 +5,9 @@ use Rattle.settings_file.specs.StationSettings.{StationSettings}
 use Rattle.disk_model.specs.declared.mem_disk.MemDisk.{MemDisk}
 use Rattle.disk_model.specs.declared.stopping.Stopping.{Stopping}
 use Rattle.station_sim.specs.declared.sim.Sim.{Sim}
-use Rattle.station_replay.specs.Kept.{Kept}
-use Rattle.station_replay.specs.Schedule.{ReplayStep, records}
-use Rattle.station_replay.specs.Replay.{RunIsBegun, IsReplay, IsUnseen, Item, Stage, start}
+use Rattle.replay_laws.specs.Kept.{Kept}
+use Rattle.replay_laws.specs.Schedule.{ReplayStep, records}
+use Rattle.replay_laws.specs.Replay.{RunIsBegun, IsReplay, IsUnseen, Item, Stage, start}
 use Rattle.round_play.specs.declared.playing.Playing.{Playing}
 use Rattle.schedule_replay.specs.declared.turns.ReplayRun.{ReplayRun}
 use Rattle.schedule_replay.specs.declared.turns.ReplayTurn.{ReplayTurn}

@@ -17,7 +17,7 @@ pub struct Counts {
     pub rounds: u64,
     /// Rounds after which all that was newer is stored, as far as the ring held it.
     pub ok: u64,
-    /// Rounds of which three attempts failed.
+    /// Rounds of which every attempt failed.
     pub gave_up: u64,
     /// Rounds with a batch for which the archive had no room.
     pub full: u64,

@@ -1,5 +1,5 @@
 ghost use Rattle.std.specs.Prelude.{◌≡◌};
-ghost use Rattle.station_replay.specs.Texts.{end_line, open_line, open_stop_line, unseen_line};
+ghost use Rattle.replay_laws.specs.Texts.{end_line, open_line, open_stop_line, unseen_line};
 
 use arrayvec::ArrayVec;
 use station_base::{LINE_ROOM, push_bytes, push_count};

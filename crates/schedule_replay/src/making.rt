@@ -1,7 +1,7 @@
 ghost use Rattle.std.specs.Prelude.{ℕ, List, IfOk};
 ghost use Rattle.eeprom_map.specs.Memory.{new_memory};
 ghost use Rattle.loop_packet.specs.declared.packet.LoopPacket.{LoopPacket};
-ghost use Rattle.station_replay.specs.Replay.{start};
+ghost use Rattle.replay_laws.specs.Replay.{start};
 ghost use Rattle.schedule_replay.specs.Replayed.{IsNewDisk};
 ghost use Rattle.schedule_replay.specs.Standing.{LineAt};
 
@@ -28,17 +28,22 @@ pub fn new_line(alloc: Global, period: Period, packet: LoopPacket) -> Result<Sim
 // The bytes of a file that is an archive without rows.
 const EMPTY_BYTES: usize = SLOT_SIZE + 1;
 
-// The most bytes of the file that a record can take: its own slot, and thirteen of a day's summary before it.
+// The most bytes of the file that a record can take: its own slot, and those of a day's summary before it.
 const RECORD_BYTES: usize = 14 * SLOT_SIZE;
 
-// The changes that the openings, and the batches that are cut short, of 200 lines can make, and those of the last
-// opening.
-const OPENING_CHANGES: usize = 200 * 7 + 3;
+// The most openings and rounds of a schedule.
+const TURNS: usize = 200;
+
+// The most changes of an opening: a sync, and if the file is made anew a write and a sync.
+const OPENING_CHANGES: usize = 3;
 
 // The changes of a batch, which has a record or more.
-const RECORD_CHANGES: usize = 4;
+const BATCH_CHANGES: usize = 4;
 
-// The most bytes that these openings and batches can write.
+// The changes of all openings and rounds, each with an opening and a batch that is cut short, and of the last opening.
+const TURN_CHANGES: usize = TURNS * (OPENING_CHANGES + BATCH_CHANGES) + OPENING_CHANGES;
+
+// Room for the bytes that all openings write, far more than they take.
 const OPENING_BYTES: usize = 2_500_000;
 
 // The most bytes that a record can have written: those of the file, and the gate of its batch.
@@ -52,7 +57,7 @@ pub fn new_disk(alloc: Global, records: u32) -> Result<Stopping<MemDisk>, OutOfM
     let disk = MemDisk::new(
         alloc,
         EMPTY_BYTES + RECORD_BYTES * records,
-        OPENING_CHANGES + RECORD_CHANGES * records,
+        TURN_CHANGES + BATCH_CHANGES * records,
         OPENING_BYTES + RECORD_WRITES * records,
     )?;
     Ok(Stopping::new(disk))

@@ -1,8 +1,8 @@
 ghost use Rattle.std.specs.Prelude.{◌≡◌, ◌≢◌, ◌⊎◌, List, ℕ, true, false, length};
 ghost use Rattle.causes.specs.Cause.{Cause};
 ghost use Rattle.loop_packet.specs.declared.packet.LoopPacket.{LoopPacket};
-ghost use Rattle.station_replay.specs.Replay.{start};
-ghost use Rattle.station_replay.specs.Schedule.{records};
+ghost use Rattle.replay_laws.specs.Replay.{start};
+ghost use Rattle.replay_laws.specs.Schedule.{records};
 ghost use Rattle.schedule_steps.specs.Accepted.{AreAccepted, ScheduleIsAccepted};
 ghost use Rattle.schedule_replay.specs.Replayed.{ReplayIsCutOff, IsNewDisk, IsReplayed, TookPart, steps_in};
 ghost use Rattle.schedule_replay.specs.Standing.{LineAt};
@@ -26,9 +26,9 @@ pub enum ReplayEnd {
     /// A delivery of a round was unseen: one that was harmed and passes for whole. What was before it is told, and its
     /// item.
     Unseen,
-    /// A write failed. A front of what was to be told is.
+    /// A write failed. A prefix of what was to be told was told.
     WriteFault,
-    /// The run found no memory. A front of what was to be told is.
+    /// The run found no memory. A prefix of what was to be told was told.
     OutOfMemory,
 }
 
@@ -63,8 +63,7 @@ pub fn replay<K: Sink>(
         → ReplayIsCutOff settings.now (start eeprom packet) (steps_in schedule.now) (K.outlet.taken out.old)
         (K.outlet.taken out.new) }
 
-    // Of one and the same run all this is so: it was written, all of it is kept, and the line and the disk that were
-    // handed in took part in it.
+    // `done` again, of a run in which the line and the disk that were handed in took part.
     ensures took_part { result ≡ ReplayEnd.Done → (eeprom : List ℕ) (packet : LoopPacket)
         → LineAt (start eeprom packet) line.old
         → (run : IsReplayed false settings.now (start eeprom packet) (steps_in schedule.now) (K.outlet.taken out.old)

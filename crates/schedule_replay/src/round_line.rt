@@ -1,6 +1,6 @@
 ghost use Rattle.std.specs.Prelude.{◌≡◌, ◌+◌, ◌≤◌, ◌++◌};
 ghost use Rattle.arrayvec.specs.ArrayVec.{array_vec_len};
-ghost use Rattle.station_replay.specs.Texts.{ending_text, rows_counted};
+ghost use Rattle.replay_laws.specs.Texts.{ending_text, rows_counted};
 ghost use Rattle.schedule_replay.specs.RoundLine.{ending_of, round_line_text};
 
 use crate::line::Line;

@@ -2,7 +2,7 @@ ghost use Rattle.std.specs.Prelude.{◌≡◌, ◌≢◌, List, Err, [], ◌∷�
 ghost use Rattle.causes.specs.Cause.{Cause};
 ghost use Rattle.station_base.specs.declared.row.Row.{Row};
 ghost use Rattle.settings_file.specs.StationSettings.{StationSettings};
-ghost use Rattle.station_replay.specs.Replay.{Item, Rounded, is_stop};
+ghost use Rattle.replay_laws.specs.Replay.{Item, Rounded, is_stop};
 ghost use Rattle.round_play.specs.Resting.{SessionGoesOn};
 ghost use Rattle.schedule_replay.specs.RoundLine.{RoundLineTells, ending_of};
 ghost use Rattle.schedule_replay.specs.Telling.{Telling, TellsAll};

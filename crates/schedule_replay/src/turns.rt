@@ -4,8 +4,8 @@ ghost use Rattle.causes.specs.Cause.{Cause};
 ghost use Rattle.loop_packet.specs.declared.packet.LoopPacket.{LoopPacket};
 ghost use Rattle.disk_model.specs.declared.mem_disk.MemDisk.{MemDisk};
 ghost use Rattle.disk_model.specs.declared.stopping.Stopping.{Stopping};
-ghost use Rattle.station_replay.specs.Replay.{Item, OpensNext, start};
-ghost use Rattle.station_replay.specs.Schedule.{records};
+ghost use Rattle.replay_laws.specs.Replay.{Item, OpensNext, start};
+ghost use Rattle.replay_laws.specs.Schedule.{records};
 ghost use Rattle.schedule_file.specs.declared.schedule.step.Step as code_step;
 ghost use Rattle.station_sim.specs.declared.sim.Sim.{Sim};
 ghost use Rattle.schedule_steps.specs.Accepted.{AreAccepted};
@@ -122,10 +122,13 @@ impl ReplayRun {
             items teller.old teller.new }
         ensures settings { self.new.settings ≡ self.old.settings }
         ensures turns { result ≡ ReplayTurn.More → self.new.turns ≡ self.old.turns + 1 }
+        ensures not_counted { result ≢ ReplayTurn.More → self.new.turns ≡ self.old.turns }
         ensures left { result ≡ ReplayTurn.More
             → run_turns_left steps.now self.new < run_turns_left steps.now self.old }
         ensures one_turn { result ≡ ReplayTurn.More → IsOneTurn self.old self.new }
         ensures says_or_stores { result ≡ ReplayTurn.More → SaysOrStores line.old disk.old line.new disk.new }
+        ensures unseen_says_or_stores { result ≡ ReplayTurn.Unseen
+            → SaysOrStores line.old disk.old line.new disk.new }
         ensures one_call { result ≡ ReplayTurn.More → is_some self.new.playing ≡ true
             → MakesOneCall line.old disk.old line.new disk.new }
         ensures ends_open { result ≡ ReplayTurn.Ended → is_some self.old.run.session ≡ true }
@@ -171,10 +174,11 @@ impl ReplayRun {
           turns = self.new.turns;
         } }
         ensures turns { result ≡ ReplayTurn.More → self.new.turns ≡ self.old.turns + 1 }
+        ensures not_counted { result ≢ ReplayTurn.More → self.new.turns ≡ self.old.turns }
         ensures left { result ≡ ReplayTurn.More → (steps : List code_step.Step) → IsNext steps self.old.taken step.now
             → run_turns_left steps self.new < run_turns_left steps self.old }
         ensures taken { result ≡ ReplayTurn.More → self.new.taken ≡ self.old.taken + 1 }
-        ensures says_or_stores { result ≡ ReplayTurn.More → SaysOrStores line.old disk.old line.new disk.new }
+        ensures says_or_stores { SaysOrStores line.old disk.old line.new disk.new }
         ensures not_ended { result ≢ ReplayTurn.Ended }
         ensures write_fault { Cause (T.telling.faults teller.old) (T.telling.faults teller.new)
             (result ≡ ReplayTurn.WriteFault) }
@@ -207,6 +211,7 @@ impl ReplayRun {
             → RunTurnsTo T.telling result c self.old.settings items line disk.new self.new teller.old teller.new }
         ensures others { self.new ≡ record self.old { run = self.new.run; turns = self.new.turns } }
         ensures turns { result ≡ ReplayTurn.More → self.new.turns ≡ self.old.turns + 1 }
+        ensures not_counted { result ≢ ReplayTurn.More → self.new.turns ≡ self.old.turns }
         ensures is_open { result ≡ ReplayTurn.More → is_some self.new.run.session ≡ true }
         ensures not_ended { result ≢ ReplayTurn.Ended }
         ensures write_fault { Cause (T.telling.faults teller.old) (T.telling.faults teller.new)
@@ -240,11 +245,14 @@ impl ReplayRun {
             → RunTurnsTo T.telling result c self.old.settings items line.new disk.new self.new teller.old teller.new }
         ensures settings { self.new.settings ≡ self.old.settings }
         ensures turns { result ≡ ReplayTurn.More → self.new.turns ≡ self.old.turns + 1 }
+        ensures not_counted { result ≢ ReplayTurn.More → self.new.turns ≡ self.old.turns }
         ensures left { result ≡ ReplayTurn.More → (steps : List code_step.Step)
             → IsNextRound steps self.old.taken fates.now stop
             → run_turns_left steps self.new < run_turns_left steps self.old }
         ensures one_turn { result ≡ ReplayTurn.More → IsOneTurn self.old self.new }
         ensures says_or_stores { result ≡ ReplayTurn.More → SaysOrStores line.old disk.old line.new disk.new }
+        ensures unseen_says_or_stores { result ≡ ReplayTurn.Unseen
+            → SaysOrStores line.old disk.old line.new disk.new }
         ensures one_call { result ≡ ReplayTurn.More → is_some self.new.playing ≡ true
             → MakesOneCall line.old disk.old line.new disk.new }
         ensures not_ended { result ≢ ReplayTurn.Ended }
@@ -280,10 +288,13 @@ impl ReplayRun {
             → RunTurnsTo T.telling result c self.old.settings items line.new disk.new self.new teller.old teller.new }
         ensures settings { self.new.settings ≡ self.old.settings }
         ensures turns { result ≡ ReplayTurn.More → self.new.turns ≡ self.old.turns + 1 }
+        ensures not_counted { result ≢ ReplayTurn.More → self.new.turns ≡ self.old.turns }
         ensures left { result ≡ ReplayTurn.More → (steps : List code_step.Step)
             → run_turns_left steps self.new < run_turns_left steps self.old }
         ensures one_turn { result ≡ ReplayTurn.More → IsOneTurn self.old self.new }
         ensures says_or_stores { result ≡ ReplayTurn.More → SaysOrStores line.old disk.old line.new disk.new }
+        ensures unseen_says_or_stores { result ≡ ReplayTurn.Unseen
+            → SaysOrStores line.old disk.old line.new disk.new }
         ensures one_call { result ≡ ReplayTurn.More → is_some self.new.playing ≡ true
             → MakesOneCall line.old disk.old line.new disk.new }
         ensures not_ended { result ≢ ReplayTurn.Ended }
@@ -327,6 +338,7 @@ impl ReplayRun {
             → RunTurnsTo T.telling result c self.old.settings items line disk.new self.new teller.old teller.new }
         ensures others { self.new ≡ record self.old { run = self.new.run; turns = self.new.turns } }
         ensures turns { result ≡ ReplayTurn.More → self.new.turns ≡ self.old.turns + 1 }
+        ensures not_counted { result ≢ ReplayTurn.More → self.new.turns ≡ self.old.turns }
         ensures left { result ≡ ReplayTurn.More → (steps : List code_step.Step)
             → run_turns_left steps self.new < run_turns_left steps self.old }
         ensures one_turn { result ≡ ReplayTurn.More → IsOneTurn self.old self.new }

@@ -2,8 +2,8 @@ ghost use Rattle.std.specs.Prelude.{◌≡◌, ◌≢◌, ◌<◌, List, Err, fa
 ghost use Rattle.causes.specs.Cause.{Cause};
 ghost use Rattle.station_base.specs.declared.row.Row.{Row};
 ghost use Rattle.settings_file.specs.StationSettings.{StationSettings};
-ghost use Rattle.station_replay.specs.Replay.{Item, Rounded, is_stop};
-ghost use Rattle.station_replay.specs.Texts.{day_lines_text, rows_text, item_text};
+ghost use Rattle.replay_laws.specs.Replay.{Item, Rounded, is_stop};
+ghost use Rattle.replay_laws.specs.Texts.{day_lines_text, rows_text, item_text};
 ghost use Rattle.round_play.specs.Resting.{SessionGoesOn};
 ghost use Rattle.schedule_replay.specs.RoundLine.{RoundLineTells, ending_of};
 ghost use Rattle.schedule_replay.specs.Writing.{IsOnlyRead, IsReadable, WritesText};
@@ -18,7 +18,7 @@ use station_sim::Unseen;
 use weather_reports::{ReportEnd, all_days, rows_from};
 
 /// Writes `open rows N`, and the lines of the rows that were not written before.
-#[tactic(auto, unfolding(station_replay::specs::Texts::item_text))]
+#[tactic(auto, unfolding(replay_laws::specs::Texts::item_text))]
 pub fn write_opening<K: Sink>(
     session: &Session,
     disk: &mut Stopping<MemDisk>,
@@ -37,7 +37,7 @@ pub fn write_opening<K: Sink>(
 }
 
 /// Writes `open stop K`, of an opening within whose change K the disk stopped.
-#[tactic(auto, unfolding(station_replay::specs::Texts::item_text))]
+#[tactic(auto, unfolding(replay_laws::specs::Texts::item_text))]
 pub fn write_stopped_opening<K: Sink>(out: &mut K, change: u64) -> Result<(), Cut>
     ensures text { (rows : List Row) → WritesText K.outlet out.old out.new
         (item_text (Item.OpenStopped change rows)) result }
@@ -49,7 +49,7 @@ pub fn write_stopped_opening<K: Sink>(out: &mut K, change: u64) -> Result<(), Cu
 
 /// Writes the line of a round, and the lines of the rows that were not written before. A round that was stopped has
 /// its line alone.
-#[tactic(auto, unfolding(station_replay::specs::Texts::item_text))]
+#[tactic(auto, unfolding(replay_laws::specs::Texts::item_text))]
 pub fn write_round<K: Sink>(
     session: &Session,
     disk: &mut Stopping<MemDisk>,
@@ -74,7 +74,7 @@ pub fn write_round<K: Sink>(
 }
 
 /// Writes `unseen round R host D`, or `reply D`.
-#[tactic(auto, unfolding(station_replay::specs::Texts::item_text))]
+#[tactic(auto, unfolding(replay_laws::specs::Texts::item_text))]
 pub fn write_unseen<K: Sink>(out: &mut K, number: u32, which: Unseen) -> Result<(), Cut>
     ensures text { WritesText K.outlet out.old out.new
         (item_text (Item.Unsaid number which)) result }
@@ -85,7 +85,7 @@ pub fn write_unseen<K: Sink>(out: &mut K, number: u32, which: Unseen) -> Result<
 }
 
 /// Writes the lines of all days, and then `end rows N days D`.
-#[tactic(auto, unfolding(station_replay::specs::Texts::item_text))]
+#[tactic(auto, unfolding(replay_laws::specs::Texts::item_text))]
 pub fn write_end<K: Sink>(
     session: &Session,
     disk: &mut Stopping<MemDisk>,

@@ -18,8 +18,8 @@ use Rattle.schedule_file.specs.Steps.{records_in_steps, mid_seen, steps_seen}
 use Rattle.station_sim.specs.Sound.{AreRecords}
 use Rattle.station_sim.proofs.Falls.{fates_sound, left_records}
 use Rattle.schedule_file.proofs.Limits.{few_records}
-use Rattle.station_replay.specs.Room.{lines}
-use Rattle.station_replay.specs.Schedule.{AreSteps, IsSchedule, records}
+use Rattle.replay_laws.specs.Room.{lines}
+use Rattle.replay_laws.specs.Schedule.{AreSteps, IsSchedule, records}
 use Rattle.line_laws.proofs.FallsInOrder.{fates_fall}
 use Rattle.schedule_steps.specs.Accepted.{AreAccepted, HasRecord, IsInRange, ScheduleIsAccepted}
 use Rattle.schedule_steps.specs.Runs.{run_records}

@@ -14,12 +14,12 @@ use Rattle.schedule_file.specs.declared.schedule.form.Told.{Told}
 use Rattle.schedule_file.specs.declared.schedule.step.Stop as code
 use Rattle.schedule_file.specs.declared.schedule.turn.Turn.{Turn}
 use Rattle.schedule_file.specs.declared.schedule.turn.Turn.TheVariants.{Neither, Opening, InRound}
-use Rattle.schedule_file.specs.Kinds.{Kind, kind_if, kinds, first_applying, told_kinds, count_kinds, is_no_stamp, is_not_later, has_no_record, is_in_round, is_due, is_below_last}
+use Rattle.schedule_file.specs.Kinds.{FaultKind, kind_if, kinds, first_applying, told_kinds, count_kinds, is_no_stamp, is_not_later, has_no_record, is_in_round, is_due, is_below_last}
 use Rattle.schedule_file.specs.Reading.{said_with_form}
 use Rattle.schedule_file.specs.Steps.{MidRecord, Details, ScheduleStep, Said, nothing_said, no_details, turn_steps, steps_said, read_at, record_told, last_minute_of}
 use Rattle.schedule_file.specs.Steps.ScheduleStep.{DueStep, RunStep, IdleStep, OpenStep, RoundStep}
 use Rattle.schedule_file.proofs.Limits.{first_fails, rest_fails}
-use Rattle.station_replay.specs.Stopped.{IsStop}
+use Rattle.replay_laws.specs.Stopped.{IsStop}
 use Rattle.schedule_steps.proofs.ReadForms.{CountsFromOne}
 use Rattle.schedule_file.specs.Limits.{most_records, most_turns, most_mids}
 
@@ -175,7 +175,7 @@ read_by period a count (Some stamp) (Some values) stamped later known =
       last = refl;
     }
 
-is_told : (period : ℕ) (s : Said) (told : Told) (count : ℕ) (more : List Kind) → first_applying (told_kinds period s told count ++ more) ≡ None
+is_told : (period : ℕ) (s : Said) (told : Told) (count : ℕ) (more : List FaultKind) → first_applying (told_kinds period s told count ++ more) ≡ None
     → RunFalls period s.newest (record_told period told) count (last_minute_of period told.stamp count) × (first_applying more ≡ None)
 is_told period s told count more none =
     let no_stamp = is_no_stamp period told.stamp count in
@@ -309,7 +309,7 @@ falling_after period s (Reply number fate) counts f none = with_details period s
 falling_after period s (Late number waits place) counts f none = with_details period s _ refl f
 falling_after period s (Mid number told) counts f none =
     let misplaced : Bool = not (is_in_round s.turn) || list_any is_due s.since in
-    let behind : List Kind = kind_if 10 (nat_lt most_records (s.records + 1)) ∷ kind_if 13 (is_below_last s.details.mids number) ∷ kind_if 14 (nat_le most_mids (length s.details.mids)) ∷ [] in
+    let behind : List FaultKind = kind_if 10 (nat_lt most_records (s.records + 1)) ∷ kind_if 13 (is_below_last s.details.mids number) ∷ kind_if 14 (nat_le most_mids (length s.details.mids)) ∷ [] in
     let is = is_told period s told 1 (kind_if 8 misplaced ∷ behind) none in
     let placed = in_round (is_in_round s.turn) (list_any is_due s.since) (first_fails misplaced 8 (first_applying behind) is.1) in
     let x : MidRecord = record { number = number; record_read = record_told period told } in

@@ -1,4 +1,4 @@
--- The records of a run.
+-- The records of a `run` step.
 use Rattle.std.specs.Prelude.{◌≡◌, ℕ, zero, suc, ◌+◌, ◌-◌, ◌*◌, ◌≤◌, List, [], ◌∷◌}
 use Rattle.std.specs.Option.{IsSomeAnd, unwrap_or}
 use Rattle.station_base.specs.CivilMinute.{minute_of, last_minute}
@@ -7,7 +7,7 @@ use Rattle.archive_record.specs.declared.record_read.RecordRead.TheVariants.{Row
 use Rattle.archive_record.specs.MovedOn.{moved_on}
 use Rattle.archive_record.specs.Reading.{reading, stamp_in}
 
--- the next record of a run: this one with its stamp moved on by a period, or where it cannot be, as it is
+-- the next record of a `run` step: this one with its stamp moved on by a period, or where it cannot be, as it is
 abbrev pub next_record : ℕ → List ℕ → List ℕ
 next_record period rec = unwrap_or (moved_on period rec) rec
 
@@ -21,8 +21,8 @@ abbrev pub IsRun : ℕ → List ℕ → ℕ → Type 0
 IsRun period first count =
     IsSomeAnd (stamp_in first) (λ stamp. minute_of stamp + (count - 1) * period ≤ minute_of last_minute)
 
--- The bytes read as the row of the record at this place of a run: its stamp comes so many periods after the first one,
--- and the rest is the same.
+-- The bytes read as the row of the record at this place of a `run` step. Its stamp comes so many periods after the
+-- first one, and the rest is the same.
 pub record ReadsLater (period place : ℕ) (first : Row) (rec : List ℕ) : Type 0 where
   pub row : Row
   pub read : reading rec period ≡ ReadRow row

@@ -5,7 +5,7 @@ use Rattle.schedule_file.specs.declared.schedule.step.Step.TheVariants as code
 use Rattle.station_sim.specs.Line.{Line, waited}
 use Rattle.schedule_file.specs.Lists.{fates_of, records_left_in}
 use Rattle.station_sim.specs.Talk.{idles}
-use Rattle.station_replay.specs.Schedule.{ReplayStep}
+use Rattle.replay_laws.specs.Schedule.{ReplayStep}
 use Rattle.schedule_file.specs.Lists.{no_fates}
 use Rattle.schedule_steps.specs.Runs.{run_records}
 

@@ -2,7 +2,7 @@ use Rattle.std.proofs.Common.{ℕ, inl, inr, sym, ap, subst, ◌∙◌}
 use Rattle.std.specs.List.{AllByRecursion}
 use Rattle.eeprom_map.specs.Memory.{new_memory}
 use Rattle.schedule_file.specs.Steps.{steps_seen}
-use Rattle.station_replay.specs.Replay.{start}
+use Rattle.replay_laws.specs.Replay.{start}
 use Rattle.schedule_steps.specs.Accepted.{HasRecord}
 use Rattle.schedule_replay.specs.Replayed.{IsNewDisk}
 use Rattle.schedule_replay.specs.Standing.{LineAt}

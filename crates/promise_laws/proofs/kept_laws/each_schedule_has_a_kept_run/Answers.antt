@@ -1,5 +1,5 @@
-use Rattle.schedule_runs.proofs.SomeRun.{run_law}
-use Rattle.station_replay.proofs.WholeRun.{schedules_law}
+use Rattle.some_run_laws.proofs.SomeRun.{run_law}
+use Rattle.replay_laws.proofs.WholeRun.{schedules_law}
 use Rattle.promise_laws.proofs.kept_laws.each_schedule_has_a_kept_run.Goals as goal
 
 pub returns : goal.returns

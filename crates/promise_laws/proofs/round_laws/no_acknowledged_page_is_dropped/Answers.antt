@@ -1,13 +1,13 @@
 use Rattle.std.proofs.Common.{ap, subst, ◌∙◌, ◌∷◌, ◌++◌}
-use Rattle.station_replay.specs.Acknowledged.{AllRounds, KeepsAcknowledged}
-use Rattle.station_replay.specs.Replay.{Item}
-use Rattle.station_replay.proofs.Acknowledged.{round_keeps}
-use Rattle.station_replay.proofs.EachRound.{in_replay}
+use Rattle.replay_laws.specs.Acknowledged.{AllRounds, KeepsAcknowledged}
+use Rattle.replay_laws.specs.Replay.{Item}
+use Rattle.replay_laws.proofs.Acknowledged.{round_keeps}
+use Rattle.replay_laws.proofs.EachRound.{in_replay}
 use Rattle.promise_laws.proofs.Found.{refused}
 use Rattle.promise_laws.proofs.RefusedRounds.{round_refused, round_at, none_dropped, none_said}
 use Rattle.promise_laws.specs.Places.{past_behind}
 use Rattle.promise_laws.specs.Rounds.{SomeRound, DropsAcknowledgedPages}
-use Rattle.station_replay.specs.Kept.{no_past}
+use Rattle.replay_laws.specs.Kept.{no_past}
 use Rattle.promise_laws.proofs.round_laws.no_acknowledged_page_is_dropped.Goals as goal
 
 pub returns-clause-counted : goal.returns-clause-counted

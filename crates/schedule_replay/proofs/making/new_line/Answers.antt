@@ -1,5 +1,5 @@
 use Rattle.std.proofs.Common.{ℕ, List, subst, IfOk}
-use Rattle.station_replay.specs.Replay.{start}
+use Rattle.replay_laws.specs.Replay.{start}
 use Rattle.schedule_replay.specs.Standing.{LineAt}
 use Rattle.schedule_replay.proofs.NewLine.{begins_line}
 use Rattle.schedule_replay.proofs.making.new_line.Goals as goal

@@ -1,6 +1,6 @@
 use Rattle.std.proofs.Common.{List, false, true, subst}
-use Rattle.station_replay.specs.Replay.{start}
-use Rattle.station_replay.specs.Schedule.{ReplayStep}
+use Rattle.replay_laws.specs.Replay.{start}
+use Rattle.replay_laws.specs.Schedule.{ReplayStep}
 use Rattle.schedule_replay.specs.Replayed.{ReplayIsCutOff, IsReplayed, TookPart}
 use Rattle.schedule_replay.proofs.Sinks.{front_written, part_written, run_written, steps_are}
 use Rattle.schedule_replay.proofs.replaying.replay.Goals as goal

@@ -1,6 +1,6 @@
 use Rattle.std.proofs.Common.{◌++◌, [], inl, inr, refl, subst, ◌∙◌, rules}
 use Rattle.settings_file.specs.StationSettings.{StationSettings}
-use Rattle.station_replay.specs.Replay.{start}
+use Rattle.replay_laws.specs.Replay.{start}
 use Rattle.schedule_steps.specs.Steps.{steps_for}
 use Rattle.schedule_replay.specs.Turns.{BreaksRun, CutsRun, EndsRun}
 use Rattle.schedule_replay.proofs.Turned.{broken_told, front_told, part_taken, run_told}

@@ -1,6 +1,6 @@
 use Rattle.std.proofs.Common.{◌≡◌, ℕ, List}
 use Rattle.loop_packet.specs.declared.packet.LoopPacket.{LoopPacket}
-use Rattle.station_replay.specs.Replay.{Item, start}
+use Rattle.replay_laws.specs.Replay.{Item, start}
 use Rattle.schedule_replay.specs.Replaying.{Replaying, run_turns_left}
 use Rattle.schedule_replay.specs.Standing.{LineAt}
 use Rattle.schedule_replay.proofs.replaying.replay_steps.Given as goal

@@ -2,7 +2,7 @@ use Rattle.std.proofs.Common.{◌≡◌, ℕ, List, Err, length, sym, ap, subst,
 use Rattle.weather_book.specs.Book.{BookStandsFor}
 use Rattle.packed_rows.specs.Days.{days_of}
 use Rattle.weather_book.specs.declared.book.Book.{Book}
-use Rattle.station_replay.specs.Texts.{day_lines_text, end_line, item_text}
+use Rattle.replay_laws.specs.Texts.{day_lines_text, end_line, item_text}
 use Rattle.schedule_replay.specs.Writing.{WritesText}
 use Rattle.schedule_replay.proofs.Parts.{writes_first, writes_second}
 use Rattle.schedule_replay.proofs.writing.write_end.Goals as goal

@@ -1,7 +1,7 @@
 use Rattle.std.proofs.Common.{◌≡◌, ℕ, List, Err, length, sym, ap, subst, ◌∙◌, rules}
 use Rattle.weather_book.specs.Book.{BookStandsFor}
 use Rattle.weather_book.specs.declared.book.Book.{Book}
-use Rattle.station_replay.specs.Texts.{open_line, rows_text, item_text}
+use Rattle.replay_laws.specs.Texts.{open_line, rows_text, item_text}
 use Rattle.schedule_replay.specs.Writing.{IsWritten, WritesText}
 use Rattle.schedule_replay.proofs.Parts.{writes_first, writes_second}
 use Rattle.schedule_replay.proofs.writing.write_opening.Goals as goal

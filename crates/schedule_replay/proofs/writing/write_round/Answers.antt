@@ -1,6 +1,6 @@
 use Rattle.std.proofs.Common.{◌≡◌, ℕ, List, Err, false, sym, ap, subst, ◌∙◌, rules}
-use Rattle.station_replay.specs.Texts.{round_line, rows_text_behind, rows_text, item_text}
-use Rattle.station_replay.specs.Replay.{is_stop}
+use Rattle.replay_laws.specs.Texts.{round_line, rows_text_behind, rows_text, item_text}
+use Rattle.replay_laws.specs.Replay.{is_stop}
 use Rattle.schedule_replay.specs.Writing.{IsWritten, WritesText}
 use Rattle.schedule_replay.proofs.Parts.{writes_first, writes_second}
 use Rattle.schedule_replay.proofs.Told.{told_line, not_stopped, rows_are_behind}

@@ -1,32 +1,25 @@
-use Rattle.weather_reports.specs.Report.{later_lines}
 use Rattle.schedule_replay.proofs.Parts.{report_done, report_failed}
 use Rattle.schedule_replay.proofs.ReadsAtRest.{report_reads, rows_readable}
 use Rattle.schedule_replay.proofs.writing.write_rows.Goals as goal
 
 pub returns-in-Done-clause-disk : goal.returns-in-Done-clause-disk
 returns-in-Done-clause-disk g c =
-    (report_reads c.args.disk.now c.rows_from.new.disk c.args.session.now c.book.result.now c.rows_from.result c.requires c.book.ensures c.rows_from.ensures.stays c.rows_from.ensures.went).0
+    (report_reads c.args.session.now c.book.result.now c.rows_from.result c.requires c.book.ensures c.rows_from.ensures.by_reads).0
 
 pub returns-in-WriteFault-clause-disk : goal.returns-in-WriteFault-clause-disk
 returns-in-WriteFault-clause-disk g c =
-    (report_reads c.args.disk.now c.rows_from.new.disk c.args.session.now c.book.result.now c.rows_from.result c.requires c.book.ensures c.rows_from.ensures.stays c.rows_from.ensures.went).0
+    (report_reads c.args.session.now c.book.result.now c.rows_from.result c.requires c.book.ensures c.rows_from.ensures.by_reads).0
 
 pub unreachable-requires : goal.unreachable-requires
 unreachable-requires g c =
-    (report_reads c.args.disk.now c.rows_from.new.disk c.args.session.now c.book.result.now c.rows_from.result c.requires c.book.ensures c.rows_from.ensures.stays c.rows_from.ensures.went).1 c.in-DiskFault.is
+    (report_reads c.args.session.now c.book.result.now c.rows_from.result c.requires c.book.ensures c.rows_from.ensures.by_reads).1 c.in-DiskFault.is
 
 pub returns-in-Done-clause-text : goal.returns-in-Done-clause-text
 returns-in-Done-clause-text g c settings rows goes =
-    let stands = rows_readable c.args.disk.now c.args.session.now c.book.result.now settings rows c.book.ensures goes in
-    let wrote = c.in-Done.ensures.wrote in
-    report_done g.K.Sink.outlet c.args.out.now c.rows_from.new.out (later_lines c.args.from rows) wrote.0
-    (c.in-Done.ensures.lines rows stands c.requires.rests.image c.requires.rests.seen) wrote.1
-    (wrote.2 rows stands c.requires.rests.image c.requires.rests.seen)
+    report_done rows (rows_readable c.args.disk.now c.args.session.now c.book.result.now settings rows c.book.ensures goes)
+    c.requires.rests.image c.requires.rests.seen c.in-Done.ensures
 
 pub returns-in-WriteFault-clause-text : goal.returns-in-WriteFault-clause-text
 returns-in-WriteFault-clause-text g c settings rows goes =
-    let stands = rows_readable c.args.disk.now c.args.session.now c.book.result.now settings rows c.book.ensures goes in
-    let wrote = c.in-WriteFault.ensures.wrote in
-    report_failed g.K.Sink.outlet c.args.out.now c.rows_from.new.out (later_lines c.args.from rows) wrote.0
-    (c.in-WriteFault.ensures.lines rows stands c.requires.rests.image c.requires.rests.seen) wrote.1
-    (wrote.2 rows stands c.requires.rests.image c.requires.rests.seen)
+    report_failed rows (rows_readable c.args.disk.now c.args.session.now c.book.result.now settings rows c.book.ensures goes)
+    c.requires.rests.image c.requires.rests.seen c.in-WriteFault.ensures

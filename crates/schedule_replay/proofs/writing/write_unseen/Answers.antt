@@ -1,5 +1,5 @@
 use Rattle.std.proofs.Common.{◌≡◌, ℕ, List, subst, ◌∙◌}
-use Rattle.station_replay.specs.Texts.{item_text, unseen_line}
+use Rattle.replay_laws.specs.Texts.{item_text, unseen_line}
 use Rattle.schedule_replay.specs.Writing.{WritesText}
 use Rattle.schedule_replay.proofs.writing.write_unseen.Goals as goal
 

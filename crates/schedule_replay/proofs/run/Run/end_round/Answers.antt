@@ -1,5 +1,5 @@
 use Rattle.std.proofs.Common.{◌≡◌, ◌+◌, ℕ, List, None, Err, sym, ap, ◌∙◌, arith, rules}
-use Rattle.station_replay.specs.Replay.{Item, Stage, opened}
+use Rattle.replay_laws.specs.Replay.{Item, Stage, opened}
 use Rattle.station_session.specs.Round.{round_host}
 use Rattle.schedule_file.specs.Lists.{fates_of, records_left_in}
 use Rattle.schedule_replay.proofs.Ahead.{broken_opened, none_first, played_opened, with_limits}

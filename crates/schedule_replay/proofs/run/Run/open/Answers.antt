@@ -1,5 +1,5 @@
 use Rattle.std.proofs.Common.{◌≡◌, ◌+◌, ℕ, None, Err, [], ◌∷◌, ap, subst, ◌∙◌, rules}
-use Rattle.station_replay.specs.Replay.{Item, cut_short, opening, recovered}
+use Rattle.replay_laws.specs.Replay.{Item, cut_short, opening, recovered}
 use Rattle.schedule_replay.specs.declared.run.Run.{Run}
 use Rattle.schedule_replay.specs.Telling.{TellsAll}
 use Rattle.schedule_replay.proofs.RunLaws.{closed_stage, does_open, does_plainly, does_stop, holds_closed, on_err, on_ok, open_cut, opens_none, opens_some, told_all, told_front, told_less}

@@ -1,5 +1,5 @@
 use Rattle.std.proofs.Common.{◌≡◌, ℕ, Err, None, [], ◌∷◌, ap, subst, ◌∙◌, rules}
-use Rattle.station_replay.specs.Replay.{Item}
+use Rattle.replay_laws.specs.Replay.{Item}
 use Rattle.schedule_replay.specs.declared.run.Run.{Run}
 use Rattle.schedule_replay.specs.Telling.{TellsAll}
 use Rattle.schedule_replay.proofs.RunLaws.{closed_by, may_tell, opens_front, opens_told, readies_closed, told_front}

@@ -1,7 +1,7 @@
 use Rattle.std.proofs.Common.{◌≡◌, ◌+◌, ℕ, false, sym, subst, arith, rules}
 use Rattle.schedule_file.specs.declared.schedule.step.Step as code_step
 use Rattle.station_sim.specs.Standing.{SimStandsFor}
-use Rattle.station_replay.specs.Room.{step_lines}
+use Rattle.replay_laws.specs.Room.{step_lines}
 use Rattle.schedule_replay.specs.Running.{After, StepIsCut}
 use Rattle.schedule_steps.specs.Steps.{passed, step_of}
 use Rattle.schedule_replay.specs.Standing.{HasSaid, HoldsAt, IsNoRound, LineAt}

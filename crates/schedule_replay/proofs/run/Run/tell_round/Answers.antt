@@ -2,7 +2,7 @@ use Rattle.std.proofs.Common.{◌≡◌, Err, List, false, length, refl, sym, ap
 use Rattle.weather_book.specs.declared.book.Book.{Book}
 use Rattle.weather_book.specs.Book.{BookStandsFor}
 use Rattle.disk_model.specs.StoppingState.{StoppingState}
-use Rattle.station_replay.specs.Replay.{Item, is_stop}
+use Rattle.replay_laws.specs.Replay.{Item, is_stop}
 use Rattle.schedule_replay.specs.Telling.{Telling, TellsAll}
 use Rattle.schedule_replay.specs.declared.cut.Cut.{Cut}
 use Rattle.schedule_replay.specs.declared.cut.Cut.TheVariants.{WriteFault, OutOfMemory}

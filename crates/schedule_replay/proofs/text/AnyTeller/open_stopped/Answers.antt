@@ -1,4 +1,4 @@
-use Rattle.station_replay.specs.Replay.{Item}
+use Rattle.replay_laws.specs.Replay.{Item}
 use Rattle.schedule_replay.proofs.Sinks.{told_one}
 use Rattle.schedule_replay.proofs.text.AnyTeller.open_stopped.Goals as goal
 

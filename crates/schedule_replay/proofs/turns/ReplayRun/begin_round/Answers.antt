@@ -1,7 +1,7 @@
 use Rattle.std.proofs.Common.{◌≡◌, List, None, Some, inl, refl, length, sym, subst, ap, ◌∙◌, arith, rules}
 use Rattle.std.specs.Prelude.{is_some}
-use Rattle.station_replay.specs.Replay.{Item, start}
-use Rattle.station_replay.specs.Schedule.{records}
+use Rattle.replay_laws.specs.Replay.{Item, start}
+use Rattle.replay_laws.specs.Schedule.{records}
 use Rattle.schedule_file.specs.declared.schedule.step.Step.TheVariants as code
 use Rattle.schedule_replay.specs.Standing.{round_step}
 use Rattle.schedule_steps.specs.Steps.{steps_for}
@@ -113,3 +113,10 @@ returns-in_default-clause-says_or_stores g c more = inl refl
 pub returns-in-Ok-clause-says_or_stores : goal.returns-in-Ok-clause-says_or_stores
 returns-in-Ok-clause-says_or_stores g c more =
     still_then c.args.line.now c.begin_play.new.line c.play_on.new.line c.args.disk.now c.begin_play.new.disk c.play_on.new.disk c.in-Ok.ensures.still (c.play_on.ensures.says_or_stores more)
+
+pub returns-in_default-clause-unseen_says_or_stores : goal.returns-in_default-clause-unseen_says_or_stores
+returns-in_default-clause-unseen_says_or_stores g c unseen = inl refl
+
+pub returns-in-Ok-clause-unseen_says_or_stores : goal.returns-in-Ok-clause-unseen_says_or_stores
+returns-in-Ok-clause-unseen_says_or_stores g c unseen =
+    still_then c.args.line.now c.begin_play.new.line c.play_on.new.line c.args.disk.now c.begin_play.new.disk c.play_on.new.disk c.in-Ok.ensures.still (c.play_on.ensures.unseen_says_or_stores unseen)

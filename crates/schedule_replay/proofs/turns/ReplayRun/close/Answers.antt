@@ -1,6 +1,6 @@
 use Rattle.std.proofs.Common.{◌≡◌, ◌+◌, ◌++◌, List, None, Some, sym, subst, rules}
-use Rattle.station_replay.specs.Replay.{Item, opening_if_closed, start}
-use Rattle.station_replay.specs.Schedule.{IsSchedule, ReplayStep}
+use Rattle.replay_laws.specs.Replay.{Item, opening_if_closed, start}
+use Rattle.replay_laws.specs.Schedule.{IsSchedule, ReplayStep}
 use Rattle.schedule_steps.specs.Steps.{steps_for}
 use Rattle.schedule_replay.specs.Turns.{CutsRun, EndsRun}
 use Rattle.schedule_replay.proofs.StepsSoFar.{all_done, end_cut, steps_all}

@@ -1,8 +1,8 @@
 use Rattle.std.proofs.Common.{◌≡◌, ◌+◌, ◌++◌, [], true, false, Bool, List, None, Some, Option, inl, length, sym, subst, ap, ◌∙◌, append-nil, arith, rules}
 use Rattle.std.specs.Prelude.{is_some}
 use Rattle.std.proofs.lemmas.Option.{same_Some}
-use Rattle.station_replay.specs.Replay.{Item, Stage, opening_if_closed, opened, start}
-use Rattle.station_replay.specs.Schedule.{records}
+use Rattle.replay_laws.specs.Replay.{Item, Stage, opening_if_closed, opened, start}
+use Rattle.replay_laws.specs.Schedule.{records}
 use Rattle.schedule_file.specs.declared.schedule.step.Stop.{Stop}
 use Rattle.round_play.specs.declared.playing.Playing.{Playing}
 use Rattle.round_play.specs.Opening.{stopping_limits}
@@ -155,6 +155,10 @@ returns-in-More-clause-says_or_stores g c more = c.turn.ensures.says_or_stores
 pub returns-in-Ok-false-clause-says_or_stores : goal.returns-in-Ok-false-clause-says_or_stores
 returns-in-Ok-false-clause-says_or_stores g c more =
     then_still c.args.line.now c.turn.new.line c.end_round.new.line c.args.disk.now c.turn.new.disk c.end_round.new.disk c.turn.ensures.says_or_stores c.in-Ok-false.ensures.is_still
+
+pub returns-in-Ok-true-clause-unseen_says_or_stores : goal.returns-in-Ok-true-clause-unseen_says_or_stores
+returns-in-Ok-true-clause-unseen_says_or_stores g c unseen =
+    then_still c.args.line.now c.turn.new.line c.end_round.new.line c.args.disk.now c.turn.new.disk c.end_round.new.disk c.turn.ensures.says_or_stores c.in-Ok-true.ensures.is_still
 
 pub returns-in-Err-clause-still : goal.returns-in-Err-clause-still
 returns-in-Err-clause-still g c other =

@@ -1,5 +1,5 @@
 use Rattle.std.proofs.Common.{◌+◌, ◌++◌, None, Option, inr, refl, sym, subst, ap, ◌∙◌, arith}
-use Rattle.station_replay.specs.Replay.{opening_if_closed}
+use Rattle.replay_laws.specs.Replay.{opening_if_closed}
 use Rattle.round_play.specs.declared.playing.Playing.{Playing}
 use Rattle.schedule_replay.specs.Left.{left_to_open}
 use Rattle.schedule_replay.specs.Replaying.{StandsAt}

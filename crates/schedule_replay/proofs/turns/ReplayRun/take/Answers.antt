@@ -1,5 +1,5 @@
 use Rattle.std.proofs.Common.{◌+◌, ◌++◌, None, Option, inl, length, sym, subst, arith}
-use Rattle.station_replay.specs.Schedule.{records}
+use Rattle.replay_laws.specs.Schedule.{records}
 use Rattle.round_play.specs.declared.playing.Playing.{Playing}
 use Rattle.schedule_steps.specs.Accepted.{IsInRange}
 use Rattle.schedule_replay.specs.Replaying.{StandsAt}
@@ -55,4 +55,7 @@ returns-in-Err-clause-turns_to g c k items p n =
     g.T.Teller.telling x c.args.teller.now c.take.new.teller n (c.in-Err.ensures.err (length (records (steps_for s.period k.steps))) so.openings so.stage so.holds so.at there))
 
 pub returns-in-Ok-clause-says_or_stores : goal.returns-in-Ok-clause-says_or_stores
-returns-in-Ok-clause-says_or_stores g c more = inl c.take.ensures.talk
+returns-in-Ok-clause-says_or_stores g c = inl c.take.ensures.talk
+
+pub returns-in-Err-clause-says_or_stores : goal.returns-in-Err-clause-says_or_stores
+returns-in-Err-clause-says_or_stores g c = inl c.take.ensures.talk
