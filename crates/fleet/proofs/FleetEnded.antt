@@ -11,23 +11,25 @@ use Rattle.fleet.specs.FleetEnds.{FleetEndsAs, RunsFleet}
 use Rattle.fleet.specs.Log.{Along, AreDrawn}
 use Rattle.fleet.specs.MemberTurns.{Turning}
 use Rattle.fleet.specs.OpenStations.{chosen, least_unseen, open_from}
+use Rattle.fleet.specs.StationLines.{AreUncutBeforeLast}
 use Rattle.fleet.specs.TurnText.{TurnEntry}
-use Rattle.fleet.proofs.LogSteps.{SoFar, all_ended, along_more, drawn_more, drawn_next}
+use Rattle.fleet.proofs.LogSteps.{SoFar, all_ended, along_more, drawn_more, drawn_next, uncut_ahead, uncut_before}
 use Rattle.fleet.proofs.LogText.{text_along, wrote_along}
 
 module _ {M K : Type 0} (turning : Turning M) (outlet : Outlet K) (seed : ℕ) (old : Crew M) (before : K) where
   -- turns that were drawn, with their end
   ran : (log : List (TurnEntry K)) (end : FleetEnd) (new : Crew M) (after : K) → Along turning outlet old before log new after
-      → AreDrawn seed old.last log → FleetEndsAs end log new.last
+      → AreDrawn seed old.last log → AreUncutBeforeLast log → FleetEndsAs end log new.last
       → Cause (outlet.faults before) (outlet.faults after) (end ≡ fleet.WriteFault)
       → (end ≢ fleet.WriteFault → outlet.faults after ≡ outlet.faults before)
       → RunsFleet turning outlet seed old before end new after
-  ran log end new after along drawn ends cause still =
+  ran log end new after along drawn uncut ends cause still =
       let text = text_along turning outlet old new before after log along in
       record {
         log = log;
         turns = along;
         drawn = drawn;
+        uncut = uncut;
         text = text.0;
         texts = text.1;
         wrote = wrote_along turning outlet old new before after log text.0 along text.1;
@@ -48,7 +50,7 @@ module _ {M K : Type 0} (turning : Turning M) (outlet : Outlet K) (seed : ℕ) (
         (along_more turning outlet old now new before out so.log e so.along one from)
         (drawn_more seed old.last so.log e so.drawn
         (drawn_next turning outlet seed old before number turns switches station now out e.station so at))
-        ends cause still
+        (uncut_ahead so.log e so.whole) ends cause still
 
     pub cut_by_fault : (e : TurnEntry K) (new : Crew M) → OneTurn turning outlet now e new → e.before ≡ out
         → e.station ≡ chosen (next_draw number) (open_from 1 now.last) → e.answer ≡ WriteFault
@@ -78,7 +80,7 @@ module _ {M K : Type 0} (turning : Turning M) (outlet : Outlet K) (seed : ℕ) (
     -- no turn is left
     whole : (end : FleetEnd) → end ≢ fleet.WriteFault → FleetEndsAs end so.log now.last
         → RunsFleet turning outlet seed old before end now out
-    whole end fits ends = ran so.log end now out so.along so.drawn ends
+    whole end fits ends = ran so.log end now out so.along so.drawn (uncut_before so.log so.whole) ends
         (record { never_falls = omega (arith, so.faults); rose = λ w. absurd (fits w) }) (λ _. so.faults)
 
     pub all_done : open_from 1 now.last ≡ [] → least_unseen 1 now.last ≡ None

@@ -16,12 +16,12 @@ pub front_behind : {A : Type 0} (before front whole : List A) → IsFrontOf fron
 front_behind {A} before front whole (rest, is) =
     (rest, append_assoc before front rest ∙ ap (λ (x : List A). before ++ x) is)
 
--- A front of a text is that of a front of the bytes, with a part of the next head behind it perhaps.
+-- A front of a text is that of a front of the bytes, with a part of what goes before the next byte behind it perhaps.
 pub record Cut (digit : ℕ) (pen : Pen) (bytes text : List ℕ) : Type 0 where
   pub written : List ℕ
   pub front : IsFrontOf written bytes
   pub part : List ℕ
-  pub small : IsFrontOf part (head digit)
+  pub small : IsFrontOf part (lead digit (pen_after pen written))
   pub whole : text ≡ numbered_lines digit pen written ++ part
 
 nothing : (digit : ℕ) (pen : Pen) (bytes : List ℕ) → Cut digit pen bytes []
@@ -29,7 +29,7 @@ nothing digit pen bytes = record {
   written = [];
   front = (bytes, refl);
   part = [];
-  small = (head digit, refl);
+  small = (lead digit pen, refl);
   whole = refl;
 }
 
@@ -104,7 +104,7 @@ pub spells_whole : (digit : ℕ) (pen : Pen) (bytes : List ℕ) → is_stuck pen
     → PenSpells digit pen bytes (pen_after pen bytes) (numbered_lines digit pen bytes)
 spells_whole digit pen bytes free = record {
   part = [];
-  small = (head digit, refl);
+  small = (lead digit (pen_after pen bytes), refl);
   whole = sym (append-nil (numbered_lines digit pen bytes));
   none = λ _. refl;
   pen = λ _. refl;

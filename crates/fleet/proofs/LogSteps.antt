@@ -10,7 +10,7 @@ use Rattle.fleet.specs.Crew.{Crew, CrewIsReady, OneTurn}
 use Rattle.fleet.specs.Log.{Along, AreDrawn, IsUncut, is_switch, last_answers_after, last_station, reached, switches_after, switches_in, turns_left}
 use Rattle.fleet.specs.MemberTurns.{Turning}
 use Rattle.fleet.specs.OpenStations.{chosen, is_more, open_from, least_unseen}
-use Rattle.fleet.specs.StationLines.{AreUncut}
+use Rattle.fleet.specs.StationLines.{AreUncut, AreUncutBeforeLast}
 use Rattle.fleet.specs.TurnText.{TurnEntry}
 
 -- one more turn behind others
@@ -43,6 +43,18 @@ pub uncut_more : {K : Type 0} (log : List (TurnEntry K)) (e : TurnEntry K) → A
     → e.answer ≢ OutOfMemory → AreUncut (log ++ e ∷ [])
 uncut_more [] e uncut fits found = (fits, found, tt)
 uncut_more (f ∷ log) e uncut fits found = (uncut.0, uncut.1, uncut_more log e uncut.2 fits found)
+
+-- of such turns none before the last was cut off, nor with one more behind them
+pub uncut_before : {K : Type 0} (log : List (TurnEntry K)) → AreUncut log → AreUncutBeforeLast log
+uncut_before [] uncut = tt
+uncut_before (e ∷ []) uncut = tt
+uncut_before (e ∷ next ∷ log) uncut = (uncut.0, uncut.1, uncut_before (next ∷ log) uncut.2)
+
+pub uncut_ahead : {K : Type 0} (log : List (TurnEntry K)) (last : TurnEntry K) → AreUncut log
+    → AreUncutBeforeLast (log ++ last ∷ [])
+uncut_ahead [] last uncut = tt
+uncut_ahead (e ∷ []) last uncut = (uncut.0, uncut.1, tt)
+uncut_ahead (e ∷ next ∷ log) last uncut = (uncut.0, uncut.1, uncut_ahead (next ∷ log) last uncut.2)
 
 pub reached_more : {K : Type 0} (x : ℕ) (log : List (TurnEntry K)) (e : TurnEntry K) → reached x (log ++ e ∷ []) ≡ next_draw (reached x log)
 reached_more x [] e = refl

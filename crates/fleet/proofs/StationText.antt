@@ -6,10 +6,10 @@ use Rattle.fleet.specs.declared.member.MemberTurn.{MemberTurn}
 use Rattle.fleet.specs.declared.member.MemberTurn.TheVariants.{More, Ended, Unseen, WriteFault, OutOfMemory}
 use Rattle.fleet.specs.declared.pen.Pen.{Pen}
 use Rattle.fleet.specs.declared.pen.Pen.TheVariants.{AtStart, Inside, Stuck}
-use Rattle.fleet.specs.Lines.{AreLines, pen_behind, numbered_lines, pen_after, with_station_number}
+use Rattle.fleet.specs.Lines.{AreLines, lead, pen_behind, numbered_lines, pen_after, with_station_number}
 use Rattle.fleet.specs.Log.{BothIf, WrittenBy}
 use Rattle.fleet.specs.MemberTurns.{Both, WritesWhole, texts_join}
-use Rattle.fleet.specs.StationLines.{AreUncut, Place, station_lines_from, station_lines, place_behind}
+use Rattle.fleet.specs.StationLines.{AreUncutBeforeLast, Place, station_lines_from, station_lines, place_behind}
 use Rattle.fleet.specs.TurnText.{AreTextsOf, TurnEntry, WritesTurn}
 
 -- where a reader stands who has read what the pen wrote
@@ -22,37 +22,48 @@ place_is : (counts ends : Bool) → place_behind counts ends ≡ place_of counts
 place_is counts true = refl
 place_is counts false = refl
 
--- lines with the digit of the station are its own
+-- what the pen writes with the digit of the station are its own bytes
 own_lines : (digit of_line : ℕ) (pen : Pen) (bytes text : List ℕ) → (of_line == digit) ≡ true
-    → pen_after pen bytes ≡ AtStart
-    → station_lines_from digit (place_of true pen) (numbered_lines of_line pen bytes ++ text) ≡ bytes ++ station_lines_from digit Place.AtDigit text
-own_lines digit of_line pen [] text same ends = ap (λ (p : Pen). station_lines_from digit (place_of true p) text) ends
-own_lines digit of_line AtStart (b ∷ bytes) text same ends =
+    → station_lines_from digit (place_of true pen) (numbered_lines of_line pen bytes ++ text)
+    ≡ bytes ++ station_lines_from digit (place_of true (pen_after pen bytes)) text
+own_lines digit of_line pen [] text same = refl
+own_lines digit of_line AtStart (b ∷ bytes) text same =
     ap (λ (counts : Bool). station_lines_from digit (Place.Within counts) (b ∷ (numbered_lines of_line (pen_behind (b == 10)) bytes ++ text))) same
     ∙ ap (λ (place : Place). b ∷ station_lines_from digit place (numbered_lines of_line (pen_behind (b == 10)) bytes ++ text)) (place_is true (b == 10))
-    ∙ ap (λ (l : List ℕ). b ∷ l) (own_lines digit of_line (pen_behind (b == 10)) bytes text same ends)
-own_lines digit of_line Inside (b ∷ bytes) text same ends =
+    ∙ ap (λ (l : List ℕ). b ∷ l) (own_lines digit of_line (pen_behind (b == 10)) bytes text same)
+own_lines digit of_line Inside (b ∷ bytes) text same =
     ap (λ (place : Place). b ∷ station_lines_from digit place (numbered_lines of_line (pen_behind (b == 10)) bytes ++ text)) (place_is true (b == 10))
-    ∙ ap (λ (l : List ℕ). b ∷ l) (own_lines digit of_line (pen_behind (b == 10)) bytes text same ends)
-own_lines digit of_line Stuck (b ∷ bytes) text same ends =
+    ∙ ap (λ (l : List ℕ). b ∷ l) (own_lines digit of_line (pen_behind (b == 10)) bytes text same)
+own_lines digit of_line Stuck (b ∷ bytes) text same =
     ap (λ (place : Place). b ∷ station_lines_from digit place (numbered_lines of_line (pen_behind (b == 10)) bytes ++ text)) (place_is true (b == 10))
-    ∙ ap (λ (l : List ℕ). b ∷ l) (own_lines digit of_line (pen_behind (b == 10)) bytes text same ends)
+    ∙ ap (λ (l : List ℕ). b ∷ l) (own_lines digit of_line (pen_behind (b == 10)) bytes text same)
 
--- lines with another digit are none of its lines
+-- with another digit none of them is
 other_lines : (digit of_line : ℕ) (pen : Pen) (bytes text : List ℕ) → (of_line == digit) ≡ false
-    → pen_after pen bytes ≡ AtStart
-    → station_lines_from digit (place_of false pen) (numbered_lines of_line pen bytes ++ text) ≡ station_lines_from digit Place.AtDigit text
-other_lines digit of_line pen [] text other ends = ap (λ (p : Pen). station_lines_from digit (place_of false p) text) ends
-other_lines digit of_line AtStart (b ∷ bytes) text other ends =
+    → station_lines_from digit (place_of false pen) (numbered_lines of_line pen bytes ++ text)
+    ≡ station_lines_from digit (place_of false (pen_after pen bytes)) text
+other_lines digit of_line pen [] text other = refl
+other_lines digit of_line AtStart (b ∷ bytes) text other =
     ap (λ (counts : Bool). station_lines_from digit (Place.Within counts) (b ∷ (numbered_lines of_line (pen_behind (b == 10)) bytes ++ text))) other
     ∙ ap (λ (place : Place). station_lines_from digit place (numbered_lines of_line (pen_behind (b == 10)) bytes ++ text)) (place_is false (b == 10))
-    ∙ other_lines digit of_line (pen_behind (b == 10)) bytes text other ends
-other_lines digit of_line Inside (b ∷ bytes) text other ends =
+    ∙ other_lines digit of_line (pen_behind (b == 10)) bytes text other
+other_lines digit of_line Inside (b ∷ bytes) text other =
     ap (λ (place : Place). station_lines_from digit place (numbered_lines of_line (pen_behind (b == 10)) bytes ++ text)) (place_is false (b == 10))
-    ∙ other_lines digit of_line (pen_behind (b == 10)) bytes text other ends
-other_lines digit of_line Stuck (b ∷ bytes) text other ends =
+    ∙ other_lines digit of_line (pen_behind (b == 10)) bytes text other
+other_lines digit of_line Stuck (b ∷ bytes) text other =
     ap (λ (place : Place). station_lines_from digit place (numbered_lines of_line (pen_behind (b == 10)) bytes ++ text)) (place_is false (b == 10))
-    ∙ other_lines digit of_line (pen_behind (b == 10)) bytes text other ends
+    ∙ other_lines digit of_line (pen_behind (b == 10)) bytes text other
+
+-- a part of what goes before a byte has no byte of a line
+part_none : (digit of_line : ℕ) (counts : Bool) (pen : Pen) (part rest : List ℕ) → part ++ rest ≡ lead of_line pen
+    → station_lines_from digit (place_of counts pen) part ≡ []
+part_none digit of_line counts pen [] rest e = refl
+part_none digit of_line counts AtStart (x ∷ []) rest e = refl
+part_none digit of_line counts AtStart (x ∷ y ∷ []) rest e = refl
+part_none digit of_line counts AtStart (x ∷ y ∷ z ∷ part) rest e =
+    absurd (let bad : x ∷ y ∷ z ∷ (part ++ rest) ≡ of_line ∷ 32 ∷ [] = e in cc)
+part_none digit of_line counts Inside (x ∷ part) rest e = absurd (let bad : x ∷ (part ++ rest) ≡ [] = e in cc)
+part_none digit of_line counts Stuck (x ∷ part) rest e = absurd (let bad : x ∷ (part ++ rest) ≡ [] = e in cc)
 
 digits_same : (n k : ℕ) (test : Bool) → (n == k) ≡ test → (48 + n == 48 + k) ≡ test
 digits_same n k true e = grind (arith, nat_tests)
@@ -100,11 +111,13 @@ module _ {K : Type 0} (outlet : Outlet K) where
       → station_lines station (with_station_number e.station bytes ++ text) ≡ texts station
   lines_by e bytes rest text texts station whole split behind true is =
       let now : station_lines station text ≡ rest = behind ∙ ap (λ (test : Bool). if test then rest else texts station) is in
-      own_lines (48 + station) (48 + e.station) AtStart bytes text (digits_same e.station station true is) whole
-      ∙ (ap (λ (l : List ℕ). bytes ++ l) now ∙ (sym split ∙ ap texts (is_same e.station station is)))
+      own_lines (48 + station) (48 + e.station) AtStart bytes text (digits_same e.station station true is)
+      ∙ (ap (λ (p : Pen). bytes ++ station_lines_from (48 + station) (place_of true p) text) whole
+      ∙ (ap (λ (l : List ℕ). bytes ++ l) now ∙ (sym split ∙ ap texts (is_same e.station station is))))
   lines_by e bytes rest text texts station whole split behind false is =
-      other_lines (48 + station) (48 + e.station) AtStart bytes text (digits_same e.station station false is) whole
-      ∙ (behind ∙ ap (λ (test : Bool). if test then rest else texts station) is)
+      other_lines (48 + station) (48 + e.station) AtStart bytes text (digits_same e.station station false is)
+      ∙ (ap (λ (p : Pen). station_lines_from (48 + station) (place_of false p) text) whole
+      ∙ (behind ∙ ap (λ (test : Bool). if test then rest else texts station) is))
 
   lines_more : (e : TurnEntry K) (bytes part rest text : List ℕ) (texts : ℕ → List ℕ) (station : ℕ) → AreLines bytes
       → part ≡ [] → texts e.station ≡ bytes ++ rest → station_lines station text ≡ rest_of e.station rest texts station
@@ -116,16 +129,47 @@ module _ {K : Type 0} (outlet : Outlet K) where
       ∙ ap (λ (l : List ℕ). l ++ text) (append-nil (with_station_number e.station bytes)) in
       ap (λ (l : List ℕ). station_lines station l) front ∙ lines_by e bytes rest text texts station whole split behind test is
 
+  -- a turn that is the last may be cut off: behind its bytes there is a part of what goes before the next byte
+  last_lines : (e : TurnEntry K) (texts : ℕ → List ℕ) (both : Both (WritesTurn outlet e) (WrittenBy outlet e.station []) (texts e.station))
+      (station : ℕ) → WrittenBy outlet station (e ∷ []) (texts station) → (test : Bool) → (e.station == station) ≡ test
+      → station_lines station (with_station_number e.station both.first ++ both.first_is.part) ≡ texts station
+  last_lines e texts both station was true is =
+      let part = both.first_is.small in
+      own_lines (48 + station) (48 + e.station) AtStart both.first both.first_is.part (digits_same e.station station true is)
+      ∙ (ap (λ (l : List ℕ). both.first ++ l)
+      (part_none (48 + station) (48 + e.station) true (pen_after AtStart both.first) both.first_is.part part.0 part.1 ∙ sym both.later_is)
+      ∙ (sym both.whole ∙ ap texts (is_same e.station station is)))
+  last_lines e texts both station was false is =
+      let part = both.first_is.small in
+      let P : Bool → Type 0 = λ (test : Bool). BothIf test (WritesTurn outlet e) (WrittenBy outlet station []) (texts station) in
+      let none : texts station ≡ [] = subst P is was in
+      other_lines (48 + station) (48 + e.station) AtStart both.first both.first_is.part (digits_same e.station station false is)
+      ∙ (part_none (48 + station) (48 + e.station) false (pen_after AtStart both.first) both.first_is.part part.0 part.1 ∙ sym none)
+
+  -- what the station of a turn wrote in it, and behind it
+  both_of : (e : TurnEntry K) (log : List (TurnEntry K)) (text : List ℕ) → WrittenBy outlet e.station (e ∷ log) text
+      → Both (WritesTurn outlet e) (WrittenBy outlet e.station log) text
+  both_of e log text written =
+      let P : Bool → Type 0 = λ (test : Bool). BothIf test (WritesTurn outlet e) (WrittenBy outlet e.station log) text in
+      subst P (equal_itself e.station) written
+
   -- what the stations wrote stands together in one text
-  pub together : (log : List (TurnEntry K)) (texts : ℕ → List ℕ) → AreUncut log
+  pub together : (log : List (TurnEntry K)) (texts : ℕ → List ℕ) → AreUncutBeforeLast log
       → ((station : ℕ) → WrittenBy outlet station log (texts station)) → Together outlet log texts
   together [] texts uncut written = record { text = []; are_texts = refl; each = λ station. sym (written station) }
-  together (e ∷ log) texts uncut written =
-      let P : Bool → Type 0 = λ (test : Bool). BothIf test (WritesTurn outlet e) (WrittenBy outlet e.station log) (texts e.station) in
-      let both : Both (WritesTurn outlet e) (WrittenBy outlet e.station log) (texts e.station) =
-      subst P (equal_itself e.station) (written e.station) in
-      let behind = together log (rest_of e.station both.later texts) uncut.2
-      (λ station. still_written e log texts both.later station both.later_is (written station) _ refl) in
+  together (e ∷ []) texts uncut written =
+      let both = both_of e [] (texts e.station) (written e.station) in
+      let front = with_station_number e.station both.first ++ both.first_is.part in
+      record {
+        text = front ++ [];
+        are_texts = texts_join front [] (both.first, both.first_is, refl) refl;
+        each = λ station. ap (λ (l : List ℕ). station_lines station l) (append-nil front)
+            ∙ last_lines e texts both station (written station) _ refl;
+      }
+  together (e ∷ next ∷ log) texts uncut written =
+      let both = both_of e (next ∷ log) (texts e.station) (written e.station) in
+      let behind = together (next ∷ log) (rest_of e.station both.later texts) uncut.2
+      (λ station. still_written e (next ∷ log) texts both.later station both.later_is (written station) _ refl) in
       let writes : WritesTurn outlet e both.first = both.first_is in
       let front = with_station_number e.station both.first ++ writes.part in
       record {

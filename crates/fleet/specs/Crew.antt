@@ -34,12 +34,13 @@ pub record CrewIsReady {M : Type 0} (turning : Turning M) (crew : Crew M) : Type
   pub few : length crew.members ≤ 8
   pub size : length crew.last ≡ 8
   pub absent : (k : ℕ) → length crew.members ≤ k → slice_index_or crew.last k Ended ≡ Ended
-  pub may_turn : (station : ℕ) (m : M) → slice_get crew.members (station - 1) ≡ Some m → StationIsOpen crew station → turning.may_turn m
+  pub may_turn : (station : ℕ) (m : M) → slice_get crew.members (station - 1) ≡ Some m → StationIsOpen crew station
+      → turning.may_turn m
 
--- One turn of a station that had not ended: its member turned, and some text was written, each line with the number of the
--- station. All other stations stay. A write fault is answered only where the sink's faults rose.
-pub record OneTurn {M K : Type 0} (turning : Turning M) (outlet : Outlet K) (old : Crew M) (e : TurnEntry K) (new : Crew M)
-    : Type 0 where
+-- One turn of a station that had not ended: its member turned, and some text was written, each line with the number of
+-- the station. All other stations stay. A write fault is answered only where the sink's faults rose.
+pub record OneTurn {M K : Type 0} (turning : Turning M) (outlet : Outlet K) (old : Crew M) (e : TurnEntry K)
+    (new : Crew M) : Type 0 where
   pub is_open : StationIsOpen old e.station
   pub before : M
   pub after : M

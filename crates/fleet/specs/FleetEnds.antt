@@ -10,12 +10,13 @@ use Rattle.fleet.specs.Crew.{Crew, last_answer_of}
 use Rattle.fleet.specs.Log.{Along, AreDrawn, IsUncut, switches_in}
 use Rattle.fleet.specs.MemberTurns.{Turning}
 use Rattle.fleet.specs.OpenStations.{least_unseen, open_from}
-use Rattle.fleet.specs.StationLines.{AreUncut}
+use Rattle.fleet.specs.StationLines.{AreUncut, AreUncutBeforeLast}
 use Rattle.fleet.specs.TurnText.{AreTextsOf, TurnEntry}
 
 -- the last turn gave this answer
 abbrev pub FleetEndsWith : {K : Type 0} → MemberTurn → List (TurnEntry K) → Type 0
-FleetEndsWith {K} answer log = (front : List (TurnEntry K)) × (e : TurnEntry K) × (log ≡ front ++ e ∷ []) × (e.answer ≡ answer)
+FleetEndsWith {K} answer log =
+    (front : List (TurnEntry K)) × (e : TurnEntry K) × (log ≡ front ++ e ∷ []) × (e.answer ≡ answer)
 
 -- each station's last answer is Ended
 abbrev pub AllEnded : List MemberTurn → Type 0
@@ -43,13 +44,14 @@ FleetEndsAs (fleet.Unseen station) log last = LeastUnseen station log last
 FleetEndsAs fleet.WriteFault log last = FleetEndsWith member.WriteFault log
 FleetEndsAs fleet.OutOfMemory log last = FleetEndsWith member.OutOfMemory log
 
--- The turns went to the stations that were drawn behind the seed, and what they wrote was written in their order. A
--- write fault is answered only where the sink's faults rose.
+-- The turns went to the stations that were drawn behind the seed, and what they wrote was written in their order. With
+-- one that was cut off they end. A write fault is answered only where the sink's faults rose.
 pub record RunsFleet {M K : Type 0} (turning : Turning M) (outlet : Outlet K) (seed : ℕ) (old : Crew M) (before : K)
     (end : FleetEnd) (new : Crew M) (after : K) : Type 0 where
   pub log : List (TurnEntry K)
   pub turns : Along turning outlet old before log new after
   pub drawn : AreDrawn seed old.last log
+  pub uncut : AreUncutBeforeLast log
   pub text : List ℕ
   pub texts : AreTextsOf outlet log text
   pub wrote : outlet.wrote before text after

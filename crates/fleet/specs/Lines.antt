@@ -50,10 +50,10 @@ pub record StaysStuck (bytes : List ℕ) (to : Pen) (text : List ℕ) : Type 0 w
   pub no_text : text ≡ []
 
 -- The pen came from here to there as these bytes became that text. Behind the text of bytes that were cut off a part of
--- the next head may stand.
+-- what goes before the next byte may stand: of a head, where a line begins.
 pub record PenSpells (digit : ℕ) (from : Pen) (bytes : List ℕ) (to : Pen) (text : List ℕ) : Type 0 where
   pub part : List ℕ
-  pub small : IsFrontOf part (head digit)
+  pub small : IsFrontOf part (lead digit (pen_after from bytes))
   pub whole : text ≡ numbered_lines digit from bytes ++ part
   pub none : is_stuck to ≡ false → part ≡ []
   pub pen : is_stuck to ≡ false → to ≡ pen_after from bytes

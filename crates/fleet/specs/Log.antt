@@ -1,5 +1,6 @@
 -- Turns of stations one after another, and their answers and texts.
-use Rattle.std.specs.Prelude.{ℕ, ◌≡◌, ◌≢◌, ◌+◌, ◌-◌, ◌==◌, not, Bool, true, false, if◌then◌else◌, List, [], ◌∷◌, slice_get, slice_index_or, Option, Some, None}
+use Rattle.std.specs.Prelude.{ℕ, ◌≡◌, ◌≢◌, ◌+◌, ◌-◌, ◌==◌, not, Bool, true, false, if◌then◌else◌, List, [], ◌∷◌}
+use Rattle.std.specs.Prelude.{slice_get, slice_index_or, Option, Some, None}
 use Rattle.std.proofs.Common.{set}
 use Rattle.station_io.specs.Sink.{Outlet}
 use Rattle.draws.specs.Draws.{next_draw}
@@ -27,7 +28,8 @@ Along turning outlet old before (e ∷ log) new after =
 -- the answers to the turns of a station, in order
 abbrev pub answers_of : {K : Type 0} → ℕ → List (TurnEntry K) → List MemberTurn
 answers_of station [] = []
-answers_of station (e ∷ log) = if e.station == station then e.answer ∷ answers_of station log else answers_of station log
+answers_of station (e ∷ log) =
+    if e.station == station then e.answer ∷ answers_of station log else answers_of station log
 
 -- what is known of the text of a turn and of those behind it, by whether the turn counts
 abbrev pub BothIf : Bool → (List ℕ → Type 0) → (List ℕ → Type 0) → List ℕ → Type 0

@@ -20,9 +20,9 @@ pub texts_join : {P Q : List ℕ → Type 0} (first later : List ℕ) → P firs
 texts_join first later p q = record { first = first; later = later; whole = refl; first_is = p; later_is = q }
 
 -- What members of type M tell: that one may take a turn; how many turns are left at most; that one became another by
--- turns of its own with these answers, in which it wrote a text of this kind. The kind is whatever is known of the text,
--- so that a member need not choose one. A member becomes itself by no turns, turns behind others are turns with them,
--- and what is known of a text may be said less exactly.
+-- turns of its own with these answers, in which it wrote a text of this kind. The kind is whatever is known of the
+-- text, so that a member need not choose one. A member becomes itself by no turns, turns behind others are turns with
+-- them, and what is known of a text may be said less exactly.
 pub record Turning (M : Type 0) : Type 1 where
   pub may_turn : M → Type 0
   pub left : M → ℕ
@@ -48,7 +48,8 @@ pub record WritesLines {K : Type 0} (outlet : Outlet K) (before : K) (answer : M
   pub wrote : outlet.wrote before bytes after
 
 -- One turn was taken with this answer, and some text was written; the member turned, whatever that text is. Where more
--- is to come the next turn may be taken, and fewer are left. A write fault is answered only where the sink's faults rose.
+-- is to come the next turn may be taken, and fewer are left. A write fault is answered only where the sink's faults
+-- rose.
 pub record MemberTakesTurn {M K : Type 0} (turning : Turning M) (outlet : Outlet K) (old : M) (before : K)
     (answer : MemberTurn) (new : M) (after : K) : Type 0 where
   pub written : List ℕ

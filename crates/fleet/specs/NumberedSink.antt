@@ -9,7 +9,8 @@ use Rattle.fleet.specs.declared.numbered.Numbered.{Numbered}
 use Rattle.fleet.specs.Lines.{PenSpells, is_stuck}
 use Rattle.fleet.specs.PenLaws.{spells_none, spells_joins}
 
--- Once a write failed none is made any more. A count of faults stands as it was where none failed, and rose where one did.
+-- Once a write failed none is made any more. A count of faults stands as it was where none failed, and rose where one
+-- did.
 pub record SinkCounts (stuck_before stuck_after : Bool) (before after : ℕ) : Type 0 where
   pub stays : stuck_before ≡ true → stuck_after ≡ true
   pub never_falls : before ≤ after
@@ -67,7 +68,8 @@ writes_joins outlet s t u xs ys one two = record {
   wrote = outlet.wrote_joins s.out.now t.out.now u.out.now one.text two.text one.wrote two.wrote;
   spells = spells_joins s.digit s.pen t.pen u.pen xs ys one.text two.text one.spells
       (subst (λ (n : ℕ). PenSpells n t.pen ys u.pen two.text) one.digit two.spells);
-  counts = counts_joins (is_stuck s.pen) (is_stuck t.pen) (is_stuck u.pen) (outlet.faults s.out.now) (outlet.faults t.out.now)
+  counts = counts_joins (is_stuck s.pen) (is_stuck t.pen) (is_stuck u.pen) (outlet.faults s.out.now)
+      (outlet.faults t.out.now)
       (outlet.faults u.out.now) one.counts two.counts;
 }
 
@@ -92,8 +94,8 @@ numbered_outlet outlet = record {
 }
 
 -- A write of this piece gave this answer, and the pen is stuck where it failed.
-pub record PutsPiece {K : Type 0} (outlet : Outlet K) (old : Numbered K) (piece : List ℕ) (answer : Put) (new : Numbered K)
-    : Type 0 where
+pub record PutsPiece {K : Type 0} (outlet : Outlet K) (old : Numbered K) (piece : List ℕ) (answer : Put)
+    (new : Numbered K) : Type 0 where
   pub written : List ℕ
   pub writes : SinkWrites answer piece written
   pub wrote : WritesNumbered outlet old written new

@@ -1,5 +1,6 @@
 -- Which stations have not ended, by their last answers.
-use Rattle.std.specs.Prelude.{ℕ, ◌+◌, ◌%◌, Bool, true, false, if◌then◌else◌, List, [], ◌∷◌, length, slice_index_or, Some, None}
+use Rattle.std.specs.Prelude.{ℕ, ◌+◌, ◌%◌, Bool, true, false, if◌then◌else◌, List, [], ◌∷◌, length, slice_index_or}
+use Rattle.std.specs.Prelude.{Some, None}
 use Rattle.std.specs.declared.option.Option.{Option}
 use Rattle.fleet.specs.declared.member.MemberTurn.{MemberTurn}
 use Rattle.fleet.specs.declared.member.MemberTurn.TheVariants.{More, Ended, Unseen, WriteFault, OutOfMemory}
@@ -15,7 +16,8 @@ is_more OutOfMemory = false
 
 abbrev pub open_from : ℕ → List MemberTurn → List ℕ
 open_from station [] = []
-open_from station (answer ∷ last) = if is_more answer then station ∷ open_from (station + 1) last else open_from (station + 1) last
+open_from station (answer ∷ last) =
+    if is_more answer then station ∷ open_from (station + 1) last else open_from (station + 1) last
 
 -- the station that is drawn as this number is reached
 abbrev pub chosen : ℕ → List ℕ → ℕ

@@ -1,9 +1,10 @@
 -- Laws of lines with the number of their station before them.
 use Rattle.std.specs.Prelude.{ℕ, ◌≡◌, ◌==◌, true, false, List, [], ◌∷◌, ◌++◌}
-use Rattle.std.proofs.Common.{refl, sym, ap, ◌∙◌, append-nil, append_assoc}
+use Rattle.std.proofs.Common.{refl, sym, ap, subst, ◌∙◌, append-nil, append_assoc}
+use Rattle.causes.specs.Lists.{IsFrontOf}
 use Rattle.fleet.specs.declared.pen.Pen.{Pen}
 use Rattle.fleet.specs.declared.pen.Pen.TheVariants.{AtStart, Inside, Stuck}
-use Rattle.fleet.specs.Lines.{PenSpells, StaysStuck, head, is_stuck, numbered_lines, pen_after, pen_behind, lead}
+use Rattle.fleet.specs.Lines.{PenSpells, StaysStuck, is_stuck, numbered_lines, pen_after, pen_behind, lead}
 
 pub numbered_append : (digit : ℕ) (pen : Pen) (v w : List ℕ)
     → numbered_lines digit pen (v ++ w) ≡ numbered_lines digit pen v ++ numbered_lines digit (pen_after pen v) w
@@ -22,7 +23,8 @@ free_joins : (digit : ℕ) (from mid to : Pen) (v w s t : List ℕ) → is_stuck
     → PenSpells digit mid w to t → PenSpells digit from (v ++ w) to (s ++ t)
 free_joins digit from mid to v w s t free one two = record {
   part = two.part;
-  small = two.small;
+  small = subst (λ (p : Pen). IsFrontOf two.part (lead digit p))
+      (ap (λ (p : Pen). pen_after p w) (one.pen free) ∙ sym (pen_append from v w)) two.small;
   whole = ap (λ (x : List ℕ). x ++ t) (one.whole ∙ ap (λ (p : List ℕ). numbered_lines digit from v ++ p) (one.none free)
       ∙ append-nil (numbered_lines digit from v))
       ∙ ap (λ (x : List ℕ). numbered_lines digit from v ++ x)
@@ -45,7 +47,7 @@ spells_joins digit from Stuck to v w s t one two =
 pub spells_none : (digit : ℕ) (pen : Pen) → PenSpells digit pen [] pen []
 spells_none digit pen = record {
   part = [];
-  small = (head digit, refl);
+  small = (lead digit pen, refl);
   whole = refl;
   none = λ _. refl;
   pen = λ _. refl;

@@ -3,7 +3,8 @@ use Rattle.std.specs.Prelude.{ℕ, ◌≢◌, ◌+◌, ◌==◌, Bool, true, fal
 use Rattle.fleet.specs.declared.member.MemberTurn.TheVariants.{WriteFault, OutOfMemory}
 use Rattle.fleet.specs.TurnText.{TurnEntry}
 
--- where a reader of the text stands: at the digit of a line, at its space, or within it; the line is of the station, or not
+-- where a reader of the text stands: at the digit of a line, at its space, or within it; the line is of the station, or
+-- not
 pub data Place : Type 0 where
   AtDigit : Place
   AtSpace : Bool → Place
@@ -19,8 +20,10 @@ abbrev pub station_lines_from : ℕ → Place → List ℕ → List ℕ
 station_lines_from digit place [] = []
 station_lines_from digit Place.AtDigit (b ∷ bytes) = station_lines_from digit (Place.AtSpace (b == digit)) bytes
 station_lines_from digit (Place.AtSpace counts) (b ∷ bytes) = station_lines_from digit (Place.Within counts) bytes
-station_lines_from digit (Place.Within true) (b ∷ bytes) = b ∷ station_lines_from digit (place_behind true (b == 10)) bytes
-station_lines_from digit (Place.Within false) (b ∷ bytes) = station_lines_from digit (place_behind false (b == 10)) bytes
+station_lines_from digit (Place.Within true) (b ∷ bytes) =
+    b ∷ station_lines_from digit (place_behind true (b == 10)) bytes
+station_lines_from digit (Place.Within false) (b ∷ bytes) =
+    station_lines_from digit (place_behind false (b == 10)) bytes
 
 -- the lines of a station, without its number
 abbrev pub station_lines : ℕ → List ℕ → List ℕ
@@ -30,3 +33,10 @@ station_lines station text = station_lines_from (48 + station) Place.AtDigit tex
 abbrev pub AreUncut : {K : Type 0} → List (TurnEntry K) → Type 0
 AreUncut [] = Unit {0}
 AreUncut (e ∷ log) = (e.answer ≢ WriteFault) × (e.answer ≢ OutOfMemory) × AreUncut log
+
+-- none of the turns before the last was cut off
+abbrev pub AreUncutBeforeLast : {K : Type 0} → List (TurnEntry K) → Type 0
+AreUncutBeforeLast [] = Unit {0}
+AreUncutBeforeLast (e ∷ []) = Unit {0}
+AreUncutBeforeLast (e ∷ next ∷ log) =
+    (e.answer ≢ WriteFault) × (e.answer ≢ OutOfMemory) × AreUncutBeforeLast (next ∷ log)

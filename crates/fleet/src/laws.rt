@@ -2,7 +2,7 @@ ghost use Rattle.std.specs.Prelude.{ℕ, List, ◌≡◌, ◌≤◌};
 ghost use Rattle.fleet.specs.Crew.{Crew, CrewIsReady};
 ghost use Rattle.fleet.specs.FleetEnds.{IsUnseenMember, RunsFleet};
 ghost use Rattle.fleet.specs.Log.{Along, IsAlone, WrittenBy};
-ghost use Rattle.fleet.specs.StationLines.{AreUncut, station_lines};
+ghost use Rattle.fleet.specs.StationLines.{AreUncutBeforeLast, station_lines};
 ghost use Rattle.fleet.specs.TurnText.{AreTextsOf, TurnEntry};
 
 use crate::member::Member;
@@ -26,10 +26,10 @@ pub fn what_turns_write_is_written<M: Member, K: Sink>()
 {}
 
 /// Whatever each of the stations wrote, its text is the lines with its number, without it, in one text of all of them that
-/// the sink took. This is so where no turn was cut off.
+/// the sink took. This is so where no turn before the last was cut off.
 pub fn each_station_has_its_lines<M: Member, K: Sink>()
     ensures { (old new : Crew M) (before after : K) (log : List (TurnEntry K)) (texts : ℕ → List ℕ)
-        → Along M.turning K.outlet old before log new after → AreUncut log
+        → Along M.turning K.outlet old before log new after → AreUncutBeforeLast log
         → ((station : ℕ) → WrittenBy K.outlet station log (texts station))
         → (text : List ℕ) × AreTextsOf K.outlet log text × K.outlet.wrote before text after
         × ((station : ℕ) → station_lines station text ≡ texts station) }

@@ -4,13 +4,13 @@ use Rattle.console_model.specs.Console.{Console}
 use Rattle.console_model.specs.Tick.{tick}
 use Rattle.console_server.specs.Ready.{ticked}
 use Rattle.settings_file.specs.StationSettings.{StationSettings}
-use Rattle.schedule_file.specs.Fates.{Fates}
+use Rattle.schedule_file.specs.Fates.{FatesByNumber}
 use Rattle.station_sim.specs.Line.{Line, due_all, happens}
 use Rattle.station_sim.specs.Talk.{idles}
 use Rattle.station_sim.proofs.SoundLines.{console_joins}
-use Rattle.station_replay.specs.Replay.{Item, Opens, Runs, Stage, stops_opening}
+use Rattle.replay_laws.specs.Replay.{Item, Opens, Runs, Stage, stops_opening}
 use Rattle.schedule_file.specs.declared.schedule.step.Stop.{Stop}
-use Rattle.station_replay.specs.Schedule.{ReplayStep}
+use Rattle.replay_laws.specs.Schedule.{ReplayStep}
 use Rattle.schedule_file.specs.Lists.{no_fates}
 use Rattle.model_commands.specs.ConsoleRun.{HaveNoRound, before_rounds}
 
@@ -42,7 +42,7 @@ run_before settings (ReplayStep.Open (Some k) ∷ xs) s u is none (mid, now, res
 run_before settings (ReplayStep.Round f left stop ∷ xs) s u is none runs = absurd none
 
 -- what stands from the first round on changes nothing
-pub before_first : (xs ys : List ReplayStep) (f : Fates) (left : ℕ → List (List ℕ)) (stop : Option Stop) (k : Console) → HaveNoRound xs
+pub before_first : (xs ys : List ReplayStep) (f : FatesByNumber) (left : ℕ → List (List ℕ)) (stop : Option Stop) (k : Console) → HaveNoRound xs
     → before_rounds (xs ++ ReplayStep.Round f left stop ∷ ys) k ≡ before_rounds xs k
 before_first [] ys f left stop k none = refl
 before_first (ReplayStep.Due rs ∷ xs) ys f left stop k none = before_first xs ys f left stop (due_all rs k) none

@@ -24,7 +24,7 @@ use Rattle.serial_link.specs.Traffic.{Traffic}
 use Rattle.serial_link.specs.declared.link.Connected.{Connected}
 use Rattle.serial_link.specs.declared.link.Connected.TheVariants as connected
 use Rattle.serial_link.specs.declared.link.Side.TheVariants.{Serve}
-use Rattle.station_replay.specs.Schedule.{ReplayStep}
+use Rattle.replay_laws.specs.Schedule.{ReplayStep}
 use Rattle.model_commands.specs.ConsoleRun.{IsUntouchedOrShort, readies, served_output, serves, serves_files}
 use Rattle.model_commands.specs.ReplayRun.{HasGoodFiles}
 use Rattle.model_commands.proofs.GoodSchedule.{good_files_read, then_ends}

@@ -1,5 +1,5 @@
 -- What the command `fleet` prints, by its clause.
-use Rattle.std.proofs.Common.{◌≡◌, ◌≢◌, ℕ, List, [], ◌∷◌, ◌++◌, Ok, Err, refl, sym, ap, subst, ◌∙◌, inl, inr}
+use Rattle.std.proofs.Common.{◌≡◌, ◌≢◌, ◌⊎◌, ℕ, List, [], ◌∷◌, ◌++◌, Ok, Err, refl, sym, ap, subst, ◌∙◌, inl, inr}
 use Rattle.std.specs.Global.{Vec}
 use Rattle.std.specs.Prelude.{All, IfErr, IsOkAnd}
 use Rattle.std.specs.declared.result.Result.{Result}
@@ -19,10 +19,10 @@ use Rattle.station_io.specs.Files.{Shelf}
 use Rattle.station_io.specs.Sink.{Outlet}
 use Rattle.station_io.specs.declared.files.TextRead.{TextRead}
 use Rattle.station_io.specs.declared.files.TextRead.TheVariants as reading
-use Rattle.model_commands.specs.FleetPrints.{IsToldToEnd, PrintsReplays, ReadsFleet, told_to_end}
+use Rattle.model_commands.specs.FleetPrints.{BeginsReplays, IsToldToEnd, PrintsReplays, ReadsFleet, told_to_end}
 use Rattle.model_commands.specs.FleetRun.{finds_memory, fleets, makes_stations, reads_schedules}
 use Rattle.model_commands.specs.ScheduleReading.{SaysSchedule, bad_schedule, reads_schedule, says_schedule}
-use Rattle.model_commands.proofs.FleetTexts.{prints}
+use Rattle.model_commands.proofs.FleetTexts.{begins, prints}
 use Rattle.model_commands.proofs.OneReplay.{never}
 
 -- a step that ended the run did not tell it to its end
@@ -178,4 +178,43 @@ module _ {F K L D S : Type 0} (m : Meanings F K L D) (other : Outlet S) (names :
             (prints m.outlet other settings names.seed schedules.items stations.items last.out new.out ended
             (all_read_for m settings.period [] names.schedules mid at (Ok schedules) (All-nil (λ (x : Schedule). x.period ≡ settings.period)) read)
             made.0 turns.0 told),
+      )) make) more) did
+
+-- by whether the first of two steps ended the run
+by_step : {W A B P : Type 0} (one : CommandStep W A) (next : A → CommandStep W B) (old new : W) (result : Result B Output)
+    → ((output : Output) (mid : W) → one old (Err output) mid → new ≡ mid → P)
+    → ((a : A) (mid : W) → one old (Ok a) mid → next a mid result new → P) → then one next old result new → P
+by_step {W} {A} {B} {P} one next old new result ended further did = go did.answer did.first did.behind
+  where
+    go : (answer : Result A Output) → one old answer did.mid → Behind answer next did.mid result new → P
+    go (Ok a) was more = further a did.mid was more
+    go (Err output) was none = ended output did.mid was none.1
+
+module _ {F K L D : Type 0} (m : Meanings F K L D) (names : FleetNames) where
+  -- what the command prints, however it ended: nothing before its stations take turns
+  abbrev Begun : Outside F K L D → Outside F K L D → Type 0
+  Begun old new = (settings : StationSettings) × (schedules : Vec Schedule) × ReadsFleet m names settings schedules old
+      × BeginsReplays m.outlet settings schedules.items old.out new.out
+
+  pub fleet_begins : (old new : Outside F K L D) (ended : Result Lines Output) → fleets m names old ended new
+      → (new.out ≡ old.out) ⊎ Begun old new
+  fleet_begins old new ended did =
+      let out : Outside F K L D → K = λ w. w.out in
+      by_step (over_files (settles m.shelf names.settings)) _ old new ended
+      (λ output mid was same. inl (ap out same ∙ ap out was.1))
+      (λ settings mid was more. by_step (reads_schedules m settings.period [] names.schedules) _ mid new ended
+      (λ output at read same. inl (ap out same
+      ∙ (out_stays m settings.period [] names.schedules mid at (Err output) read ∙ ap out was.1)))
+      (λ schedules at read make.
+      let kept : at.out ≡ old.out = out_stays m settings.period [] names.schedules mid at (Ok schedules) read ∙ ap out was.1 in
+      by_step (makes_stations settings schedules.items) _ at new ended
+      (λ output last none same. inl (ap out same ∙ (ap out none.2 ∙ kept)))
+      (λ stations last made turns. inr (
+        settings,
+        schedules,
+        record { settled = mid; read = at; settles_so = was; reads_so = read },
+        subst (λ (k : K). BeginsReplays m.outlet settings schedules.items k new.out) (ap out made.2 ∙ kept)
+            (begins m.outlet settings names.seed schedules.items stations.items last.out new.out ended
+            (all_read_for m settings.period [] names.schedules mid at (Ok schedules) (All-nil (λ (x : Schedule). x.period ≡ settings.period)) read)
+            made.0 turns.0),
       )) make) more) did

@@ -4,7 +4,7 @@ use Rattle.std.specs.Io.KnownBytes.{Appends}
 use Rattle.std.specs.declared.option.Option.{Option}
 use Rattle.std.specs.declared.result.Result.{Result}
 use Rattle.eeprom_map.specs.Memory.{new_memory}
-use Rattle.one_run.proofs.OneRun.{not_both, one_text}
+use Rattle.one_text_laws.proofs.OneRun.{not_both, one_text}
 use Rattle.run_output.specs.Ended.{IsOneOf, Lines, output_of}
 use Rattle.run_output.specs.Output.{Output}
 use Rattle.run_output.specs.declared.status.Status.{Status}
@@ -15,9 +15,9 @@ use Rattle.schedule_replay.specs.declared.replaying.ReplayEnd.{ReplayEnd}
 use Rattle.schedule_replay.specs.declared.replaying.ReplayEnd.TheVariants as replay_end
 use Rattle.settings_file.specs.StationSettings.{StationSettings}
 use Rattle.station_io.specs.Sink.{Outlet}
-use Rattle.station_replay.specs.Replay.{IsReplay, IsReplayBy, Item, Stage, start}
-use Rattle.station_replay.specs.Schedule.{ReplayStep}
-use Rattle.station_replay.specs.Texts.{text}
+use Rattle.replay_laws.specs.Replay.{IsReplay, IsReplayBy, Item, Stage, start}
+use Rattle.replay_laws.specs.Schedule.{ReplayStep}
+use Rattle.replay_laws.specs.Texts.{text}
 use Rattle.model_commands.specs.BlankPacket.{blank_packet}
 use Rattle.model_commands.specs.FleetPrints.{IsTextOfRun, IsToldToEnd, IsWhatReplaysWrite, ReplayedAlike, told_to_end}
 use Rattle.model_commands.specs.ReplayRun.{WritesRun, replay_status, replays}

@@ -15,7 +15,7 @@ use Rattle.schedule_replay.specs.Replayed.{steps_in}
 use Rattle.schedule_replay.specs.declared.replaying.ReplayEnd.{ReplayEnd}
 use Rattle.schedule_replay.specs.declared.replaying.ReplayEnd.TheVariants as replay_end
 use Rattle.settings_file.specs.StationSettings.{StationSettings}
-use Rattle.station_replay.specs.Schedule.{ReplayStep}
+use Rattle.replay_laws.specs.Schedule.{ReplayStep}
 use Rattle.model_commands.specs.ReplayRun.{HasGoodFiles, replay_status, replays, replays_files}
 use Rattle.model_commands.specs.ScheduleReading.{SaysSchedule, reads_schedule}
 use Rattle.model_commands.proofs.GoodSchedule.{good_files_read}

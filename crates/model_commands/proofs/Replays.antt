@@ -11,8 +11,8 @@ use Rattle.schedule_replay.specs.declared.replaying.ReplayEnd.{ReplayEnd}
 use Rattle.schedule_replay.specs.declared.replaying.ReplayEnd.TheVariants as replay_end
 use Rattle.settings_file.specs.StationSettings.{StationSettings}
 use Rattle.station_io.specs.Sink.{Outlet}
-use Rattle.station_replay.specs.Replay.{Stage, start}
-use Rattle.station_replay.specs.Schedule.{ReplayStep}
+use Rattle.replay_laws.specs.Replay.{Stage, start}
+use Rattle.replay_laws.specs.Schedule.{ReplayStep}
 use Rattle.model_commands.specs.BlankPacket.{blank_packet}
 use Rattle.model_commands.specs.ReplayRun.{WritesRun, replays}
 

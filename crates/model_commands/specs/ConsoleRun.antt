@@ -27,7 +27,7 @@ use Rattle.schedule_replay.specs.Replayed.{steps_in}
 use Rattle.serial_link.specs.Link.{Talks}
 use Rattle.serial_link.specs.Traffic.{Traffic}
 use Rattle.serial_link.specs.declared.link.Side.TheVariants.{Serve}
-use Rattle.station_replay.specs.Schedule.{ReplayStep}
+use Rattle.replay_laws.specs.Schedule.{ReplayStep}
 use Rattle.station_sim.specs.Line.{due_all}
 use Rattle.model_commands.specs.BlankPacket.{blank_packet}
 use Rattle.model_commands.specs.ScheduleReading.{reads_schedule}

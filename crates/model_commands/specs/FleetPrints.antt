@@ -1,8 +1,9 @@
 -- What the stations of a fleet print, beside replays of their schedules.
-use Rattle.std.specs.Prelude.{ℕ, ◌≡◌, ◌≤◌, ◌-◌, List, [], ◌∷◌, Ok, Some, slice_get}
+use Rattle.std.specs.Prelude.{ℕ, ◌≡◌, ◌≤◌, ◌⊎◌, ◌-◌, List, [], ◌∷◌, Ok, Some, slice_get}
 use Rattle.std.specs.Global.{Vec}
 use Rattle.std.specs.Io.KnownBytes.{Appends}
 use Rattle.std.specs.declared.result.Result.{Result}
+use Rattle.causes.specs.Lists.{IsFrontOf}
 use Rattle.command_words.specs.Command.{FleetNames}
 use Rattle.eeprom_map.specs.Memory.{new_memory}
 use Rattle.fleet.specs.StationLines.{station_lines}
@@ -17,8 +18,10 @@ use Rattle.schedule_file.specs.declared.schedule.Schedule.{Schedule}
 use Rattle.schedule_replay.specs.Replayed.{steps_in}
 use Rattle.settings_file.specs.StationSettings.{StationSettings}
 use Rattle.station_io.specs.Sink.{Outlet}
-use Rattle.station_replay.specs.Replay.{IsReplay, Item, start}
-use Rattle.station_replay.specs.Texts.{text}
+use Rattle.replay_laws.specs.Kept.{Kept}
+use Rattle.replay_laws.specs.Replay.{IsReplay, Item, RunIsBegun, start}
+use Rattle.replay_laws.specs.Schedule.{ReplayStep, records}
+use Rattle.replay_laws.specs.Texts.{text}
 use Rattle.model_commands.specs.BlankPacket.{blank_packet}
 use Rattle.model_commands.specs.FleetRun.{reads_schedules}
 use Rattle.model_commands.specs.ReplayRun.{replays}
@@ -47,6 +50,30 @@ pub record IsTextOfRun (settings : StationSettings) (schedule : Schedule) (lines
 abbrev pub EachPrintsItsRun : StationSettings → List Schedule → List ℕ → Type 0
 EachPrintsItsRun settings schedules bytes = (station : ℕ) (schedule : Schedule) → 1 ≤ station
     → slice_get schedules (station - 1) ≡ Some schedule → IsTextOfRun settings schedule (station_lines station bytes)
+
+-- These lines are a prefix of the text of a run of these steps under these settings, or of the beginning of one, from a
+-- new console and an archive that was never opened. All is kept of it.
+pub record IsFrontOfRun (settings : StationSettings) (steps : List ReplayStep) (lines : List ℕ) : Type 0 where
+  pub run : List Item
+  pub is_begun : RunIsBegun settings (start (new_memory settings.period) blank_packet) steps run
+      ⊎ IsReplay settings (start (new_memory settings.period) blank_packet) steps run
+  pub kept : Kept settings (records steps) run
+  pub front : IsFrontOf lines (text run)
+
+-- the lines of each station, without its number, are a prefix of the text of a run of its schedule, or of its beginning
+abbrev pub EachBeginsItsRun : StationSettings → List Schedule → List ℕ → Type 0
+EachBeginsItsRun settings schedules bytes = (station : ℕ) (schedule : Schedule) → 1 ≤ station
+    → slice_get schedules (station - 1) ≡ Some schedule
+    → IsFrontOfRun settings (steps_in schedule) (station_lines station bytes)
+
+-- The sink took a text of which the lines of each station begin a run of its schedule. If the sink tells its bytes by
+-- what is written, they grew by this text.
+pub record BeginsReplays {K : Type 0} (outlet : Outlet K) (settings : StationSettings) (schedules : List Schedule)
+    (old new : K) : Type 0 where
+  pub bytes : List ℕ
+  pub wrote : outlet.wrote old bytes new
+  pub taken : TellsWhatIsWritten outlet → Appends (outlet.taken old) (outlet.taken new) bytes
+  pub runs : EachBeginsItsRun settings schedules bytes
 
 -- what each replay of the schedule under these settings writes that comes to its end
 abbrev pub IsWhatReplaysWrite : {S : Type 0} → Outlet S → StationSettings → Schedule → List ℕ → Type 0

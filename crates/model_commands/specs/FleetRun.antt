@@ -32,7 +32,7 @@ use Rattle.station_fleet.specs.StationTurns.{station_turning}
 use Rattle.station_fleet.specs.declared.station.Station.{Station}
 use Rattle.station_io.specs.Files.{Shelf, most_bytes}
 use Rattle.station_io.specs.Sink.{Outlet}
-use Rattle.station_replay.specs.Replay.{start}
+use Rattle.replay_laws.specs.Replay.{start}
 use Rattle.station_sim.specs.declared.sim.Sim.{Sim}
 use Rattle.model_commands.specs.BlankPacket.{blank_packet}
 use Rattle.model_commands.specs.ReplayRun.{IsGoodSchedule}

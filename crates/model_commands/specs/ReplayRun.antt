@@ -21,8 +21,8 @@ use Rattle.settings_file.specs.Reading.{settings_of}
 use Rattle.settings_file.specs.StationSettings.{StationSettings}
 use Rattle.station_io.specs.Files.{Shelf, most_bytes}
 use Rattle.station_io.specs.Sink.{Outlet}
-use Rattle.station_replay.specs.Replay.{Stage, start}
-use Rattle.station_replay.specs.Schedule.{ReplayStep}
+use Rattle.replay_laws.specs.Replay.{Stage, start}
+use Rattle.replay_laws.specs.Schedule.{ReplayStep}
 use Rattle.model_commands.specs.BlankPacket.{blank_packet}
 use Rattle.model_commands.specs.ScheduleReading.{reads_schedule}
 

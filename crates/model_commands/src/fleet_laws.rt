@@ -1,4 +1,4 @@
-ghost use Rattle.std.specs.Prelude.{ℕ, ◌≡◌, ◌≤◌, ◌-◌, All, List, Result, Some, slice_get};
+ghost use Rattle.std.specs.Prelude.{ℕ, ◌≡◌, ◌≤◌, ◌⊎◌, ◌-◌, All, List, Result, Some, slice_get};
 ghost use Rattle.std.specs.Global.{Vec};
 ghost use Rattle.std.specs.List.{AllZip};
 ghost use Rattle.command_words.specs.Command.{FleetNames};
@@ -11,8 +11,8 @@ ghost use Rattle.schedule_file.specs.declared.schedule.Schedule.{Schedule};
 ghost use Rattle.settings_file.specs.StationSettings.{StationSettings};
 ghost use Rattle.station_fleet.specs.declared.station.Station.{Station};
 ghost use Rattle.station_io.specs.Memory.{bucket_outlet};
-ghost use Rattle.station_replay.specs.Schedule.{ReplayStep};
-ghost use Rattle.model_commands.specs.FleetPrints.{EachPrintsItsRun, IsToldToEnd, PrintsReplays, ReadsFleet, ReplayedAlike, TellsWhatIsWritten};
+ghost use Rattle.replay_laws.specs.Schedule.{ReplayStep};
+ghost use Rattle.model_commands.specs.FleetPrints.{BeginsReplays, EachPrintsItsRun, IsToldToEnd, PrintsReplays, ReadsFleet, ReplayedAlike, TellsWhatIsWritten};
 ghost use Rattle.model_commands.specs.FleetRun.{IsNewStation, fleets, takes_turns};
 ghost use Rattle.model_commands.specs.ReplayRun.{replays};
 
@@ -38,6 +38,22 @@ pub fn a_fleet_prints_its_replays<F: Files, K: Sink, L: Link, D: Disk, S: Sink>(
         → EachPrintsItsRun settings schedules bytes → EachPrintsItsRun settings schedules others
         → (station : ℕ) (schedule : Schedule) → 1 ≤ station → slice_get schedules (station - 1) ≡ Some schedule
         → station_lines station bytes ≡ station_lines station others }
+{}
+
+/// However a fleet ends, the lines of each station are a prefix of the text of a run of its schedule, or of the beginning of one.
+/// So it is if a write failed or there was no memory: the last line may be cut within it. This is said of stations that are new,
+/// and of the whole command, which writes nothing before they take turns.
+pub fn a_fleet_begins_its_replays<F: Files, K: Sink, L: Link, D: Disk>()
+    ensures stations { (settings : StationSettings) (schedules : List Schedule) (stations : List Station) (seed : ℕ)
+        (old new : K) (ended : Result Lines Output)
+        → All (λ schedule. schedule.period ≡ settings.period) schedules
+        → AllZip (IsNewStation settings) schedules stations
+        → takes_turns K.outlet seed stations old ended new → BeginsReplays K.outlet settings schedules old new }
+    ensures command { (names : FleetNames) (old new : outside.Outside F K L D) (ended : Result Lines Output)
+        → fleets (means F.shelf K.outlet L.traffic D.medium) names old ended new
+        → (new.out ≡ old.out) ⊎ ((settings : StationSettings) × (schedules : Vec Schedule)
+        × ReadsFleet (means F.shelf K.outlet L.traffic D.medium) names settings schedules old
+        × BeginsReplays K.outlet settings schedules.items old.out new.out) }
 {}
 
 /// Two replays of one schedule under the same settings that came to their ends have one status and one text.

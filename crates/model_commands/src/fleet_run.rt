@@ -64,7 +64,8 @@ fn read_schedules<F: Files, K: Sink, L: Link, D: Disk>(
     Ok(schedules)
 }
 
-// A station for each schedule.
+// A station for each schedule. It stands out of line: its locals would else lie beside those of the turns.
+#[inline(never)]
 fn make_stations(
     alloc: Global,
     settings: &Settings,

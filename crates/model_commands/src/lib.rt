@@ -13,7 +13,8 @@ mod replaying;
 mod serving;
 
 pub use fleet_laws::{
-    a_fleet_prints_its_replays, a_memory_sink_tells_its_bytes, a_replay_has_one_text,
+    a_fleet_begins_its_replays, a_fleet_prints_its_replays, a_memory_sink_tells_its_bytes,
+    a_replay_has_one_text,
 };
 pub use fleet_run::run_fleet;
 pub use laws::a_served_console_is_that_of_a_run;

@@ -1,3 +1,4 @@
+pub mod BegunTexts
 pub mod FewSteps
 pub mod NewStation
 pub mod OneTurn

@@ -4,7 +4,7 @@ use Rattle.loop_packet.specs.declared.packet.LoopPacket.{LoopPacket}
 use Rattle.disk_model.specs.declared.mem_disk.MemDisk.{MemDisk}
 use Rattle.disk_model.specs.declared.stopping.Stopping.{Stopping}
 use Rattle.schedule_file.specs.declared.schedule.Schedule.{Schedule}
-use Rattle.station_replay.specs.Schedule.{records}
+use Rattle.replay_laws.specs.Schedule.{records}
 use Rattle.schedule_steps.specs.Accepted.{AreAccepted, ScheduleIsAccepted}
 use Rattle.schedule_replay.specs.Replayed.{IsNewDisk}
 use Rattle.schedule_steps.specs.Steps.{steps_for}

@@ -12,8 +12,8 @@ use Rattle.fleet.specs.declared.member.MemberTurn.TheVariants as member
 use Rattle.fleet.specs.MemberTurns.{MemberTakesTurn, WritesLines}
 use Rattle.schedule_file.specs.declared.schedule.step.Step as code_step
 use Rattle.station_sim.specs.declared.sim.Sim.{Sim}
-use Rattle.station_replay.specs.Replay.{Item, start}
-use Rattle.station_replay.specs.Texts.{text}
+use Rattle.replay_laws.specs.Replay.{Item, start}
+use Rattle.replay_laws.specs.Texts.{text}
 use Rattle.schedule_replay.specs.declared.turns.ReplayRun.{ReplayRun}
 use Rattle.schedule_replay.specs.declared.turns.ReplayTurn.{ReplayTurn}
 use Rattle.schedule_replay.specs.declared.turns.ReplayTurn.TheVariants as replay
@@ -46,8 +46,10 @@ pub record RunTook {K : Type 0} (outlet : Outlet K) (steps : List code_step.Step
       → CutsRun (text_telling outlet) old.settings (start eeprom packet) (steps_for old.settings.period steps) items out out_then
   pub settings : new.settings ≡ old.settings
   pub turns : answer ≡ replay.More → new.turns ≡ old.turns + 1
+  pub not_counted : answer ≢ replay.More → new.turns ≡ old.turns
   pub one_turn : answer ≡ replay.More → IsOneTurn old new
   pub says_or_stores : answer ≡ replay.More → SaysOrStores line disk line_then disk_then
+  pub unseen_says_or_stores : answer ≡ replay.Unseen → SaysOrStores line disk line_then disk_then
   pub one_call : answer ≡ replay.More → is_some new.playing ≡ true → MakesOneCall line disk line_then disk_then
   pub ends_open : answer ≡ replay.Ended → is_some old.run.session ≡ true
   pub ends_alone : answer ≡ replay.Ended → (old.playing ≡ None) × (length steps ≤ old.taken)
@@ -182,9 +184,14 @@ module _ {K : Type 0} (outlet : Outlet K) (s : Station) (steps : List code_step.
     all_taken = subst (λ (xs : List code_step.Step). length xs ≤ s.run.taken) same (took.ends_alone is).1;
     is_open = took.ends_open is;
   }
-  one_by replay.Unseen is = tt
-  one_by replay.WriteFault is = tt
-  one_by replay.OutOfMemory is = tt
+  one_by replay.Unseen is = record {
+    not_counted = took.not_counted (λ more. absurd (let no : replay.Unseen ≡ replay.More = sym is ∙ more in cc));
+    says_or_stores = took.unseen_says_or_stores is;
+  }
+  one_by replay.WriteFault is =
+      took.not_counted (λ more. absurd (let no : replay.WriteFault ≡ replay.More = sym is ∙ more in cc))
+  one_by replay.OutOfMemory is =
+      took.not_counted (λ more. absurd (let no : replay.OutOfMemory ≡ replay.More = sym is ∙ more in cc))
 
   turned_by : (a : ReplayTurn) → answer ≡ a → StationTurned s (member_answer a ∷ [])
       (WritesLines outlet out (member_answer a) out_then) (with_parts s run line disk)

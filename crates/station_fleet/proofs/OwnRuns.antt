@@ -10,12 +10,12 @@ use Rattle.fleet.specs.declared.member.MemberTurn.TheVariants.{More, Ended, Unse
 use Rattle.fleet.specs.Crew.{Crew, OneTurn}
 use Rattle.fleet.specs.Log.{Along, BothIf, WrittenBy, answers_of}
 use Rattle.fleet.specs.MemberTurns.{texts_join}
-use Rattle.fleet.specs.StationLines.{AreUncut, station_lines}
+use Rattle.fleet.specs.StationLines.{AreUncutBeforeLast, station_lines}
 use Rattle.fleet.specs.TurnText.{TurnEntry, WritesTurn}
 use Rattle.fleet.proofs.Alone.{alone}
 use Rattle.fleet.proofs.LogText.{wrote_along}
 use Rattle.fleet.proofs.StationText.{together}
-use Rattle.station_replay.specs.Texts.{text}
+use Rattle.replay_laws.specs.Texts.{text}
 use Rattle.schedule_replay.specs.Replaying.{Course}
 use Rattle.station_fleet.specs.declared.station.Station.{Station}
 use Rattle.station_fleet.specs.Fleets.{Begin, EachRan}
@@ -188,7 +188,7 @@ module _ {K : Type 0} (outlet : Outlet K) where
     chosen : (station : ℕ) → Chosen station
     chosen station = chosen_by station _ refl _ refl
 
-    pub own_runs : AreUncut log
+    pub own_runs : AreUncutBeforeLast log
         → (text : List ℕ) × outlet.wrote before text after × EachRan settings course log new text
     own_runs uncut =
         let all = together outlet log (λ station. (chosen station).bytes) uncut (λ station. (chosen station).wrote) in (

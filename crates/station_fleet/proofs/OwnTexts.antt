@@ -1,6 +1,6 @@
 -- What a station of a fleet prints is what `replay` prints.
 use Rattle.std.proofs.Common.{ℕ, ◌≡◌, ◌≢◌, ◌≤◌, ◌-◌, ◌==◌, Bool, true, false, List, [], ◌∷◌, Some, refl, sym, ap, subst, ◌∙◌, arith, inl, inr}
-use Rattle.std.specs.Prelude.{slice_index_or}
+use Rattle.std.specs.Prelude.{slice_get, slice_index_or}
 use Rattle.std.specs.declared.option.Option.{Option}
 use Rattle.std.proofs.lemmas.Bool.Decides.{nat_tests}
 use Rattle.settings_file.specs.StationSettings.{StationSettings}
@@ -12,17 +12,18 @@ use Rattle.fleet.specs.declared.run.FleetEnd.TheVariants as fleet
 use Rattle.fleet.specs.Crew.{Crew, OneTurn, last_answer_of}
 use Rattle.fleet.specs.FleetEnds.{FleetEndsAs, RunsFleet}
 use Rattle.fleet.specs.Log.{Along, answers_of}
-use Rattle.fleet.specs.StationLines.{AreUncut, station_lines}
+use Rattle.fleet.specs.StationLines.{AreUncutBeforeLast, station_lines}
 use Rattle.fleet.specs.TurnText.{TurnEntry}
 use Rattle.fleet.proofs.LogSteps.{no_more}
-use Rattle.one_run.proofs.OneRun.{one_text}
-use Rattle.station_replay.specs.Replay.{IsReplay, Item}
-use Rattle.station_replay.specs.Texts.{text}
+use Rattle.one_text_laws.proofs.OneRun.{one_text}
+use Rattle.replay_laws.specs.Replay.{IsReplay, Item}
+use Rattle.replay_laws.specs.Texts.{text}
 use Rattle.schedule_replay.specs.Replaying.{Course}
 use Rattle.station_fleet.specs.declared.station.Station.{Station}
-use Rattle.station_fleet.specs.Fleets.{AllOver, Begin, EachOverReplays, EachReplays, RunIsOver, IsReplayText, NoneEnded}
+use Rattle.station_fleet.specs.Fleets.{AllOver, Begin, EachBegins, EachOverReplays, EachReplays, RunIsOver, IsReplayText, NoneEnded}
 use Rattle.station_fleet.specs.Outcomes.{TurnsComeTo, end_of_turns, only, course_start, course_steps}
 use Rattle.station_fleet.specs.StationTurns.{station_turning}
+use Rattle.station_fleet.proofs.BegunTexts.{text_begun}
 use Rattle.station_fleet.proofs.OwnRuns.{own_runs, was_member}
 
 -- the text of one run is that of each
@@ -130,19 +131,53 @@ module _ {K : Type 0} (outlet : Outlet K) where
       go again false other = rw other (again (last_other old along.mid e station along.turn from other ∙ more))
 
   module _ (settings : ℕ → StationSettings) (course : ℕ → Course) where
-    pub over_replays : (old new : Crew Station) (before after : K) (log : List (TurnEntry K))
-        → Along station_turning outlet old before log new after → Begin settings course old → AreUncut log → NoneEnded old
-        → (bytes : List ℕ) × outlet.wrote before bytes after × EachOverReplays settings course new bytes
-    over_replays old new before after log along begin uncut ready =
-        let all = own_runs outlet settings course old new before after log along begin uncut in (
-          all.0,
-          all.1,
-          λ station s from is over.
+    -- One text that the sink took, and what each station came to with its lines there, by its last answer.
+    record CameTo (new : Crew Station) (before after : K) : Type 0 where
+      bytes : List ℕ
+      wrote : outlet.wrote before bytes after
+      each : (station : ℕ) (s : Station) → 1 ≤ station → slice_get new.members (station - 1) ≡ Some s
+          → TurnsComeTo (Some (last_answer_of new station)) (settings station) (course station) []
+          (λ written. written ≡ station_lines station bytes) s
+
+    came_to : (old new : Crew Station) (before after : K) (log : List (TurnEntry K))
+        → Along station_turning outlet old before log new after → Begin settings course old → AreUncutBeforeLast log → NoneEnded old
+        → CameTo new before after
+    came_to old new before after log along begin uncut ready =
+        let all = own_runs outlet settings course old new before after log along begin uncut in
+        record {
+          bytes = all.0;
+          wrote = all.1;
+          each = λ station s from is.
               let was = was_member outlet old new before after log (station - 1) s along is in
               let goes = ready station was.0 from was.1 in
-              text_of_end (last_answer_of new station) (settings station) (course station) (station_lines station all.0) s over
-              (subst (λ (end : Option MemberTurn). TurnsComeTo end (settings station) (course station) [] (λ bytes. bytes ≡ station_lines station all.0) s)
-              (end_is old new before after log station from along goes.more) (all.2 station s from is)),
+              subst (λ (end : Option MemberTurn). TurnsComeTo end (settings station) (course station) [] (λ bytes. bytes ≡ station_lines station all.0) s)
+              (end_is old new before after log station from along goes.more) (all.2 station s from is);
+        }
+
+    overs : (new : Crew Station) (before after : K) (came : CameTo new before after) → EachOverReplays settings course new came.bytes
+    overs new before after came station s from is over =
+        text_of_end (last_answer_of new station) (settings station) (course station) (station_lines station came.bytes) s over
+        (came.each station s from is)
+
+    pub over_replays : (old new : Crew Station) (before after : K) (log : List (TurnEntry K))
+        → Along station_turning outlet old before log new after → Begin settings course old → AreUncutBeforeLast log → NoneEnded old
+        → (bytes : List ℕ) × outlet.wrote before bytes after × EachOverReplays settings course new bytes
+    over_replays old new before after log along begin uncut ready =
+        let came = came_to old new before after log along begin uncut ready in
+        (came.bytes, came.wrote, overs new before after came)
+
+    -- however the turns of a fleet ended
+    pub each_begins : (seed : ℕ) (old new : Crew Station) (before after : K) (end : FleetEnd)
+        → RunsFleet station_turning outlet seed old before end new after → Begin settings course old → NoneEnded old
+        → (bytes : List ℕ) × outlet.wrote before bytes after × EachBegins settings course new bytes
+        × EachOverReplays settings course new bytes
+    each_begins seed old new before after end ran begin ready =
+        let came = came_to old new before after ran.log ran.turns begin ran.uncut ready in (
+          came.bytes,
+          came.wrote,
+          λ station s from is. text_begun (last_answer_of new station) (settings station) (course station)
+              (station_lines station came.bytes) s (came.each station s from is),
+          overs new before after came,
         )
 
     -- all stations are over where none is open and none was cut off
@@ -154,14 +189,11 @@ module _ {K : Type 0} (outlet : Outlet K) where
     over_by OutOfMemory goes fits found = absurd (found refl)
 
     all_over : (end : FleetEnd) (log : List (TurnEntry K)) (last : List MemberTurn) → AllOver end → FleetEndsAs end log last
-        → AreUncut log × ((k : ℕ) → RunIsOver (slice_index_or last k Ended))
-    all_over (fleet.Done turns switches) log last over ends =
-        (ends.uncut, λ k. subst RunIsOver (sym (ends.ended k)) tt)
-    all_over (fleet.Unseen station) log last over ends = (
-      ends.uncut,
-      λ k. over_by (slice_index_or last k Ended) (λ more. absurd (no_more 1 last k ends.none_open more))
-          (ends.last_uncut k).0 (ends.last_uncut k).1,
-    )
+        → (k : ℕ) → RunIsOver (slice_index_or last k Ended)
+    all_over (fleet.Done turns switches) log last over ends = λ k. subst RunIsOver (sym (ends.ended k)) tt
+    all_over (fleet.Unseen station) log last over ends = λ k.
+        over_by (slice_index_or last k Ended) (λ more. absurd (no_more 1 last k ends.none_open more))
+        (ends.last_uncut k).0 (ends.last_uncut k).1
     all_over fleet.WriteFault log last over ends = absurd over
     all_over fleet.OutOfMemory log last over ends = absurd over
 
@@ -170,5 +202,5 @@ module _ {K : Type 0} (outlet : Outlet K) where
         → (bytes : List ℕ) × outlet.wrote before bytes after × EachReplays settings course new bytes
     each_replays seed old new before after end ran over begin ready =
         let all = all_over end ran.log new.last over ran.ends in
-        let each = over_replays old new before after ran.log ran.turns begin all.0 ready in
-        (each.0, each.1, λ station s from is. each.2 station s from is (all.1 (station - 1)))
+        let each = over_replays old new before after ran.log ran.turns begin ran.uncut ready in
+        (each.0, each.1, λ station s from is. each.2 station s from is (all (station - 1)))

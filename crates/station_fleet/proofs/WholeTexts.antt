@@ -19,9 +19,9 @@ use Rattle.weather_reports.specs.Line.{field_line, field_lines_from, sum_line, s
 use Rattle.weather_reports.specs.Report.{all_day_lines, day_lines, later_lines}
 use Rattle.station_session.specs.Attempts.{page_count, skip_count}
 use Rattle.station_sim.specs.declared.unseen.Unseen.{Unseen}
-use Rattle.station_replay.specs.Round.{Ending, tried_of}
-use Rattle.station_replay.specs.Replay.{Item, Rounded}
-use Rattle.station_replay.specs.Texts.{named_number, day_lines_text, end_line, ending_text, open_line, open_stop_line, round_line, rows_text_behind, rows_counted, rows_text, side_text, text, item_text, unseen_line}
+use Rattle.replay_laws.specs.Round.{Ending, made_attempts}
+use Rattle.replay_laws.specs.Replay.{Item, Rounded}
+use Rattle.replay_laws.specs.Texts.{named_number, day_lines_text, end_line, ending_text, open_line, open_stop_line, round_line, rows_text_behind, rows_counted, rows_text, side_text, text, item_text, unseen_line}
 
 -- Behind these bytes a line begins, wherever the first of them stands.
 record Closes (bytes : List ℕ) : Type 0 where
@@ -99,8 +99,8 @@ open_stop_closes k = line_closes (named_number (codes "open stop ") k) []
 
 round_closes : (x : Rounded) → Closes (round_line x)
 round_closes x = line_closes (named_number (codes "round ") x.number) (codes " " ∷ ending_text x.end
-    ∷ named_number (codes " attempts ") (length x.tried) ∷ named_number (codes " pages ") (page_count (tried_of x.tried))
-    ∷ named_number (codes " skipped ") (skip_count (tried_of x.tried)) ∷ named_number (codes " harmed ") x.harmed
+    ∷ named_number (codes " attempts ") (length x.tried) ∷ named_number (codes " pages ") (page_count (made_attempts x.tried))
+    ∷ named_number (codes " skipped ") (skip_count (made_attempts x.tried)) ∷ named_number (codes " harmed ") x.harmed
     ∷ named_number (codes " acked ") (length x.kept) ∷ rows_counted x.end (length x.rows) ∷ [])
 
 unseen_closes : (n : ℕ) (u : Unseen) → Closes (unseen_line n u)

@@ -1,5 +1,6 @@
 -- What the stations of a fleet come to.
-use Rattle.std.specs.Prelude.{ℕ, ◌≡◌, ◌≤◌, ◌-◌, List, [], slice_get, Some}
+use Rattle.std.specs.Prelude.{ℕ, ◌≡◌, ◌≤◌, ◌⊎◌, ◌-◌, List, [], slice_get, Some}
+use Rattle.causes.specs.Lists.{IsFrontOf}
 use Rattle.settings_file.specs.StationSettings.{StationSettings}
 use Rattle.fleet.specs.declared.member.MemberTurn.{MemberTurn}
 use Rattle.fleet.specs.declared.member.MemberTurn.TheVariants.{More, Ended, Unseen, WriteFault, OutOfMemory}
@@ -9,8 +10,10 @@ use Rattle.fleet.specs.Crew.{Crew, StationIsOpen, last_answer_of}
 use Rattle.fleet.specs.Log.{answers_of}
 use Rattle.fleet.specs.StationLines.{station_lines}
 use Rattle.fleet.specs.TurnText.{TurnEntry}
-use Rattle.station_replay.specs.Replay.{IsReplay, Item}
-use Rattle.station_replay.specs.Texts.{text}
+use Rattle.replay_laws.specs.Kept.{Kept}
+use Rattle.replay_laws.specs.Replay.{IsReplay, Item, RunIsBegun}
+use Rattle.replay_laws.specs.Schedule.{records}
+use Rattle.replay_laws.specs.Texts.{text}
 use Rattle.schedule_replay.specs.Replaying.{Course}
 use Rattle.station_fleet.specs.declared.station.Station.{Station}
 use Rattle.station_fleet.specs.Outcomes.{TurnsComeTo, StationStands, end_of_turns, course_start, course_steps}
@@ -60,6 +63,21 @@ abbrev pub EachReplays : (ℕ → StationSettings) → (ℕ → Course) → Crew
 EachReplays settings course crew bytes = (station : ℕ) (s : Station) → 1 ≤ station
     → slice_get crew.members (station - 1) ≡ Some s
     → IsReplayText (settings station) (course station) (station_lines station bytes)
+
+-- These lines are a prefix of the text of a run of the steps of this course, or of the beginning of one. All is kept of
+-- it.
+pub record BeginsReplayText (settings : StationSettings) (c : Course) (lines : List ℕ) : Type 0 where
+  pub run : List Item
+  pub is_begun : RunIsBegun settings (course_start c) (course_steps settings c) run
+      ⊎ IsReplay settings (course_start c) (course_steps settings c) run
+  pub kept : Kept settings (records (course_steps settings c)) run
+  pub front : IsFrontOf lines (text run)
+
+-- the lines of each station, without its number, are such a prefix
+abbrev pub EachBegins : (ℕ → StationSettings) → (ℕ → Course) → Crew Station → List ℕ → Type 0
+EachBegins settings course crew bytes = (station : ℕ) (s : Station) → 1 ≤ station
+    → slice_get crew.members (station - 1) ≡ Some s
+    → BeginsReplayText (settings station) (course station) (station_lines station bytes)
 
 -- the turns of a fleet came to the end of all stations
 abbrev pub AllOver : FleetEnd → Type 0

@@ -5,10 +5,10 @@ use Rattle.causes.specs.Lists.{IsFrontOf}
 use Rattle.settings_file.specs.StationSettings.{StationSettings}
 use Rattle.fleet.specs.declared.member.MemberTurn.{MemberTurn}
 use Rattle.fleet.specs.declared.member.MemberTurn.TheVariants.{More, Ended, Unseen, WriteFault, OutOfMemory}
-use Rattle.station_replay.specs.Kept.{Kept}
-use Rattle.station_replay.specs.Schedule.{ReplayStep, records}
-use Rattle.station_replay.specs.Replay.{RunIsBegun, IsReplay, IsUnseen, Item, Stage, start}
-use Rattle.station_replay.specs.Texts.{text}
+use Rattle.replay_laws.specs.Kept.{Kept}
+use Rattle.replay_laws.specs.Schedule.{ReplayStep, records}
+use Rattle.replay_laws.specs.Replay.{RunIsBegun, IsReplay, IsUnseen, Item, Stage, start}
+use Rattle.replay_laws.specs.Texts.{text}
 use Rattle.schedule_replay.specs.Replayed.{TookPart}
 use Rattle.schedule_replay.specs.Replaying.{Course, Replaying}
 use Rattle.schedule_replay.specs.Turns.{IsOneTurn}
@@ -20,7 +20,7 @@ use Rattle.station_fleet.specs.declared.station.Station.{Station}
 abbrev pub course_start : Course → Stage
 course_start c = start c.eeprom c.packet
 
--- its steps, as those of a run
+-- the steps of a course, as those of a run
 abbrev pub course_steps : StationSettings → Course → List ReplayStep
 course_steps settings c = steps_for settings.period c.steps
 
@@ -98,14 +98,26 @@ pub record IsAtEnd (s : Station) : Type 0 where
   pub all_taken : length s.schedule.steps.items ≤ s.run.taken
   pub is_open : is_some s.run.run.session ≡ true
 
--- the turns were taken one by one, up to the end if there is one; the end is a turn of its own
+-- A turn in which a delivery was unseen is one of its run, which counts none with more to come. It says or hears
+-- nothing, or begins no change of the disk.
+pub record BreaksInOneTurn (old new : Station) : Type 0 where
+  pub not_counted : new.run.turns ≡ old.run.turns
+  pub says_or_stores : SaysOrStores old.line old.disk new.line new.disk
+
+-- this is so of an end, if no turns come behind it
+abbrev pub IfLast : List MemberTurn → Type 0 → Type 0
+IfLast [] P = P
+IfLast (next ∷ later) P = Unit {0}
+
+-- the turns were taken one by one, up to the end if there is one; the end is a turn of its own, with which the run
+-- counts none
 abbrev pub TurnsOneByOne : Station → List MemberTurn → Station → Type 0
 TurnsOneByOne old [] new = new ≡ old
 TurnsOneByOne old (More ∷ later) new = (next : Station) × TakesOneTurn old next × TurnsOneByOne next later new
 TurnsOneByOne old (Ended ∷ later) new = IsAtEnd old
-TurnsOneByOne old (Unseen ∷ later) new = Unit {0}
-TurnsOneByOne old (WriteFault ∷ later) new = Unit {0}
-TurnsOneByOne old (OutOfMemory ∷ later) new = Unit {0}
+TurnsOneByOne old (Unseen ∷ later) new = IfLast later (BreaksInOneTurn old new)
+TurnsOneByOne old (WriteFault ∷ later) new = IfLast later (new.run.turns ≡ old.run.turns)
+TurnsOneByOne old (OutOfMemory ∷ later) new = IfLast later (new.run.turns ≡ old.run.turns)
 
 -- By no turns a station stays, and no text at all is of this kind.
 pub record NoTurns (old : Station) (P : List ℕ → Type 0) (new : Station) : Type 0 where

@@ -17,7 +17,7 @@ member_answer replay.Unseen = member.Unseen
 member_answer replay.WriteFault = member.WriteFault
 member_answer replay.OutOfMemory = member.OutOfMemory
 
--- it may take a turn where its run may, and has as many left
+-- what a station tells of its turns: it may take one if its run may, and has as many left
 abbrev pub station_turning : Turning Station
 station_turning = record {
   may_turn = λ s. MayTurn s.schedule.steps.items s.line s.disk s.run;

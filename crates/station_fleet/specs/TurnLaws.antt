@@ -8,15 +8,16 @@ use Rattle.fleet.specs.declared.member.MemberTurn.{MemberTurn}
 use Rattle.fleet.specs.declared.member.MemberTurn.TheVariants.{More, Ended, Unseen, WriteFault, OutOfMemory}
 use Rattle.fleet.specs.MemberTurns.{Both, texts_join}
 use Rattle.fleet.proofs.Fronts.{front_behind}
-use Rattle.station_replay.specs.Kept.{Kept}
-use Rattle.station_replay.specs.Schedule.{records}
-use Rattle.station_replay.specs.Replay.{RunIsBegun, IsReplay, IsUnseen, Item}
-use Rattle.station_replay.specs.Texts.{text}
+use Rattle.replay_laws.specs.Kept.{Kept}
+use Rattle.replay_laws.specs.Schedule.{records}
+use Rattle.replay_laws.specs.Replay.{RunIsBegun, IsReplay, IsUnseen, Item}
+use Rattle.replay_laws.specs.Texts.{text}
 use Rattle.schedule_replay.specs.Replayed.{TookPart}
 use Rattle.schedule_replay.specs.Replaying.{Course}
 use Rattle.schedule_replay.specs.TextTelling.{text_join}
 use Rattle.station_fleet.specs.declared.station.Station.{Station}
-use Rattle.station_fleet.specs.Outcomes.{TurnsComeTo, TurnsLeadTo, TurnsOneByOne, Cuts, StationStands, StationTurned}
+use Rattle.station_fleet.specs.Outcomes.{TurnsComeTo, TurnsLeadTo, TurnsOneByOne, BreaksInOneTurn, Cuts, IfLast}
+use Rattle.station_fleet.specs.Outcomes.{StationStands, StationTurned}
 use Rattle.station_fleet.specs.Outcomes.{end_of_turns, only, course_start, course_steps}
 
 pub turned_none : (s : Station) → StationTurned s [] (λ bytes. bytes ≡ []) s
@@ -190,15 +191,24 @@ led_joins l m n (answer ∷ first) (next ∷ later) P Q one two = λ settings c 
     (sym (end_joins (answer ∷ first) next later))
     (comes_joins (end_of_turns (answer ∷ first)) next later settings c items P Q m n (one settings c items stands) two)
 
+-- an end that is the last of these turns
+if_last : (P : Station → Type 0) (m n : Station) (first later : List MemberTurn) → IfLast first (P m)
+    → TurnsOneByOne m later n → IfLast (first ++ later) (P n)
+if_last P m n [] [] one two = subst P (sym two) one
+if_last P m n [] (next ∷ later) one two = tt
+if_last P m n (answer ∷ first) later one two = tt
+
 one_by_one_joins : (l m n : Station) (first later : List MemberTurn) → TurnsOneByOne l first m → TurnsOneByOne m later n
     → TurnsOneByOne l (first ++ later) n
 one_by_one_joins l m n [] later one two = subst (λ (s : Station). TurnsOneByOne s later n) one two
 one_by_one_joins l m n (More ∷ first) later one two =
     (one.0, one.1, one_by_one_joins one.0 m n first later one.2 two)
 one_by_one_joins l m n (Ended ∷ first) later one two = one
-one_by_one_joins l m n (Unseen ∷ first) later one two = tt
-one_by_one_joins l m n (WriteFault ∷ first) later one two = tt
-one_by_one_joins l m n (OutOfMemory ∷ first) later one two = tt
+one_by_one_joins l m n (Unseen ∷ first) later one two = if_last (BreaksInOneTurn l) m n first later one two
+one_by_one_joins l m n (WriteFault ∷ first) later one two =
+    if_last (λ (s : Station). s.run.turns ≡ l.run.turns) m n first later one two
+one_by_one_joins l m n (OutOfMemory ∷ first) later one two =
+    if_last (λ (s : Station). s.run.turns ≡ l.run.turns) m n first later one two
 
 pub turned_joins : (l m n : Station) (first later : List MemberTurn) (P Q : List ℕ → Type 0) → StationTurned l first P m
     → StationTurned m later Q n → StationTurned l (first ++ later) (Both P Q) n

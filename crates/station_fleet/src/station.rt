@@ -4,7 +4,7 @@ ghost use Rattle.schedule_steps.specs.Accepted.{ScheduleIsAccepted};
 ghost use Rattle.schedule_replay.specs.Replayed.{IsNewDisk};
 ghost use Rattle.schedule_replay.specs.Standing.{LineAt};
 ghost use Rattle.schedule_replay.specs.Turns.{RunIsNew};
-ghost use Rattle.station_replay.specs.Replay.{start};
+ghost use Rattle.replay_laws.specs.Replay.{start};
 ghost use Rattle.station_fleet.specs.Outcomes.{StationStands};
 ghost use Rattle.station_fleet.specs.StationTurns.{member_answer};
 

@@ -1,7 +1,7 @@
 use Rattle.std.proofs.Common.{◌∙◌}
 use Rattle.console_model.specs.Console.{fresh_console}
 use Rattle.eeprom_map.specs.Memory.{new_memory}
-use Rattle.station_replay.specs.Replay.{start}
+use Rattle.replay_laws.specs.Replay.{start}
 use Rattle.model_commands.proofs.BeforeRounds.{before_first, run_before}
 use Rattle.model_commands.proofs.laws.a_served_console_is_that_of_a_run.Goals as goal
 

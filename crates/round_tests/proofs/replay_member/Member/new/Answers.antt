@@ -1,6 +1,6 @@
 use Rattle.std.proofs.Common.{◌≡◌, ℕ, [], length, sym, ◌∙◌, ap, subst, rules}
 use Rattle.eeprom_map.specs.Memory.{new_memory}
-use Rattle.station_replay.specs.Schedule.{records}
+use Rattle.replay_laws.specs.Schedule.{records}
 use Rattle.schedule_steps.specs.Accepted.{AreAccepted}
 use Rattle.schedule_replay.specs.Replayed.{IsNewDisk}
 use Rattle.schedule_steps.specs.Steps.{steps_for}
