@@ -1,5 +1,6 @@
 -- What the words of the command line ask for.
-use Rattle.std.specs.Prelude.{ℕ, ◌-◌, ◌^◌, ◌&&◌, if◌then◌else◌, List, [], ◌∷◌, map, bytes_eq, codes, length, nat_le, Some, None, option_map}
+use Rattle.std.specs.Prelude.{ℕ, ◌-◌, ◌^◌, ◌&&◌, if◌then◌else◌, List, [], ◌∷◌, map, bytes_eq, codes, length, nat_le}
+use Rattle.std.specs.Prelude.{Some, None, option_map}
 use Rattle.std.specs.Borrow.{Bor}
 use Rattle.std.specs.declared.option.Option.{Option}
 use Rattle.command_words.specs.Numbers.{command_number_within, year_within}
@@ -127,7 +128,8 @@ console_in words = None
 unfoldable pub fleet_in : List (List ℕ) → Option CommandLine
 fleet_in (settings ∷ seed ∷ schedules) = do
   number ← command_number_within 0 (2 ^ 31 - 1) seed
-  only_if (nat_le 1 (length schedules) && nat_le (length schedules) 8) (fleet (record { settings = settings; seed = number; schedules = schedules }))
+  only_if (nat_le 1 (length schedules) && nat_le (length schedules) 8)
+      (fleet (record { settings = settings; seed = number; schedules = schedules }))
 fleet_in words = None
 
 -- `SEED N`, a number below 2^31, and 1 to 5,000

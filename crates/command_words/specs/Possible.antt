@@ -17,8 +17,8 @@ CanBeMade (SetClock time) = can_be_shown time ≡ true
 CanBeMade (SetPeriod minutes) = Unit {0}
 CanBeMade Kind = Unit {0}
 
--- the command's task, if it is one, can be asked, its year has days, its rounds can be counted, its turns can be drawn, and its run
--- can be made
+-- the command's task, if it is one, can be asked, its year has days, its rounds can be counted, its turns can be drawn,
+-- and its run can be made
 abbrev pub IsPossible : CommandLine → Type 0
 IsPossible (task address asked) = CanBeMade asked
 IsPossible (climate archive year) = (1999 ≤ year) × (year ≤ 2127)

@@ -1,9 +1,7 @@
 -- A service: each fault has a cause, and over an archive only a fault or want of memory keeps it from all of its turns.
-use Rattle.std.proofs.Common.{◌≡◌, ◌≢◌, ℕ, List, [], ◌∷◌, Option, false, refl, sym, subst, ◌∙◌, arith, inl, inr}
-use Rattle.std.specs.Option.{IsSomeAnd}
+use Rattle.std.proofs.Common.{◌≡◌, ◌≢◌, ℕ, List, [], ◌∷◌, refl, sym, subst, ◌∙◌, arith, inl, inr}
 use Rattle.std.specs.declared.result.Result.{Result}
 use Rattle.disk_model.specs.Medium.{Medium}
-use Rattle.gated_log.specs.declared.start.Purpose.TheVariants.{Read}
 use Rattle.query_service.specs.Service.{ReadsFor}
 use Rattle.query_service.specs.declared.service.QueryEnd.{QueryEnd}
 use Rattle.query_service.specs.declared.service.QueryEnd.TheVariants as query_end
@@ -18,14 +16,13 @@ use Rattle.run_output.specs.declared.outside.Outside.{Outside}
 use Rattle.run_output.specs.declared.status.Status.{Status}
 use Rattle.run_output.specs.declared.status.Status.TheVariants as ends
 use Rattle.run_output.proofs.Behind.{then_has}
-use Rattle.run_output.proofs.CallCauses.{attaches_causes, calls_causes}
+use Rattle.run_output.proofs.CallCauses.{calls_causes}
 use Rattle.run_output.proofs.Causes.{CausesBut, none_well, same_count, then_causes_but}
-use Rattle.run_output.proofs.Statuses.{attach_ends, call_ends, ends_among, ends_so, has_status}
+use Rattle.run_output.proofs.Statuses.{call_ends, ends_among, ends_so, has_status}
 use Rattle.commands.specs.AnswerRun.{answers, answers_over, queries_output}
-use Rattle.commands.specs.ReportRun.{FileHoldsRows, TellsArchive}
-use Rattle.commands.proofs.RecoveryLaws.{recovers_causes}
-use Rattle.commands.proofs.ReportLaws.{IsReported, told_ends}
-use Rattle.station_base.specs.Limits.{most_rows}
+use Rattle.commands.specs.ReportRun.{TellsArchive}
+use Rattle.commands.proofs.RecoveryLaws.{reads_archive_causes}
+use Rattle.commands.proofs.ReportLaws.{IsReported, archive_ends}
 
 -- the link's faults go before one of the disk
 abbrev pub cut_off : List Status
@@ -86,10 +83,9 @@ answers_causes {F} {K} {L} {D} m turns book old new result did =
 pub answers_over_causes : {F K L D : Type 0} (m : Meanings F K L D) (archive address : List ℕ) (turns : ℕ)
     → CausesBut m (EndsAmong cut_off) (answers_over m archive address turns)
 answers_over_causes m archive address turns =
-    then_causes_but m (EndsAmong cut_off) _ _ (attaches_causes m archive false) (λ _.
-    then_causes_but m (EndsAmong cut_off) _ _ (recovers_causes m most_rows Read) (λ book.
+    then_causes_but m (EndsAmong cut_off) _ _ (reads_archive_causes m archive) (λ book.
     then_causes_but m (EndsAmong cut_off) _ _ (calls_causes m Serve address) (λ _. answers_causes m turns book)
-    (λ output is. inr (inl is))) (λ output is. inr (inl is))) (λ output is. inr (inl is))
+    (λ output is. inr (inl is))) (λ output is. inr (inl is))
 
 reported : (status : Status) → IsReported status → IsAnswered status
 reported status (inl done) = inl done
@@ -111,11 +107,8 @@ pub answers_over_complete : {F K L D : Type 0} (m : Meanings F K L D) (archive a
 answers_over_complete m archive address turns old new ended tells did =
     let Q : Result Lines Output → Type 0 = λ result. IsAnswered (output_of result).status in
     then_has Q _ _ old new ended
-    (λ output mid one. inr (inr (inl (attach_ends _ _ _ _ _ output one.0))))
-    (λ a mid one. then_has Q _ _ mid new ended
-    (λ output at two. reported output.status (told_ends (m.medium.seen mid.disk) two.0.start output
-    (subst (λ (told : Option (List ℕ)). IsSomeAnd told FileHoldsRows) (sym one.0.did.stays.reads) tells) two.0.finds two.0.given))
-    (λ book at two. then_has Q _ _ at new ended
-    (λ output w three. inr (inl (call_ends _ _ _ _ _ output three.0)))
-    (λ _ called three four. subst (λ (output : Output). IsAnswered output.status) (sym four.given) (answered_as four.end four.lines))))
+    (λ output mid one. reported output.status (archive_ends m archive old mid output tells one))
+    (λ book at one. then_has Q _ _ at new ended
+    (λ output w two. inr (inl (call_ends _ _ _ _ _ output two.0)))
+    (λ _ called two three. subst (λ (output : Output). IsAnswered output.status) (sym three.given) (answered_as three.end three.lines)))
     did

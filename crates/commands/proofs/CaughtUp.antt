@@ -13,7 +13,7 @@ use Rattle.serial_link.specs.Traffic.{Traffic}
 use Rattle.settings_file.specs.StationSettings.{StationSettings}
 use Rattle.station_base.specs.CivilMinute.{CivilMinute}
 use Rattle.station_base.specs.declared.row.Row.{Row}
-use Rattle.station_session.specs.Attempts.{Attempts, Tried, all_said}
+use Rattle.station_session.specs.Attempts.{AreAttempts, MadeAttempt, all_said}
 use Rattle.station_session.specs.declared.report.Report.{Report}
 use Rattle.station_session.specs.declared.round_end.RoundEnd.{RoundEnd}
 use Rattle.station_session.specs.declared.round_end.RoundEnd.TheVariants as round
@@ -60,7 +60,7 @@ recovers_rows rows None is can did = absurd can
 recovers_rows rows (Some file) is can did = rw did.given (finds_rows did.start file rows can (did.finds file is))
 
 -- what a link gained in a round is the talk that is shown
-same_talk : {L : Type 0} {traffic : Traffic L} {last : Option CivilMinute} {old mid new : L} (tries : List Tried) → traffic.talk mid ≡ traffic.talk old
+same_talk : {L : Type 0} {traffic : Traffic L} {last : Option CivilMinute} {old mid new : L} (tries : List MadeAttempt) → traffic.talk mid ≡ traffic.talk old
     → Adds traffic mid (all_said tries) new → (shown : ShowsWhole traffic last old new) → all_said tries ≡ all_said shown.tries
 same_talk {traffic = traffic} {mid = mid} tries silent adds shown =
     let told : traffic.talk mid ≡ Some shown.before = silent ∙ shown.told in
@@ -79,6 +79,6 @@ pub rounds_settled : {F K L D : Type 0} {m : Meanings F K L D} {settings : Stati
     {old new : Outside F K L D} {ended : Result Lines Output} → last_stamp_of book ≡ last → m.traffic.talk old.link ≡ m.traffic.talk link
     → ShowsWhole m.traffic last link new.link → rounds m settings book old ended new → IsSettled (output_of ended).status
 rounds_settled {last = last} is silent shown did =
-    let attempts = subst (λ (l : Option CivilMinute). Attempts 0 l did.serves.tries did.end) (sym did.stands.stands_for.stamp_is ∙ is) did.serves.attempts in
+    let attempts = subst (λ (l : Option CivilMinute). AreAttempts 0 l did.serves.tries did.end) (sym did.stands.stands_for.stamp_is ∙ is) did.serves.attempts in
     let may = one_round 0 last did.serves.tries shown.tries did.end attempts shown.whole (same_talk did.serves.tries silent did.serves.adds shown) in
     subst (λ (o : Output). IsSettled o.status) (sym did.given) (round_settled did.end did.report may)

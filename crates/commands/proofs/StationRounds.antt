@@ -1,10 +1,10 @@
 -- A stay leaves what as many rounds of `station` could leave.
-use Rattle.std.proofs.Common.{◌≡◌, ◌≢◌, ℕ, zero, suc, ◌+◌, ◌≤◌, Bool, true, false, List, Ok, Err, refl, sym, ap, subst, ◌∙◌, arith}
+use Rattle.std.proofs.Common.{◌≡◌, ℕ, zero, suc, ◌+◌, Bool, true, false, List, Ok, Err, refl, sym, ap, subst, ◌∙◌, arith}
 use Rattle.std.specs.declared.result.Result.{Result}
 use Rattle.packed_rows.specs.Rising.{last_row_stamp}
 use Rattle.settings_file.specs.StationSettings.{StationSettings}
 use Rattle.station_base.specs.declared.row.Row.{Row}
-use Rattle.station_session.specs.Attempts.{Tried, all_batches}
+use Rattle.station_session.specs.Attempts.{MadeAttempt, all_batches}
 use Rattle.station_session.specs.Holding.{rows_after_batches}
 use Rattle.station_session.specs.Round.{stale_with}
 use Rattle.station_session.specs.Session.{book_of, session_is_stale, session_most_rows, session_settings}
@@ -76,7 +76,7 @@ module _ {F K L D : Type 0} (m : Meanings F K L D) where
           alone = refl;
         };
         before = refl;
-        behind = ap (λ (tries : List Tried). rows_after_batches (session_settings began.session) began.rows (all_batches (last_row_stamp began.rows) tries)) (sym over.1);
+        behind = ap (λ (tries : List MadeAttempt). rows_after_batches (session_settings began.session) began.rows (all_batches (last_row_stamp began.rows) tries)) (sym over.1);
       }
 
   one_round : (settings : StationSettings) (made : ℕ) (began : Standing) (old new : Outside F K L D) (result : Result Standing Output) (did : stay_round m made began old result new)

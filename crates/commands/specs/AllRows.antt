@@ -6,7 +6,7 @@ use Rattle.disk_model.specs.Medium.{Medium}
 use Rattle.station_base.specs.declared.row.Row.{Row}
 use Rattle.weather_book.specs.Stands.{ReadsRows}
 use Rattle.weather_reports.specs.Reported.{text_of_lines}
-use Rattle.commands.specs.ReportRun.{lines_wanted}
+use Rattle.commands.specs.ReportLines.{lines_wanted}
 
 -- a report of the rows of all days, from 1999-12-31 to 2127-12-31
 abbrev pub wanting_all_rows : Wanted

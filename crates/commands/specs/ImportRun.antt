@@ -1,4 +1,5 @@
--- What a run does that imports the rows of a text: its reading, its one attach, the import, and the line that is given of it.
+-- What a run does that imports the rows of a text: its reading, its one attach, the import, and the line that is given
+-- of it.
 use Rattle.std.specs.Prelude.{ℕ, ◌≡◌, ◌≤◌, true, List, ◌++◌, codes, decimal, length, Ok, Err, IsOk}
 use Rattle.std.specs.declared.result.Result.{Result}
 use Rattle.archive_import.specs.ImportsText.{ImportsText}
@@ -41,7 +42,8 @@ judges_rows text old result new = (result ≡ rows_judged (row_count_of (rows_of
 -- `imported`, how many rows were appended, how many were passed over, and how many the archive has
 abbrev pub imported_line : Imported → List ℕ
 imported_line done =
-    codes "imported " ++ decimal done.added ++ codes " passed " ++ decimal done.passed ++ codes " rows " ++ decimal done.rows
+    codes "imported " ++ decimal done.added ++ codes " passed " ++ decimal done.passed ++ codes " rows "
+    ++ decimal done.rows
     ++ codes "\n"
 
 -- the line of an import that ended so, and the status
@@ -61,8 +63,8 @@ pub record imports {D : Type 0} (medium : Medium D) (text : List ℕ) (old : D) 
   pub did : ImportsText medium end text old new
   pub given : output_of result ≡ import_output end
 
--- The file of the one name is read and judged. Then that of the other name is attached, made where there is none, and the
--- rows of the text are imported into it.
+-- The file of the one name is read and judged. Then that of the other name is attached, made where there is none, and
+-- the rows of the text are imported into it.
 abbrev pub imports_on : {F K L D : Type 0} → Meanings F K L D → List ℕ → List ℕ → CommandStep (Outside F K L D) Lines
 imports_on m rows archive =
     then (over_files (reads m.shelf rows)) (λ file.

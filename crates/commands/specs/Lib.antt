@@ -1,5 +1,6 @@
 pub mod AllRows
 pub mod AnswerRun
+pub mod ArchiveReport
 pub mod ClimateRun
 pub mod CopyRun
 pub mod GoodFile
@@ -9,6 +10,7 @@ pub mod PageRun
 pub mod PageText
 pub mod Pause
 pub mod Recovery
+pub mod ReportLines
 pub mod ReportRun
 pub mod SlotText
 pub mod SoftRun

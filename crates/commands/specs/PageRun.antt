@@ -16,7 +16,8 @@ prints_file m style name =
     over_out (streams m.outlet (listing style file.items)))
 
 -- The settings are read and judged, before the file is.
-abbrev pub prints_corrected : {F K L D : Type 0} → Meanings F K L D → List ℕ → List ℕ → CommandStep (Outside F K L D) Lines
+abbrev pub prints_corrected : {F K L D : Type 0} → Meanings F K L D → List ℕ → List ℕ
+    → CommandStep (Outside F K L D) Lines
 prints_corrected m settings name =
     then (over_files (settles m.shelf settings)) (λ settings.
     prints_file m (corrected settings) name)

@@ -1,4 +1,4 @@
--- The step that recovers the archive of a file.
+-- The steps that recover the archive of a file, to be read or written.
 use Rattle.std.specs.Prelude.{ℕ, ◌≡◌, ◌≢◌, ◌-◌, false, List, ◌++◌, Ok, Err, IfOk, codes, decimal}
 use Rattle.std.specs.declared.result.Result.{Result}
 use Rattle.causes.specs.Told.{WhereTold}
@@ -7,6 +7,8 @@ use Rattle.disk_model.specs.Medium.{Medium}
 use Rattle.gated_log.specs.Calls.{RecoveryCalls}
 use Rattle.gated_log.specs.Start.{OnRead, OnWrite}
 use Rattle.gated_log.specs.declared.start.Purpose.{Purpose}
+use Rattle.gated_log.specs.declared.start.Purpose.TheVariants.{Read}
+use Rattle.station_base.specs.Limits.{most_rows}
 use Rattle.station_base.specs.declared.row.Row.{Row}
 use Rattle.weather_book.specs.Book.{book_is_stale, most_rows_of}
 use Rattle.weather_book.specs.Stands.{HasRows, NowHasRows, ReadsRows, StandsOn, StandsToReadOn}
@@ -14,8 +16,12 @@ use Rattle.weather_book.specs.Start.{FindsBook, is_book_fault, book_slots_found}
 use Rattle.weather_book.specs.declared.book.Book.{Book}
 use Rattle.weather_book.specs.declared.start.BookStart.{BookStart}
 use Rattle.weather_book.specs.declared.start.BookStart.TheVariants as found
+use Rattle.run_output.specs.Calls.{attaches}
 use Rattle.run_output.specs.MemoryText.{bytes_line}
 use Rattle.run_output.specs.Output.{Output, disk_fault, no_memory}
+use Rattle.run_output.specs.Outside.{Meanings, over_disk}
+use Rattle.run_output.specs.Steps.{CommandStep, then}
+use Rattle.run_output.specs.declared.outside.Outside.{Outside}
 use Rattle.run_output.specs.declared.status.Status.TheVariants as ends
 
 -- `not an archive` and the first eight bytes of the file, two hexadecimal digits each
@@ -50,7 +56,8 @@ pub record recovers {D : Type 0} (medium : Medium D) (most : ℕ) (purpose : Pur
   pub start : BookStart
   pub given : result ≡ book_found start
   pub finds : WhereTold (medium.seen old) (FindsBook purpose start)
-  pub calls : RecoveryCalls medium old new (medium.moment new - medium.moment old) (book_slots_found start) (is_book_fault start)
+  pub calls : RecoveryCalls medium old new (medium.moment new - medium.moment old) (book_slots_found start)
+      (is_book_fault start)
   pub cause : Faults medium old new (start ≡ found.DiskFault)
   pub begun : BeginsChanges medium 3 old new
   pub fresh : IfOk result (λ book. (book_is_stale book ≡ false) × (most_rows_of book ≡ most))
@@ -62,3 +69,8 @@ pub record recovers {D : Type 0} (medium : Medium D) (most : ℕ) (purpose : Pur
       → LeavesOnly medium (HasRows rows) old new)
   pub to_write : OnWrite purpose (IfOk result (λ book. (rows : List Row)
       × StandsOn medium book new rows × ReadsRows medium old rows))
+
+-- The file of this name is attached, without making it, and its archive is recovered to be read.
+abbrev pub reads_archive : {F K L D : Type 0} → Meanings F K L D → List ℕ → CommandStep (Outside F K L D) Book
+reads_archive m archive =
+    then (over_disk (attaches m.medium archive false)) (λ _. over_disk (recovers m.medium most_rows Read))

@@ -1,5 +1,6 @@
 -- What a run does that makes rows of a file of packets: which files it reads, in which order, and what is written.
-use Rattle.std.specs.Prelude.{ℕ, ◌≡◌, ◌⊎◌, ◌*◌, ◌<◌, ◌≤◌, List, [], ◌++◌, None, codes, length, take, drop, IsOkAnd, IsSomeAnd}
+use Rattle.std.specs.Prelude.{ℕ, ◌≡◌, ◌⊎◌, ◌*◌, ◌<◌, ◌≤◌, List, [], ◌++◌, None, codes, length, take, drop, IsOkAnd}
+use Rattle.std.specs.Prelude.{IsSomeAnd}
 use Rattle.std.specs.List.{AllZip, flat_map}
 use Rattle.std.specs.Simd.{first_chunks}
 use Rattle.std.specs.declared.result.Result.{Result}
@@ -49,7 +50,8 @@ pub record BeginsWithEntries (period : ℕ) (file : List ℕ) (entries : List En
 -- What comes behind them, 104 bytes or as many as there are, is no entry that can follow.
 pub record IsBadBehind (period : ℕ) (file : List ℕ) (entries : List Entry) : Type 0 where
   pub more : packet_entry_size * length entries < length file
-  pub bad : (e : Entry) → ¬ IsGood period entries (take packet_entry_size (drop (packet_entry_size * length entries) file)) e
+  pub bad : (e : Entry) → ¬ IsGood period entries (take packet_entry_size
+      (drop (packet_entry_size * length entries) file)) e
 
 -- at the end of the file the rows are those of all intervals
 abbrev pub AtEnd : ℕ → List ℕ → List Entry → List Row → Output → Type 0
@@ -94,4 +96,5 @@ pub record IsEntryFile (period : ℕ) (file : List ℕ) : Type 0 where
 -- both files are told: settings that are accepted, and a file of good entries by their period
 abbrev pub HasEntries : {F : Type 0} → Shelf F → List ℕ → List ℕ → F → Type 0
 HasEntries shelf settings name files = IsSomeAnd (shelf.held files settings) (λ text.
-    (length text ≤ most_bytes) × IsOkAnd (settings_of text) (λ s. IsSomeAnd (shelf.held files name) (IsEntryFile s.period)))
+    (length text ≤ most_bytes) × IsOkAnd (settings_of text)
+    (λ s. IsSomeAnd (shelf.held files name) (IsEntryFile s.period)))

@@ -14,7 +14,7 @@ use Rattle.serial_link.specs.declared.talk.TalkItem.{TalkItem}
 use Rattle.settings_file.specs.StationSettings.{StationSettings}
 use Rattle.station_base.specs.CivilMinute.{CivilMinute}
 use Rattle.station_base.specs.declared.row.Row.{Row}
-use Rattle.station_session.specs.Attempts.{Attempts, Tried, all_said}
+use Rattle.station_session.specs.Attempts.{AreAttempts, MadeAttempt, all_said}
 use Rattle.station_session.specs.Report.{IsNew, acked}
 use Rattle.station_session.specs.Round.{AnswersRound, LeavesRound, ServesRound, round_host}
 use Rattle.station_session.specs.Session.{book_of, held, session_settings}
@@ -116,7 +116,8 @@ pub record rounds {F K L D : Type 0} (m : Meanings F K L D) (settings : StationS
 
 -- a new report was made, or there was no memory for it
 abbrev pub has_report : {W : Type 0} → CommandStep W Report
-has_report old result new = IfOk result (λ report. IsNew report) × IfErr result (λ output. output ≡ no_memory) × (new ≡ old)
+has_report old result new =
+    IfOk result (λ report. IsNew report) × IfErr result (λ output. output ≡ no_memory) × (new ≡ old)
 
 -- The settings are read and judged, the archive is attached, made where there is none, and recovered to be written,
 -- the console is called, and the round is made.
@@ -133,10 +134,10 @@ catches_up m names =
 -- the first after this stamp, and each later one after the last record kept.
 pub record ShowsWhole {L : Type 0} (traffic : Traffic L) (last : Option CivilMinute) (old new : L) : Type 0 where
   pub before : List TalkItem
-  pub tries : List Tried
+  pub tries : List MadeAttempt
   pub told : traffic.talk old ≡ Some before
   pub grown : traffic.talk new ≡ Some (before ++ all_said tries)
-  pub whole : Attempts 0 last tries round.Done
+  pub whole : AreAttempts 0 last tries round.Done
 
 -- The disk tells an archive with these rows to which more may be added, and what the link gained shows a whole attempt
 -- after the last of them.

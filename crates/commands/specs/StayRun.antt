@@ -1,6 +1,7 @@
 -- What a run does that makes round after round over one line: its one attach, its one recovery, its one connect, the
 -- rounds with the pauses between them, what is written of each as it ends, and what is given at the end.
-use Rattle.std.specs.Prelude.{ℕ, zero, suc, ◌≡◌, ◌⊎◌, ◌+◌, Bool, true, false, List, ◌++◌, codes, decimal, length, nat_lt}
+use Rattle.std.specs.Prelude.{ℕ, zero, suc, ◌≡◌, ◌⊎◌, ◌+◌, Bool, true, false, List, ◌++◌, codes, decimal, length}
+use Rattle.std.specs.Prelude.{nat_lt}
 use Rattle.std.specs.Prelude.{Ok, Err, IfErr, IsSomeAnd}
 use Rattle.std.specs.Io.KnownBytes.{Appends}
 use Rattle.std.specs.declared.result.Result.{Result}
@@ -119,14 +120,17 @@ pub record stay_round {F K L D : Type 0} (m : Meanings F K L D) (made : ℕ) (be
   pub leaves : LeavesRound m.medium end (round_host began.session old.link old.disk)
       (round_host ended new.link new.disk) report.attempts
   pub answer : Result (Unit {0}) Output
-  pub told : tells_round (round_may_follow end (give_ups_after end began.give_ups)) m.outlet end report made old.out answer new.out
+  pub told : tells_round (round_may_follow end (give_ups_after end began.give_ups)) m.outlet end report made old.out
+      answer new.out
   pub given : result ≡ where_done (standing ended (give_ups_after end began.give_ups)
-      (rows_after_batches (session_settings began.session) began.rows (all_batches (last_row_stamp began.rows) serves.tries))) answer
+      (rows_after_batches (session_settings began.session) began.rows
+      (all_batches (last_row_stamp began.rows) serves.tries))) answer
   pub alone : new ≡ record old { link = new.link; disk = new.disk; out = new.out }
 
 -- a new report was made, or there was no memory for it
 abbrev pub has_report_after : {W : Type 0} → ℕ → CommandStep W (Unit {0})
-has_report_after made old result new = IfErr result (λ output. output ≡ led_by (stayed_line made) no_memory) × (new ≡ old)
+has_report_after made old result new =
+    IfErr result (λ output. output ≡ led_by (stayed_line made) no_memory) × (new ≡ old)
 
 -- So many rounds follow, after so many, each from where the one before and the pause behind it left session, link and
 -- disk. Each is a round as `station` makes it.
@@ -139,8 +143,8 @@ stays m waits (suc left) made began =
     stays m waits left (made + 1) ended)))
 
 -- A new session of this book and these settings makes so many rounds. The book stands for rows of the disk.
-pub record stays_by {F K L D : Type 0} (m : Meanings F K L D) (rounds waits : ℕ) (settings : StationSettings) (book : Book)
-    (old : Outside F K L D) (result : Result Lines Output) (new : Outside F K L D) : Type 0 where
+pub record stays_by {F K L D : Type 0} (m : Meanings F K L D) (rounds waits : ℕ) (settings : StationSettings)
+    (book : Book) (old : Outside F K L D) (result : Result Lines Output) (new : Outside F K L D) : Type 0 where
   pub session : Session
   pub rows : List Row
   pub book_is : book_of session ≡ book
@@ -150,7 +154,8 @@ pub record stays_by {F K L D : Type 0} (m : Meanings F K L D) (rounds waits : �
 
 -- The settings are read and judged, the archive is attached, made where there is none, and recovered to be written, the
 -- console is called, each once, and then up to so many rounds are made, with pauses of so many waits between them.
-abbrev pub stays_over : {F K L D : Type 0} → Meanings F K L D → StationNames → ℕ → ℕ → CommandStep (Outside F K L D) Lines
+abbrev pub stays_over : {F K L D : Type 0} → Meanings F K L D → StationNames → ℕ → ℕ
+    → CommandStep (Outside F K L D) Lines
 stays_over m names rounds waits =
     then (over_files (settles m.shelf names.settings)) (λ settings.
     then (over_disk (attaches m.medium names.archive true)) (λ _.

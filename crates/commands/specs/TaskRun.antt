@@ -64,8 +64,8 @@ pub record TaskGives {L : Type 0} (traffic : Traffic L) (task : Task) (old : L) 
   pub given : end ≡ task_end.Done → lines ≡ task_text task answers
 
 -- What the link gained is the talk of the task, and what its answers give, or the one trouble that it shows, is given.
-pub record makes_task {L : Type 0} (traffic : Traffic L) (task : Task) (old : L) (result : Result Lines Output) (new : L)
-    : Type 0 where
+pub record makes_task {L : Type 0} (traffic : Traffic L) (task : Task) (old : L) (result : Result Lines Output)
+    (new : L) : Type 0 where
   pub end : TaskEnd
   pub answers : List (List ℕ)
   pub talks : DoesTask traffic old (exchanges_of task) answers end new

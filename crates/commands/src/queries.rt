@@ -2,16 +2,16 @@ ghost use Rattle.std.specs.Prelude.{◌≡◌};
 ghost use Rattle.commands.specs.AnswerRun.{requests_answered, answers_over, queries_line};
 ghost use Rattle.run_output.specs.Outside.{means};
 
-use crate::recovering::recover;
+use crate::recovering::read_archive;
 use disk_model::Disk;
 use itoa::Buffer;
 use query_service::{Queries, QueryEnd, answer_queries};
-use run_output::{Ending, Outside, Status, Text, attach, connect};
+use run_output::{Ending, Outside, Status, Text, connect};
 use serial_link::{Link, Side};
-use station_base::{MOST_ROWS, push_bytes};
+use station_base::push_bytes;
 use station_io::{Files, Sink};
 use std::alloc::Global;
-use weather_book::{Book, Purpose};
+use weather_book::Book;
 
 /// Attaches the file of this name, which is not made where there is none, waits for a call at the address, and answers
 /// requests for the rows of the archive for so many turns.
@@ -26,8 +26,7 @@ pub fn answer_requests<F: Files, K: Sink, L: Link, D: Disk>(
     ensures { answers_over
         (means F.shelf K.outlet L.traffic D.medium) archive.now address.now turns outside.old result outside.new }
 {
-    attach(&mut outside.disk, archive, false)?;
-    let book = recover(alloc, &mut outside.disk, MOST_ROWS, Purpose::Read)?;
+    let book = read_archive(alloc, archive, outside)?;
     connect(&mut outside.link, Side::Serve, address)?;
     answer_all(&book, turns, &mut outside.disk, &mut outside.link)
 }

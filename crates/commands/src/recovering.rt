@@ -1,15 +1,31 @@
 ghost use Rattle.std.specs.Prelude.{◌≡◌, ◌≤◌};
-ghost use Rattle.commands.specs.Recovery.{bad_archive, damaged_line, not_archive_line, old_archive, recovers};
+ghost use Rattle.commands.specs.Recovery.{bad_archive, damaged_line, not_archive_line, old_archive};
+ghost use Rattle.commands.specs.Recovery.{reads_archive, recovers};
 ghost use Rattle.disk_model.specs.Disk.{MayBegin};
 ghost use Rattle.gated_log.specs.Start.{OnWrite};
+ghost use Rattle.run_output.specs.Outside.{means};
 ghost use Rattle.station_base.specs.Limits.{most_rows};
 
 use disk_model::Disk;
 use itoa::Buffer;
-use run_output::{Ending, Status, Text, push_memory};
-use station_base::push_bytes;
+use run_output::{Ending, Outside, Status, Text, attach, push_memory};
+use serial_link::Link;
+use station_base::{MOST_ROWS, push_bytes};
+use station_io::{Files, Sink};
 use std::alloc::Global;
 use weather_book::{Book, BookStart, Purpose};
+
+/// Attaches the file of this name, which is not made where there is none, and recovers its archive to be read.
+pub fn read_archive<F: Files, K: Sink, L: Link, D: Disk>(
+    alloc: Global,
+    archive: &str,
+    outside: &mut Outside<F, K, L, D>,
+) -> Result<Book, Ending>
+    ensures { reads_archive (means F.shelf K.outlet L.traffic D.medium) archive.now outside.old result outside.new }
+{
+    attach(&mut outside.disk, archive, false)?;
+    recover(alloc, &mut outside.disk, MOST_ROWS, Purpose::Read)
+}
 
 /// Recovers the archive of the file that is attached.
 pub fn recover<D: Disk>(

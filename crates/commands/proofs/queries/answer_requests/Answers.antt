@@ -1,32 +1,27 @@
-use Rattle.std.proofs.Common.{refl, sym, ◌∙◌, rules}
+use Rattle.std.proofs.Common.{refl, rules}
 use Rattle.serial_link.proofs.JoinedCalls.{talks_as}
+use Rattle.run_output.specs.Outside.{means}
 use Rattle.run_output.proofs.Behind.{ended, went_on}
+use Rattle.commands.proofs.RecoveryLaws.{archive_read}
 use Rattle.commands.proofs.queries.answer_requests.Goals as goal
 
-pub returns-in_err-attach : goal.returns-in_err-attach
-returns-in_err-attach g c = ended _ _ _ _ _ _ _ (c.attach.ensures, refl) c.in_err-attach.was (search rules)
-
 pub returns-in_err-book : goal.returns-in_err-book
-returns-in_err-book g c =
-    went_on _ _ _ _ _ _ _ _ (c.attach.ensures, refl) c.in_ok-attach.was
-    (ended _ _ _ _ _ _ _ (c.recover.ensures, refl) c.in_err-book.was (search rules))
+returns-in_err-book g c = ended _ _ _ _ _ _ _ c.read_archive.ensures c.in_err-book.was (search rules)
 
 pub returns-in_err-connect : goal.returns-in_err-connect
 returns-in_err-connect g c =
-    went_on _ _ _ _ _ _ _ _ (c.attach.ensures, refl) c.in_ok-attach.was
-    (went_on _ _ _ _ _ _ _ _ (c.recover.ensures, refl) c.in_ok-book.was
-    (ended _ _ _ _ _ _ _ (c.connect.ensures, refl) c.in_err-connect.was (search rules)))
+    went_on _ _ _ _ _ _ _ _ c.read_archive.ensures c.in_ok-book.was
+    (ended _ _ _ _ _ _ _ (c.connect.ensures, refl) c.in_err-connect.was (search rules))
 
 pub returns : goal.returns
 returns g c =
-    let has = c.in_ok-book.ensures.to_read in
+    let has = archive_read (means g.F.Files.shelf g.K.Sink.outlet g.L.Link.traffic g.D.Disk.medium) _ _ _ _ c.in_ok-book.ensures in
     let e = c.answer_all.ensures in
-    went_on _ _ _ _ _ _ _ _ (c.attach.ensures, refl) c.in_ok-attach.was
-    (went_on _ _ _ _ _ _ _ _ (c.recover.ensures, refl) c.in_ok-book.was
+    went_on _ _ _ _ _ _ _ _ c.read_archive.ensures c.in_ok-book.was
     (went_on _ _ _ _ _ _ _ _ (c.connect.ensures, refl) c.in_ok-connect.was (record {
       rows = has.0;
       stands = has.1.stands_for;
-      archive = λ file told. has.2 file (sym c.recover.ensures.stays.reads ∙ told);
+      archive = has.2;
       end = e.end;
       lines = e.lines;
       talks = talks_as _ e.talks (λ is. is) (λ is. is) (λ t part. record {
@@ -41,4 +36,4 @@ returns g c =
       disk_cause = e.disk_cause;
       given = e.given;
       alone = refl;
-    })))
+    }))
