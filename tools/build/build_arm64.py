@@ -35,6 +35,7 @@ PROGRAM = f'{FOLDER}/{crate_list.PROGRAM}'
 BUILT = f'{FOLDER}/built'  # the sums of what the program was built from, and of the program
 LOG = f'{build.LOGS}/arm64.log'
 FIRST = f'{FOLDER}/first_verdict'  # the verdict on the program for x86-64 over the same libraries
+FIRST_LOG = f'{build.LOGS}/x86_64.log'  # what the toolchain said of that program, if its proof was kept and nothing was said before
 GATED = f'{build.TOP}/out/gated'  # the sum of what the gate has proved
 CRATES = f'{build.TOP}/crates'
 KEPT_WORK = 'incremental=trusted'  # says that a verdict rests on the work of earlier runs
@@ -99,6 +100,11 @@ def is_gated():
     return read(GATED).strip() == sum_of_sources()
 
 
+def last_verdict(said):
+    """The last verdict in what the toolchain said, or nothing."""
+    return next(iter(VERDICT.findall(said)[-1:]), '')
+
+
 def first_verdict(crate):
     """The verdict on the program for x86-64, in the log of what has built the libraries below, or nothing."""
     said = ''
@@ -106,7 +112,7 @@ def first_verdict(crate):
         said = read(f'{build.LOGS}/{crate_list.PROGRAM}.log') if build.stands() else ''
     elif is_gated():
         said = '\n'.join(OF_THE_GATE.findall(read(f'{build.LOGS}/gate.log')))
-    return next(iter(VERDICT.findall(said)[-1:]), '')
+    return last_verdict(said)
 
 
 def libraries_stand(crate):
@@ -123,7 +129,7 @@ def of_any_processor(verdict):
 
 def hold_verdict(said, first):
     """Holds the last verdict in what the toolchain said against the one on the program for x86-64, and returns it."""
-    verdict = next(iter(VERDICT.findall(said)[-1:]), '')
+    verdict = last_verdict(said)
     if f' target={cross_arm64.TARGET} ' not in verdict:
         raise build.Fault(f'the toolchain gives no verdict for {cross_arm64.TARGET}: {verdict!r}')
     ours, theirs = of_any_processor(verdict), of_any_processor(first)
@@ -158,12 +164,26 @@ def prove(rt, crate, cross, first, made):
     hold_verdict(said, first)
 
 
-def stand_below(crate):
+def kept_verdict(rt, crate):
+    """The verdict on the program for x86-64 over the libraries of a gate whose toolchain had kept its proof, so that the gate's log
+    has none: the program alone is proved once more. Nothing, if that fails or the libraries are those of ./station."""
+    if has_stamps(crate):
+        return ''
+    build.say('proves the program for x86-64 once more, since the gate printed no verdict of it')
+    with build.turn(), tempfile.TemporaryDirectory() as folder, open(FIRST_LOG, 'w+', encoding='utf-8', errors='replace') as crate.out:
+        words = [*crate.words(['--jobs', str(processes())]), '--toolchain', f'{rt.KIT}/toolchain']
+        status = crate.call(rt.rtlib.RATTLE, 'build', *words, '--backend', 'llvm', '-o', f'{folder}/{crate_list.PROGRAM}.o')
+        crate.out.seek(0)
+        return '' if status else last_verdict(crate.out.read())
+
+
+def stand_below(rt, crate):
     """Has the libraries and the program for x86-64 stand, and returns the verdict on that program."""
-    if not first_verdict(crate) or not libraries_stand(crate):
-        with contextlib.suppress(FileNotFoundError):
-            os.remove(build.BUILT)  # it may be noted as built over other libraries
-        subprocess.run([f'{build.TOP}/tools/build/build.py', '/bin/true'], check=False)
+    if libraries_stand(crate) and (first := first_verdict(crate) or kept_verdict(rt, crate)):
+        return first
+    with contextlib.suppress(FileNotFoundError):
+        os.remove(build.BUILT)  # it may be noted as built over other libraries
+    subprocess.run([f'{build.TOP}/tools/build/build.py', '/bin/true'], check=False)
     first = first_verdict(crate)
     if not first or not libraries_stand(crate):
         raise build.Fault('the program for x86-64 does not stand, and the one for arm64 is built over its libraries')
@@ -176,7 +196,7 @@ def build_program(cross):
     rt.rtlib.guarded()
     rt.Crate.allowed = rt.handles_of(build.TOP)
     crate = rt.Crate(f'{CRATES}/{crate_list.PROGRAM}', build.TOP, {})
-    first = stand_below(crate)
+    first = stand_below(rt, crate)
     build.say('proves and builds the program for arm64')
     with build.turn(), tempfile.TemporaryDirectory() as folder:
         if stands(cross):

@@ -1,6 +1,7 @@
 #!/usr/bin/env bash
 # Tries ./station over a small tree of crates, with a script in the toolchain's place: in which order and how many at once
-# crates are proved, and what is printed of faults. The last line is 'N passed, M failed', and the status is 1 if any failed.
+# crates are proved, and what is printed of faults; and which verdict and which program for arm64 are refused. The last line is
+# 'N passed, M failed', and the status is 1 if any failed.
 set -u
 tools=$(cd "$(dirname "$0")/.." && pwd)
 work=$(mktemp -d)
@@ -212,6 +213,62 @@ for command in station copy import task install; do
     expect "a try of $command" 64 'station: *; try takes replay, *' tree/station try "$command" a b
 done
 expect 'no try of them' 1 '' test -e tried
+# The verdict on a program for arm64 is held against the one for x86-64, word by word, but for the processor.
+cp -r "$tools"/build/{build_arm64.py,cross_arm64.py,arm64} tree/tools/build
+mkdir -p tree/out/arm64 tree/out/logs
+first='logic=proved functions=9 axioms=58 target=x86_64-unknown-linux-gnu cpu=x86-64 rests=1'
+verdict='logic=proved functions=9 axioms=58 target=aarch64-unknown-linux-gnu cpu=armv8-a rests=1'
+echo "$first" >tree/out/arm64/first_verdict
+
+# Prints the verdict on a program for arm64 of which the toolchain has said this.
+held() {
+    echo "$1" >tree/out/logs/arm64.log
+    tree/tools/build/build_arm64.py --verdict
+}
+differs='station: the verdict for arm64 is not the one for x86-64'
+expect 'a verdict for arm64' 0 "$verdict" held "$verdict"
+expect 'one with an axiom more' 70 "$differs: axioms=59, in place of axioms=58" held "${verdict/=58/=59}"
+expect 'one with a word less' 70 "$differs: nothing, in place of rests=1" held "${verdict/ rests=1/}"
+expect 'one with a word more' 70 "$differs: trusts=1, in place of nothing" held "$verdict trusts=1"
+expect 'one for x86-64' 70 'station: the toolchain gives no verdict for aarch64-*' held "$first"
+expect 'no proof' 70 "station: the toolchain gives no verdict for aarch64-*: ''" held "${verdict/proved/not-proved}"
+
+# Runs Python on the building of a program for arm64, over a C library of no files.
+building_arm64() {
+    PYTHONPATH=tree/tools/build python3 -c "import functools, types, build_arm64, cross_arm64
+cross = types.SimpleNamespace(files=[])
+$1"
+}
+stands='exit(not build_arm64.stands(cross))'
+noting='open(build_arm64.BUILT, "w").write(build_arm64.sums(cross, build_arm64.PROGRAM))'
+cp tree/station tree/out/arm64/station_program
+building_arm64 "$noting"
+expect 'the program for arm64 that was built' 0 '' building_arm64 "$stands"
+change low
+expect 'the one of earlier sources' 1 '' building_arm64 "$stands"
+building_arm64 "$noting"
+echo >>tree/tools/build/arm64/args.c
+expect 'the one of earlier C functions' 1 '' building_arm64 "$stands"
+building_arm64 "$noting"
+echo >>tree/out/arm64/station_program
+expect 'another program in its place' 1 '' building_arm64 "$stands"
+# A gate whose toolchain has kept the proof of the program for x86-64 prints no verdict of it: the program is proved once more.
+kept_verdict() {
+    building_arm64 "def call(*words):
+    crate.out.write('$first\n')
+    return $1
+crate = types.SimpleNamespace(below=lambda: [types.SimpleNamespace(folder='$2')], words=list, call=call)
+rt = types.SimpleNamespace(KIT='kit', rtlib=types.SimpleNamespace(RATTLE='rattle'))
+print('verdict:', build_arm64.kept_verdict(rt, crate))"
+}
+mkdir -p stamped/out/rlib
+touch stamped/out/rlib/stamp
+expect 'the verdict on a program whose proof was kept' 0 "station: proves the program *verdict: $first" kept_verdict 0 unstamped
+expect 'none if it fails' 0 '*verdict: ' kept_verdict 1 unstamped
+expect 'none over libraries that ./station has built' 0 'verdict: ' kept_verdict 0 stamped
+expect 'no C library for arm64' 69 'station: the C library for arm64 is missing (*); on Debian 12: apt install libc6-dev-arm64-cross *' \
+    building_arm64 'cross_arm64.Cross = functools.partial(cross_arm64.Cross, "nowhere"); exit(build_arm64.main([]))'
+
 rm bin/rt
 expect 'no toolchain' 70 'station: the toolchain is missing: *' env PATH=/usr/bin:/bin tree/station pages
 

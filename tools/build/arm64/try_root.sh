@@ -9,7 +9,7 @@
 # that folder if it is not there, and stays for the next run: what is tried is written over it in memory alone. The machine is
 # left as it was.
 set -u
-tools=$(cd "$(dirname "$0")/.." && pwd)
+tools=$(cd "$(dirname "$0")/../.." && pwd)
 top=$(dirname "$tools")
 PACKAGES=python3,python3-jinja2,python3-matplotlib,python3-psycopg2,tzdata,systemd,man-db
 RELEASE=bookworm
@@ -174,9 +174,10 @@ settings='--zone Europe/Berlin --bucket 0.2mm'
 same 'an export' "jofitrana-export $settings week.csv <week.rows" "$tools/product/export.py $settings week.csv <week.rows"
 expect 'what an export writes' 0 '' cmp "$root/tried/week.csv" here/week.csv
 expect 'its configuration' 0 '' diff <(evened here/week.conf) "$root/tried/week.conf"
-same 'rows for WeeWX' "jofitrana-weewx database $settings week.sdb <week.rows" \
-    "$tools/product/weewx.py database $settings week.sdb <week.rows"
+same 'rows for WeeWX' "jofitrana-weewx database $settings --archive week.archive week.sdb" \
+    "$tools/product/weewx.py database $settings --archive week.archive --program $program week.sdb"
 same 'rows of WeeWX' "jofitrana-weewx rows $settings week.sdb" "$tools/product/weewx.py rows $settings week.sdb"
+expect 'the first of them' 0 'row 2024-10-*' head -n 1 there.said
 expect 'a chart' 0 '' there 'jofitrana-chart --metric week.svg <week.rows'
 expect 'its text' 0 '*' grep -c '<svg' "$root/tried/week.svg"
 page='--metric --name Roof week.archive'
