@@ -2,7 +2,7 @@
 """Draws the rows of an archive as one picture: temperature, humidity, pressure, wind and rain.
 
     jofitrana-chart --station roof --days 2024-10-14 2024-10-20 week.png
-    jofitrana report weather.archive rows 2024-10-14 2024-10-20 | jofitrana-chart week.png
+    jofitrana report weather.archive rows 2024-10-14 2024-10-20 | jofitrana-chart --bucket 0.2mm week.png
 
 With `--station` the units, the title and the rain bucket are the station's. The name says the kind of the picture, by its end
 .png or .svg. Values that are missing, and rows that are, leave gaps. Of many rows just the values that can be seen are drawn.
@@ -60,6 +60,7 @@ HOURLY = timedelta(days=2)  # beyond this each hour has one bar of rain, and bef
 DAILY = timedelta(days=60)  # beyond this each day has one
 WIND_STEPS = 120  # of the winds of a span of more than two days, each with its mean and its strongest gust
 NO_RAIN_INCHES = 0.1  # that the panel is high if no rain fell
+LEAST_STEP = 0.6  # of the widest step between ticks: a tick that is nearer to the next one has no label
 
 
 def follows(row, before):
@@ -91,6 +92,12 @@ def is_lone(values, place):
     return all(math.isnan(value) for value in beside)
 
 
+def crowded(ticks):
+    """The places of the ticks that are much nearer to the next one than others are, as the 29th is to the first of a month."""
+    steps = [after - before for before, after in zip(ticks, ticks[1:])]
+    return {place for place, step in enumerate(steps) if step < LEAST_STEP * max(steps)}
+
+
 class Ticks(dates.ConciseDateFormatter):
     """The ticks of time, with the months of a language."""
 
@@ -101,7 +108,9 @@ class Ticks(dates.ConciseDateFormatter):
         self.texts = texts
 
     def format_ticks(self, values):
-        labels = [self.texts.short_months(label) for label in super().format_ticks(values)]
+        near = crowded(values)
+        labels = ['' if number in near else self.texts.short_months(label)
+                  for number, label in enumerate(super().format_ticks(values))]
         self.offset_string = self.texts.short_months(self.offset_string)
         return labels
 
@@ -172,7 +181,8 @@ class Picture:
         axes.plot(places, values, color=colour, linewidth=1, label=legend)
         lone = [number for number in range(len(values)) if is_lone(values, number)]
         if lone:
-            axes.plot([places[number] for number in lone], [values[number] for number in lone], '.', color=colour, markersize=3)
+            axes.plot([places[number] for number in lone], [values[number] for number in lone], '.', color=colour, markersize=3,
+                      clip_on=False)
 
     def band(self, axes, low_name, high_name, colour, legend):
         """Draws the space between two fields."""
