@@ -6,6 +6,7 @@
 The rain was worked out by hand. A script of the model is in the program's place where an archive of chosen rows is wanted. The last
 line is 'N passed, M failed', and the status is 1 if any failed.
 """
+import json
 import os
 import re
 import socket
@@ -37,6 +38,10 @@ FAR_ZONE = 'America/New_York'  # of this machine, so that its own zone is never 
 GOOD, TROUBLE, USAGE = 0, 1, 2
 ZONE_OF_A_COMMAND = re.compile(r"""(?:--zone |-zone |TZ=)["']?((?:[A-Z][A-Za-z]*/|<)[A-Za-z0-9<>+/:_-]+)""")
 LEAST_ZONES = 10
+COMMAND_OF_ROWS = re.compile(r'^.*(?:jofitrana-(?:chart|export) \S.*\.(?:png|svg|csv)|jofitrana-page .*\.archive .*)$', re.MULTILINE)
+NAMES_BUCKET = re.compile('--station |--bucket ')
+SIMULATED = 'week.'  # in the names of files of the simulated week, whose console has the bucket that is taken otherwise
+LEAST_COMMANDS = 10
 PACKET_SECONDS = '8'  # in which a console sends at least one
 
 ROOF = """\
@@ -224,7 +229,7 @@ def rain_of_a_database(program):
         server = Server(newest(), folder, try_sql.OPTIONS)
         try:
             database = try_sql.Database(server, 'stations')
-            place = database.place(database.name)
+            place = database.place
             hold('days of the archive', run(program, 'sql.py', '--station', 'roof', '--days', '2025-01-01', '2025-12-31', place),
                  (GOOD, 'station roof rows 7 added 7 changed 0 left out 0\n', ''))
             hold('days to report from', run(program, 'sql.py', '--since', '--station', 'roof', place),
@@ -258,7 +263,7 @@ def zone_of_an_export(program):
 
 
 def zone_of_a_page(program):
-    """The age on a page is by the clock of the station's zone."""
+    """The age on a page is by the clock of the station's zone, and so is the time in its data."""
     need_module('jinja2')
     need_module('matplotlib')
     write_environment(program, 'TZ=<+0530>-5:30\nBUCKET=0.2mm\n')
@@ -267,6 +272,8 @@ def zone_of_a_page(program):
     hold('a page', run(program, 'page.py', '--station', 'roof')[::2], (GOOD, ''))
     page = (program.folder / 'var/roof.page/index.html').read_text()
     hold('its age', bool(re.search(r'\b[345] minutes old', page)), True)
+    data = json.loads((program.folder / 'var/roof.page/last.json').read_text())
+    hold('its time in UTC', data['time'], f'{stamp - timedelta(hours=5, minutes=30):%Y-%m-%dT%H:%M}:00Z')
 
 
 @contextmanager
@@ -324,6 +331,34 @@ def settings_without_a_bucket(program):
     write_rows(program, rainy_rows())
     _, _, trouble = run(program, 'export.py', '--station', 'roof', '--days', '2025-01-01', '2025-12-31', 'table.csv')
     hold('what is reported', trouble, 'etc/roof.env has no BUCKET=: a click of the rain bucket is taken as 0.01in\n')
+
+
+def page_beside_settings(program):
+    """A page of a station's archive by its name, without the station and without a bucket, reports that its settings are not taken."""
+    need_module('jinja2')
+    need_module('matplotlib')
+    write_environment(program)
+    write_rows(program, rainy_rows())
+    write_rows(program, rainy_rows(), 'barn')
+    (program.folder / 'link').symlink_to('var/roof.archive')
+    wanted = ('page: {} is of the station roof, whose settings are not taken: a click of the rain bucket is taken as 0.01in. '
+              'Give --station roof, or --bucket\n')
+    for archive in ('var/roof.archive', 'link'):
+        hold(f'a page of {archive}', run(program, 'page.py', archive, 'page')[::2], (GOOD, wanted.format(archive)))
+    for words in (['--bucket', '0.2mm', 'var/roof.archive', 'page'], ['var/barn.archive', 'page']):
+        hold(' '.join(words), run(program, 'page.py', *words)[::2], (GOOD, ''))
+
+
+def buckets_of_the_manual(_):
+    """Each command of a document or of a tool's own words that makes something of a report names a bucket or a station."""
+    top, found = TOOLS.parent, 0
+    for file in [top / 'README.md', *top.glob('docs/*.md'), top / 'docs/jofitrana.1', *TOOLS.glob('product/*.py')]:
+        text = re.sub(r'(\\|\|)\n\s*', r'\1 ', file.read_text(encoding='utf-8'))
+        for command in COMMAND_OF_ROWS.findall(text):
+            if SIMULATED not in command:
+                hold(f'{file.name} has {command}, which names a bucket', bool(NAMES_BUCKET.search(command)), True)
+                found += 1
+    hold(f'{found} commands are enough', found >= LEAST_COMMANDS, True)
 
 
 def words_of_a_station(program):
@@ -385,8 +420,8 @@ def a_row_ahead_of_the_clock(program):
 
 
 CASES = (forms_of_settings, settings_out_of_form, rain_of_a_table, rain_of_a_page, rain_of_a_chart, rain_of_a_database,
-         zone_of_an_export, zone_of_a_page, packets_of_a_station, zones_of_the_manual, settings_without_a_bucket, words_of_a_station, rows_up_to_a_stamp,
-         a_row_ahead_of_the_clock)
+         zone_of_an_export, zone_of_a_page, packets_of_a_station, zones_of_the_manual, settings_without_a_bucket,
+         page_beside_settings, buckets_of_the_manual, words_of_a_station, rows_up_to_a_stamp, a_row_ahead_of_the_clock)
 
 if __name__ == '__main__':
     sys.exit(try_all(sys.argv, __doc__, CASES, 4))

@@ -2,12 +2,14 @@
 """Writes the rows of an archive as CSV, and beside it the configuration with which WeeWX imports it.
 
     jofitrana-export --station roof --days 2024-01-01 2024-12-31 weather.csv
-    jofitrana report weather.archive rows 2024-01-01 2024-12-31 | jofitrana-export --zone Etc/GMT-1 weather.csv
+    jofitrana report weather.archive rows 2024-01-01 2024-12-31 |
+        jofitrana-export --zone Etc/GMT-1 --bucket 0.2mm weather.csv
 
-With `--station` the rain bucket and the zone of the console's clock are the station's. The configuration is weather.conf then. Neither file may be there already. Both are written under other names first, and are
-there once they are whole. Stamps are the console's own civil time. With `--zone` each row has its time in UTC besides. A row in
-the hour that the end of summer time doubles could be of either time, and one in the hour that its beginning leaves out of none:
-each such row is named on standard error and left out.
+With `--station` the rain bucket and the zone of the console's clock are the station's. The configuration is weather.conf then.
+Neither file may be there already. Both are written under other names first, and are there once they are whole. Stamps are the
+console's own civil time. With a zone each row has its time in UTC besides. A row in the hour that the end of summer time doubles
+could be of either time, and one in the hour that its beginning leaves out of none: each such row is named on standard error and
+left out.
 Statuses: 0, 1 if the input has no rows or is cut or a file is there or cannot be written, 2 if the words are out of form, 3
 if rows were left out.
 """

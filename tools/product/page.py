@@ -2,7 +2,7 @@
 """Makes a web page of an archive: the last row and its day, charts, and climate tables.
 
     jofitrana-page --station roof
-    jofitrana-page --metric --name 'Roof, Bern' roof.archive /var/www/html/roof
+    jofitrana-page --metric --bucket 0.2mm --name 'Roof, Bern' roof.archive /var/www/html/roof
 
 With `--station` the archive, the units, the name, the rain bucket and the zone of the console's clock are the station's, and
 FOLDER is NAME.page beside its archive if no other one is named. FOLDER gets index.html, its charts, the last row as data in
@@ -10,7 +10,8 @@ last.json, and a page of climate tables for each year with each table as CSV bes
 script. Each file is replaced as a whole, and a new chart has a new name, so a reader of the folder never sees half a page. What
 did not change is not made anew. A list of its own files stands in FOLDER: others are neither replaced, without `--replace`, nor
 taken away. With `--also OLD`, once or more, it has the rows of archives that were put aside too. Times are the console's.
-Without `--station` this machine's clock has to show them, so set TZ if it does not.
+Without `--station` this machine's clock has to show them, so set TZ if it does not. An archive that is a station's, named without
+the station and without a bucket, is reported on standard error.
 Statuses: 0, 1 if a report is refused or cut, or the folder cannot be written or has a file of others in the way, 2 if the words
 are out of form.
 """
@@ -171,6 +172,14 @@ def files_of(names, station):
     return [station.archive, *folder]
 
 
+def tell_of_station(archive, chosen):
+    """Reports that an archive is a station's, if the words name neither that station nor a bucket: its rain may be wrong."""
+    name = stations.station_of_archive(archive, chosen.settings_folder, chosen.archive_folder)
+    if name and not chosen.bucket:
+        print(f'page: {archive} is of the station {name}, whose settings are not taken: a click of the rain bucket is taken as '
+              f'{row_lines.DEFAULT_BUCKET}. Give --station {name}, or --bucket', file=sys.stderr)
+
+
 def main():
     stop_as_refused('page')
     chosen = chosen_words()
@@ -178,6 +187,8 @@ def main():
         station = stations.station_of(chosen)
         buckets = stations.buckets_of(station, chosen.bucket)
         archive, folder = files_of(chosen.names, station)
+        if station is None:
+            tell_of_station(archive, chosen)
         archives = joined([Archive(chosen.program, name) for name in (archive, *chosen.also)])
         name = chosen.name or (station.title if station else UNNAMED)
         units = Units(stations.is_metric(station, chosen.metric), buckets, chosen.language)

@@ -28,7 +28,8 @@ US, METRIC = UNITS = ('us', 'metric')
 
 # A name is one word of the units, and no name of another file.
 NAME = re.compile(r'[A-Za-z0-9][A-Za-z0-9_.-]*')
-TAKEN_ENDS = (*archives.SETTINGS_ENDS, '.archive', '.timer', '.service')
+ARCHIVE_END = '.archive'
+TAKEN_ENDS = (*archives.SETTINGS_ENDS, ARCHIVE_END, '.timer', '.service')
 
 # An entry of an EnvironmentFile: a key, and behind quoted parts the rest of the line, in which a backslash keeps a character.
 COMMENT = re.compile(r'[ \t]*(?:[#;](?:\\\n|[^\n])*)?(?:\n|\Z)')
@@ -159,7 +160,7 @@ def station_with(name, keys, folder, archive_folder):
         raise StationFault('BUCKET_FROM stands without BUCKET, the bucket before that day')
     return Station(
         name=name, settings=os.path.join(folder, f'{name}.toml'), environment=os.path.join(folder, f'{name}.env'),
-        archive=os.path.join(archive_folder, f'{name}.archive'), address=keys.get('ADDRESS') or None,
+        archive=os.path.join(archive_folder, name + ARCHIVE_END), address=keys.get('ADDRESS') or None,
         device=keys.get('DEVICE') or None, zone=zone_named(keys['TZ']) if keys.get('TZ') else None,
         title=keys.get('TITLE') or name, units=one_of(keys, 'UNITS', UNITS) or US, bucket=bucket,
         bucket_changes=changes, alert=keys.get('ALERT') or None, keys=keys)
@@ -176,6 +177,14 @@ def read_station(name, folder=SETTINGS, archive_folder=ARCHIVES):
         return station_with(name, keys, folder, archive_folder)
     except (NoZone, StationFault) as fault:
         raise StationFault(f'{environment}: {fault}') from None
+
+
+def station_of_archive(archive, folder=SETTINGS, archive_folder=ARCHIVES):
+    """The name of the station whose archive a file is by its place, if that has settings."""
+    place, name = os.path.split(os.path.realpath(archive))
+    name, ending = os.path.splitext(name)
+    is_station = ending == ARCHIVE_END and place == os.path.realpath(archive_folder)
+    return name if is_station and os.path.exists(os.path.join(folder, f'{name}.env')) else None
 
 
 def add_station_option(parser, settings_option='--settings'):
