@@ -3,192 +3,26 @@
 
     tools/checks/try_page.py PROGRAM
 
-A script of the model is in the program's place, but for one case. Pages are held against the rules of HTML by `tidy` and
-shown by Chromium, where these are installed. If KEEP names a folder, what Chromium shows is kept there. The last line is
-'N passed, M failed', and the status is 1 if any failed.
+A script of the model is in the program's place, but for one case. The last line is 'N passed, M failed', and the status is 1 if
+any failed.
 """
-import functools
-import math
 import os
-import random
 import re
 import shutil
-import subprocess
 import sys
 import threading
 from datetime import date, datetime, timedelta
-from html.parser import HTMLParser
-from http.server import SimpleHTTPRequestHandler, ThreadingHTTPServer
-from pathlib import Path
 
 sys.dont_write_bytecode = True  # nothing is left beside the scripts
 
-import rooms  # first: the imports below are of other rooms too
+from made_pages import (ARCHIVE, FOLDER, Seen, Texts, Units, made, make, make_small, make_tables, now_of, page_charts, page_now,
+                        page_of, row_at, row_lines, rows_from, seen, table, worked_rows, zone_named)
 from model.archive import CLOSED_GATE, THIS_VERSION, head_slot, sealed_batch, slots_to_add
-from model.records import FIELDS, NAMES
-from model.reports import report_lines
-from model.rows import Row, row_line
-from model.stamps import FIRST_DAY, LAST_DAY, stamp_of_texts
 from stand_in import write_archive
-from trying import Differs, hold, leave_out, need, try_all
+from trying import Differs, hold, try_all
 
-try:
-    import page
-    import page_charts
-    import page_now
-    import rows as row_lines
-    from page_texts import Texts
-    from reports import summaries
-    from units import Units
-    from zones import zone_named
-except SystemExit as reason:  # a library is missing
-    leave_out(f'{str(reason).split(";", maxsplit=1)[0]}: no page was tried')
-    sys.exit(0)
-
-TOOLS = Path(__file__).resolve().parent.parent
-PERIOD = 5
-ARCHIVE, FOLDER = 'archive', 'folder'
-WIDTHS = (375, 768, 1280)
-HEIGHT = 2400
-LONGEST = 60  # seconds that Chromium may take
-LEAST_CONTRAST = 4.5  # of small letters, by the guidelines for the web's content
 ROUNDS = 200  # in which a page is made while it is read
 LONG_PICTURE = f'<svg>{" " * 100_000}</svg>'
-AWKWARD = 'Roof <b>"Bern"</b> & \'sons\' {{ 1 }} $x$'
-
-
-class Seen(HTMLParser):
-    """What is in a page: its elements with their attributes, its text, and the cells of its tables."""
-
-    def __init__(self, text):
-        super().__init__()
-        self.elements, self.rows, self.text, self.is_cell = [], [], '', False
-        self.feed(text)
-
-    def handle_starttag(self, tag, attrs):
-        self.elements.append((tag, dict(attrs)))
-        if tag == 'tr':
-            self.rows.append([])
-        if tag in ('td', 'th'):
-            self.rows[-1].append('')
-            self.is_cell = True
-
-    def handle_endtag(self, tag):
-        self.is_cell = self.is_cell and tag not in ('td', 'th')
-
-    def handle_data(self, data):
-        self.text += data
-        if self.is_cell:
-            self.rows[-1][-1] += data
-
-    def all(self, tag, name):
-        """The values of an attribute of all elements of a tag."""
-        return [attributes[name] for element, attributes in self.elements if element == tag and name in attributes]
-
-    def row(self, *first):
-        """The row of a table that begins so."""
-        for row in self.rows:
-            if tuple(row[:len(first)]) == first:
-                return row[len(first):]
-        raise Differs(f'no row of a table begins with {first}')
-
-
-def row_at(stamp, **values):
-    """A row of the period that ends at a stamp. A value that is `limit` was taken away."""
-    limited = frozenset(NAMES.index(name) for name, value in values.items() if value == 'limit')
-    numbers = [None if values.get(name) == 'limit' else values.get(name) for name in NAMES]
-    return Row(stamp_of_texts(*stamp.split()), PERIOD, tuple(numbers), limited)
-
-
-def rows_from(stamp, count, values_of):
-    """So many rows from a stamp on, with the values of each number."""
-    first = datetime.strptime(stamp, '%Y-%m-%d %H:%M')
-    stamps = (first + number * timedelta(minutes=PERIOD) for number in range(count))
-    return [row_at(f'{one:%Y-%m-%d %H:%M}', **values_of(number)) for number, one in enumerate(stamps)]
-
-
-def worked_values(number):
-    """The values of a row of two days: 60.0 F on the first day, and from then on a tenth more with each row."""
-    second = max(0, number - 287)  # its number within the second day
-    return {'outTemp': 600 + second, 'highOutTemp': 603 + second, 'lowOutTemp': 598 + second, 'rain': int(number % 100 == 0),
-            'barometer': 30_000 - second, 'outHumidity': 50, 'windSpeed': 10, 'windGust': 20 + (number == 290), 'windDir': 4}
-
-
-def worked_rows():
-    """Those rows up to 05:55 of the second day. One is missing."""
-    return [row for number, row in enumerate(rows_from('2024-06-30 00:05', 359, worked_values)) if number != 100]
-
-
-def year_values(number):
-    """The values of a row of a year, with some chance in all of them."""
-    draw = random.Random(number)
-    warmth = 500 + 150 * math.sin(number / 16_700) + 80 * math.sin(number / 45.8)
-    return {'outTemp': round(warmth + draw.uniform(-4, 4)), 'highOutTemp': round(warmth + 8), 'lowOutTemp': round(warmth - 8),
-            'rain': draw.choice((0, 0, 0, 0, 1, 3)) if number % 2000 < 200 else 0,
-            'barometer': round(29_900 + 300 * math.sin(number / 700)),
-            'outHumidity': draw.randint(60, 75), 'windSpeed': draw.randint(0, 9), 'windGust': draw.randint(9, 22),
-            'windDir': draw.randint(0, 15), 'windSamples': 110, 'inTemp': 700, 'inHumidity': 40}
-
-
-def make(program, rows, *words, has_climate=True):
-    """Makes the page of some rows; gives what is in it."""
-    write_archive(program.folder / ARCHIVE, rows, has_climate)
-    hold('the making', made(program, *words), (0, ''))
-    return seen(program)
-
-
-def made(program, *words, script=TOOLS / 'checks/stand_in.py', env=None):
-    """Makes a page; gives the status, and what was printed of trouble."""
-    ran = subprocess.run([TOOLS / 'product/page.py', '--program', script, *words, ARCHIVE, FOLDER], cwd=program.folder,
-                         capture_output=True, text=True, env=env, check=False)
-    return ran.returncode, ran.stdout + ran.stderr
-
-
-def seen(program, name='index.html'):
-    """What is in a file of the folder."""
-    return Seen((program.folder / FOLDER / name).read_text(encoding='utf-8'))
-
-
-def page_of(program, rows, *words, name='Roof', has_climate=True, language='en'):
-    """The page of some rows, which is not made yet, for parts that are made alone since they take less time."""
-    write_archive(program.folder / ARCHIVE, rows, has_climate)
-    archive = page.Archive(TOOLS / 'checks/stand_in.py', program.folder / ARCHIVE)
-    with page.Folder(program.folder / FOLDER) as folder:  # no other run has it here
-        return page.Page(archive, folder, Units('--metric' in words, row_lines.Buckets(), language), name)
-
-
-def make_tables(program, rows, *words, **options):
-    """Makes the tables alone of some rows; gives the page and what they were made of."""
-    one = page_of(program, rows, *words, **options)
-    months = one.archive.months()
-    texts, made = one.files_of_years((one.first_day(months), one.last_day(months)), months)
-    one.folder.write(texts, [name for _, names in made.values() for name in names], made)
-    return one, made
-
-
-def values_read(rows):
-    """Rows as they are read from their lines."""
-    return [row_lines.row_of(row_line(row), row_lines.Buckets()) for row in rows]
-
-
-def now_of(rows, units=None, **options):
-    """What is shown of the last of some rows, as it fell due."""
-    days, read = summaries(report_lines(rows, 'days', FIRST_DAY, LAST_DAY)), values_read(rows)
-    seen_rows = page_now.Seen(read, days, {}, row_lines.day_of(read[0].stamp))
-    return page_now.now_of(seen_rows, units or Units(False, row_lines.Buckets()), read[-1].stamp, **options)
-
-
-def make_small(program, rows, **options):
-    """Makes a page of some rows with one chart; gives what is in it."""
-    one, made_of = make_tables(program, rows, **options)
-    chart = page_charts.chart_of('Day', values_read(rows), one.units)
-    one.write_files({}, [[chart], []], made_of, made=values_read(rows)[-1].stamp, now=now_of(rows, one.units))
-    return seen(program)
-
-
-def table(program, name):
-    """The lines of a table as CSV."""
-    return (program.folder / FOLDER / f'{name}.csv').read_text(encoding='utf-8').splitlines()
 
 
 def last_row_and_its_day(program):
@@ -262,6 +96,7 @@ def single_row(program):
     hold('temperature', shown.row('Temperature °F'), ['−0.5', '–', '−0.5 00:05', '−0.5 00:05'])
     hold('wind', shown.row('Wind mph'), ['–', '–', '–', '–'])
     hold('rain', shown.row('2024, since 1 July'), ['–'])
+    hold('how young it is', 'Year: 1 day so far' in shown.text, True)
     hold('pictures', len(shown.all('img', 'src')), 4)
 
 
@@ -304,72 +139,6 @@ def hour_that_comes_twice(program):
         one.write_files({}, [[], []], {}, made=datetime(2024, 10, 27, 3) - timedelta(days=day), now=None)
         text = '02:00 to 03:00 of 2024-10-27 will come twice as summer time ends. The second time will be lost.'
         hold(f'{zone}, {day} days before', text in seen(program).text, wanted)
-
-
-def gaps_of_charts(_):
-    """A chart has a line for each stretch of rows, and none over a gap, however many rows it has."""
-    def values_of(number):
-        return {'barometer': 29_000 + number % 50} if number % 400 != 7 else {'rain': 0}
-
-    made_rows = rows_from('2024-07-01 00:05', 2016, values_of)
-    kept = [row for number, row in enumerate(made_rows) if not 900 < number < 1000]
-    week = page_charts.chart_of('Week', values_read(kept), Units(False, row_lines.Buckets()))
-    hold('stretches', max(path.count('M') for path in re.findall(r' d="([^"]*)"', week.svg)), 8)
-
-
-def awkward_name(program):
-    """A name is shown letter by letter, whatever they are."""
-    shown = make_small(program, worked_rows(), name=AWKWARD)
-    hold('elements of the name', shown.all('b', 'class') + [tag for tag, _ in shown.elements if tag == 'b'], [])
-    for name in ('index.html', 'climate-2024.html'):
-        if AWKWARD not in seen(program, name).text:
-            raise Differs(f'{name} does not show {AWKWARD}')
-
-
-def page_by_itself(program):
-    """A page asks no other host and has no script, and each of its pictures has its text."""
-    shown = make(program, worked_rows())
-    texts = shown.all('img', 'alt')
-    hold('the text of a picture', texts[0],
-         'Day up to 2024-07-01 05:55: temperature from 59.8 to 67.4 °F, humidity from 50 to 50 %, '
-         'pressure from 29.929 to 30.000 inHg, wind up to 21 mph, 0.02 in of rain.')
-    hold('pictures with a text', len(set(texts)), len(shown.all('img', 'src')))
-    for file in (program.folder / FOLDER).glob('*.[hs]*'):
-        text = file.read_text(encoding='utf-8')
-        for place in re.findall(r'(?:href|src)="([^"]*)"', text) + re.findall(r'url\(([^)]*)\)', text):
-            if not re.fullmatch(r'data:,|#?[\w.-]*', place):
-                raise Differs(f'{file.name} asks for {place}')
-        hold(f'scripts of {file.name}', '<script' in text or '@import' in text or '<!DOCTYPE svg' in text, False)
-
-
-def light(colour):
-    """How light a colour is, by the guidelines for the web's content."""
-    parts = [int(colour[place:place + 2], 16) / 255 for place in (1, 3, 5)]
-    red, green, blue = (part / 12.92 if part <= 0.04045 else ((part + 0.055) / 1.055) ** 2.4 for part in parts)
-    return 0.2126 * red + 0.7152 * green + 0.0722 * blue
-
-
-def letters_that_can_be_read(program):
-    """The letters of a page and of its charts stand out enough, in the light and in the dark."""
-    shown = make_small(program, worked_rows())
-    text = (program.folder / FOLDER / 'index.html').read_text(encoding='utf-8')
-    chart = (program.folder / FOLDER / shown.all('img', 'src')[0]).read_text()
-    schemes = [dict(re.findall(r'--(\w+): (#\w{6})', part)) for part in text.split('prefers-color-scheme: dark')]
-    for colours, chart_ink in zip(schemes, re.findall(r'[{;]color:(#\w{6})', chart)):
-        for ink in (colours['ink'], colours['link'], colours['mark'], chart_ink):
-            lights = sorted([light(ink), light(colours['page'])])
-            if (lights[1] + 0.05) / (lights[0] + 0.05) < LEAST_CONTRAST:
-                raise Differs(f'{ink} on {colours["page"]}')
-
-
-def rules_of_html(program):
-    """A checker finds nothing in the pages."""
-    need('tidy', '-v')
-    for make_one in (lambda: make_small(program, worked_rows(), name=AWKWARD), lambda: make(program, [])):
-        make_one()
-        for file in (program.folder / FOLDER).glob('*.html'):
-            ran = subprocess.run(['tidy', '-e', '-q', file], capture_output=True, text=True, check=False)
-            hold(file.name, (ran.returncode, ran.stderr), (0, ''))
 
 
 def program_without_climate(program):
@@ -457,56 +226,6 @@ def reader_of_a_page(program):
     hold('old charts', [file.name for file in folder.glob('*.svg')], [charts[-1].file])
 
 
-class Quiet(SimpleHTTPRequestHandler):
-    """Serves a folder, and notes what it is asked for."""
-    asked = []
-
-    def log_request(self, code='-', size='-'):
-        self.asked.append((self.path, str(int(code))))
-
-    def log_message(self, *_):
-        pass
-
-
-WIDE = '''<!doctype html><link rel="icon" href="data:,"><title>none</title>
-<iframe id="page" src="index.html" width="{}" height="900"></iframe>
-<script>addEventListener('load', () => {{
-    const page = document.getElementById('page').contentDocument, table = page.querySelector('.wide');
-    document.title = page.documentElement.scrollWidth + (table.scrollWidth > table.clientWidth ? ' and a table is wider' : '');
-}});</script>'''
-
-
-def chromium(*words):
-    """Runs a headless Chromium; gives what it prints."""
-    still = ('--headless', '--no-sandbox', '--disable-gpu', '--hide-scrollbars', '--disable-dev-shm-usage')
-    ran = subprocess.run(['chromium', *still, *words], capture_output=True, text=True, timeout=LONGEST, check=False)
-    hold('Chromium', ran.returncode, 0)
-    return ran.stdout
-
-
-def page_in_a_browser(program):
-    """A browser finds all that a page names, and a page is no wider than a telephone or a screen, whatever its colours."""
-    need('chromium', '--version')
-    shown = make(program, rows_from('2024-07-01 00:05', 1500, year_values), '--metric', '--name', AWKWARD)
-    server = ThreadingHTTPServer(('127.0.0.1', 0), functools.partial(Quiet, directory=program.folder / FOLDER))
-    threading.Thread(target=server.serve_forever, daemon=True).start()
-    place = f'http://127.0.0.1:{server.server_port}'
-    keep = os.environ.get('KEEP', program.folder)
-    try:
-        for width in WIDTHS:
-            (program.folder / FOLDER / 'wide.html').write_text(WIDE.format(width))
-            wide = chromium('--dump-dom', f'{place}/wide.html')
-            hold(f'the width within {width}', re.search('<title>(.*?)</title>', wide)[1], str(width))
-            for scheme, name in enumerate(('dark', 'light')):
-                chromium(f'--blink-settings=preferredColorScheme={scheme}', f'--window-size={width},{HEIGHT}',
-                         f'--screenshot={keep}/page-{width}-{name}.png', f'{place}/index.html')
-    finally:
-        server.shutdown()
-    hold('what is missing', [asked for asked in Quiet.asked if asked[1] not in ('200', '304')], [])
-    hold('what it asked for', {path.lstrip('/') for path, _ in Quiet.asked},
-         {'wide.html', 'index.html', *shown.all('img', 'src')})
-
-
 def pages_of_the_program(program):
     """The program's own page is the one of the model, but for climate tables if it has none."""
     rows = worked_rows()
@@ -519,10 +238,9 @@ def pages_of_the_program(program):
     hold('the charts', seen(program).all('img', 'src'), shown.all('img', 'src'))
 
 
-CASES = (page_in_a_browser, last_row_and_its_day, climate_tables, midnight_of_a_month, days_without_rows,
-         day_that_is_whole, empty_archive, single_row, day_of_limits, trend_of_three_hours, age_of_the_last_row,
-         hour_that_comes_twice, gaps_of_charts, awkward_name, page_by_itself, letters_that_can_be_read, rules_of_html, program_without_climate,
-         refusals, years_that_do_not_change, reader_of_a_page, pages_of_the_program)
+CASES = (last_row_and_its_day, climate_tables, midnight_of_a_month, days_without_rows, day_that_is_whole, empty_archive, single_row,
+         day_of_limits, trend_of_three_hours, age_of_the_last_row, hour_that_comes_twice, program_without_climate, refusals,
+         years_that_do_not_change, reader_of_a_page, pages_of_the_program)
 AT_ONCE = 2
 
 if __name__ == '__main__':

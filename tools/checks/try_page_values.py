@@ -15,6 +15,8 @@ import rooms  # first: the imports below are of other rooms too
 import field_values
 from field_values import COUNTS, MINUTES, STAMPS
 from joined import Archives, joined
+from made_pages import (ARCHIVE, FOLDER, TOOLS, Units, made, make, page, page_charts, page_now, row_at, row_lines, rows_from,
+                        seen, table)
 from model.archive import CLOSED_GATE, THIS_VERSION, head_slot, sealed_batch, slots_to_add
 from model.records import NAMES
 from model.reports import report_lines
@@ -24,8 +26,6 @@ from reports import Archive, Refused, summaries
 from stand_in import write_archive
 from trying import Differs, hold, try_all
 from try_fields import band_of, hold_nested, lines_of, texts
-from try_page import (ARCHIVE, FOLDER, TOOLS, Units, made, make, page, page_charts, page_now, row_at, row_lines, rows_from,
-                      seen, table)
 
 OLD, WHOLE = 'old', 'whole'
 # Where rows of nine a day are parted: some days in both archives, none, parts of one day, all but few, and all.

@@ -7,24 +7,22 @@ of long spans, languages, the last row as data, and which files of its folder it
 A script of the model is in the program's place. What is expected was worked out by hand or stands in the sources of derived.py.
 The last line is 'N passed, M failed', and the status is 1 if any failed.
 """
-import functools
 import json
 import os
 import re
 import subprocess
 import sys
-import threading
+from contextlib import contextmanager
 from datetime import datetime, timedelta
-from http.server import ThreadingHTTPServer
 
 sys.dont_write_bytecode = True  # nothing is left beside the scripts
 
 import rooms  # first: the imports below are of other rooms too
+from made_pages import (ARCHIVE, FOLDER, GROWERS, INDEX, PERIOD, TOOLS, Texts, Units, make, make_tables, made, now_of, page, page_charts,
+                        page_now, row_at, row_lines, rows_from, seen, served, table, values_read)
 from stand_in import write_archive
-from trying import Differs, hold, need, try_all
+from trying import hold, need, try_all
 from try_fields import band_of, lines_of, texts
-from try_page import (ARCHIVE, FOLDER, PERIOD, TOOLS, Quiet, Texts, Units, make_tables, made, now_of, page, page_charts, page_now,
-                      row_at, row_lines, rows_from, seen, table, values_read)
 
 import derived
 import page_texts
@@ -35,10 +33,9 @@ US = Units(False, row_lines.Buckets())
 
 # By the charts of the National Weather Service for wind chill and heat index, in whole degrees Fahrenheit.
 CHILLS = (((0, 15), -19), ((40, 5), 36), ((-45, 60), -98), ((30, 10), 21), ((20, 20), 4))
-HEATS = (((100, 50), 118), ((96, 40), 101), ((110, 40), 136), ((86, 50), 88), ((88, 60), 95), ((94, 60), 110))
+HEATS = (((100, 50), 118), ((96, 40), 101), ((110, 40), 136), ((86, 50), 88), ((88, 60), 95), ((94, 60), 110), ((80, 50), 81))
 # By tables of dew points, in degrees Celsius.
 DEW_POINTS = (((20, 50), 9.3), ((30, 80), 26.2), ((25, 60), 16.7), ((0, 100), 0.0), ((-10, 80), -12.8))
-GROWERS = {'radiation': 400, 'UV': 31, 'ET': 9, 'soilTemp1': 50, 'soilTemp3': 57, 'soilMoist2': 32, 'leafTemp1': 61, 'leafWet2': 3}
 # The texts that are the same in both languages.
 ALIKE = ['month_of_year', 'lines.windSpeed', 'charts.wind', 'charts.evaporation', 'climate.wind']
 GROWERS_PANELS = ['sun', 'uv', 'evaporation', 'soil', 'moisture', 'leaf', 'wetness']
@@ -55,13 +52,16 @@ def formulas(_):
         hold(f'the dew point of {celsius} and {humidity}', round(point, 1) + 0.0, wanted)
     hold('the adjustment of dry air', round(derived.heat_index(95, 5) - derived.regression(95, 5), 9), -2.0)
     hold('the adjustment of damp air', round(derived.heat_index(80, 100) - derived.regression(80, 100), 9), 2.1)
+    hold('that of dry air which is hotter', round(derived.heat_index(100, 5) - derived.regression(100, 5), 5), -1.68034)
+    hold('the warmest air that has a wind chill', round(derived.wind_chill(50, 5)), 48)
     hold('where there is none', [derived.wind_chill(50.1, 20), derived.wind_chill(40, 3), derived.heat_index(78, 50),
-                                 derived.dew_point(50, 0)], [None] * 4)
+                                 derived.heat_index(80, 40), derived.dew_point(50, 0)], [None] * 5)
 
 
 def derived_lines(_):
     """What the page works out is shown with its extremes, marked as derived; what no row has is not shown."""
-    rows = [row_at('2024-07-01 09:00', outTemp=680, outHumidity=50, windSpeed=9),
+    rows = [row_at('2024-07-01 00:00', outTemp=1050, outHumidity=60),  # of the day before
+            row_at('2024-07-01 09:00', outTemp=680, outHumidity=50, windSpeed=9),
             row_at('2024-07-01 12:00', outTemp=1000, outHumidity=50, windSpeed=9)]
     now = now_of(rows)
     lines = {line.title: line for line in now.lines if line.title.endswith('*')}
@@ -143,6 +143,9 @@ def winds_of_long_spans(_):
     hold('its band', {(round(low), high) for low, high in band}, {(5, 16)})
     day = page_charts.chart.Picture(rows[:288], US.shown, panels=['wind'], span=timedelta(days=1)).figure().axes[0]
     hold('the lines of a day', [*lines_of(day)], ['gust', 'wind'])
+    for count, wanted in ((2 * 288, ['gust', 'wind']), (2 * 288 + 1, ['wind'])):
+        axes = page_charts.chart.Picture(rows[:count], US.shown, panels=['wind']).figure().axes[0]
+        hold(f'the lines of {count} rows of five minutes', [*lines_of(axes)], wanted)
     gap = [row for row in rows if not 2000 < (row.stamp - rows[0].stamp) / timedelta(minutes=5) < 4000]
     axes = page_charts.chart.Picture(gap, US.shown, panels=['wind'], span=timedelta(days=31)).figure().axes[0]
     hold('a gap', lines_of(axes)['wind'].count('none'), 1)
@@ -166,13 +169,17 @@ def panels_with_values(_):
     hold('the probes of soil', [*lines_of(axes[3])], ['1', '3'])
 
 
-def what_is_inside(_):
+def what_is_inside(program):
     """What is measured inside is shown by option alone."""
     rows = [row_at(FIRST, outTemp=600, inTemp=700, inHumidity=41, soilTemp1=50)]
     hold('without it', [line.title for line in now_of(rows).lines if 'inside' in line.title], [])
     hold('with it', [(line.title, line.value) for line in now_of(rows, has_inside=True).lines if 'inside' in line.title],
          [('Temperature inside', '70.0'), ('Humidity inside', '41')])
     hold('soil', [(line.title, line.value) for line in now_of(rows).growing], [('Soil temperature 1', '50.0')])
+    shown = make(program, [row_at(FIRST, rain=1, ET=9, inTemp=700), row_at('2024-07-01 00:10', ET=10, inTemp=710)], '--metric', '--inside')
+    hold('with it, on a page', shown.row('Temperature inside °C'), ['21.7', '–', '21.1 00:05', '21.7 00:10'])
+    hold('in a chart', 'temperature inside from 21.1 to 21.7 °C' in shown.all('img', 'alt')[0], True)
+    hold('rain and evaporation', [row[1] for row in shown.rows if row[0] == '1 July'], ['0.3', '0.5'])
     hold('evaporation that is none', [sums.caption for sums in now_of([row_at(FIRST, ET=0, rain=0)]).sums], ['Rain, in'])
 
 
@@ -226,12 +233,8 @@ def last_row_as_data(program):
     write_archive(program.folder / ARCHIVE, [row_at('2024-07-01 00:30', outTemp=651, outHumidity=48, rain=2, highRainRate=30, windDir=4,
                                                     windSpeed=11, barometer=29921, leafWet1=12, windSamples=112)])
     hold('the making', made(program, '--metric', '--name', 'Roof "1"', env=os.environ | {'TZ': '<+01>-1'}), (0, ''))
-    server = ThreadingHTTPServer(('127.0.0.1', 0), functools.partial(Quiet, directory=program.folder / FOLDER))
-    threading.Thread(target=server.serve_forever, daemon=True).start()
-    try:
-        got = subprocess.run(['curl', '-sSf', f'http://127.0.0.1:{server.server_port}/last.json'], capture_output=True, check=True)
-    finally:
-        server.shutdown()
+    with served(program.folder / FOLDER) as (place, _):
+        got = subprocess.run(['curl', '-sSf', f'{place}/last.json'], capture_output=True, check=True)
     for query, wanted in (('.station', 'Roof "1"'), ('.time', '2024-06-30T23:30:00Z'), ('.minutes', PERIOD),
                           ('.fields.outTemp', {'value': 18.4, 'unit': '°C'}), ('.fields.rain', {'value': 0.5, 'unit': 'mm'}),
                           ('.fields.highRainRate', {'value': 7.6, 'unit': 'mm/h'}), ('.fields.windDir', {'value': 90, 'unit': '°'}),
@@ -240,6 +243,16 @@ def last_row_as_data(program):
                           ('.fields.dewPoint', {'value': 7.2, 'unit': '°C', 'derived': True}), ('.fields.inTemp', None)):
         read = subprocess.run(['jq', '-c', query], input=got.stdout, capture_output=True, check=True)
         hold(query, json.loads(read.stdout), wanted)
+
+
+def is_refused(folder):
+    """Whether a table is refused in a folder since a file of others is in its way."""
+    try:
+        with page.Folder(folder) as place:
+            place.write({'table.csv': 'ours'}, [], {})
+    except page.Foreign:
+        return True
+    return False
 
 
 def files_of_others(program):
@@ -257,7 +270,12 @@ def files_of_others(program):
     hold('what is there', sorted(os.listdir(folder)), sorted([*foreign, INDEX]))
     hold('that page', (folder / INDEX).read_text(), 'mine')
     hold('a page of others that may go', made(program, '--replace'), (0, ''))
+    note = json.loads((folder / page_folder_note()).read_text())
+    (folder / page_folder_note()).write_text(json.dumps(note | {'files': [*note['files'], '../mine']}))
+    program.write('mine', 'mine')
+    os.utime(program.folder / 'mine', (0, 0))
     hold('a next run', made(program), (0, ''))
+    hold('a file of another folder that the list names', program.read('mine'), b'mine')
     hold('what is there', sorted(os.listdir(folder)), sorted([*foreign, INDEX, page_folder_note()]))
     hold('what is in them', {(folder / name).read_text() for name in foreign}, {'mine'})
     (folder / 'last.json').write_text('mine')
@@ -265,9 +283,10 @@ def files_of_others(program):
     before = (folder / INDEX).read_text()
     hold('data of others', made(program)[0], 1)
     hold('what is left of that run', ((folder / 'last.json').read_text(), (folder / INDEX).read_text()), ('mine', before))
-
-
-INDEX = 'index.html'
+    (folder / '.new-table.csv').write_text('mine')
+    hold('a draft of others', (is_refused(folder), (folder / '.new-table.csv').read_text()), (True, 'mine'))
+    (folder / page_folder_note()).write_text('{"files": 5}')
+    hold('a list out of form', is_refused(folder), True)
 
 
 def page_folder_note():
@@ -288,42 +307,60 @@ def files_of_its_own(program):
     hold('what is there', sorted(os.listdir(folder)), sorted(['climate-2022.html', 'week-1.svg', INDEX, page_folder_note()]))
 
 
-def what_did_not_change(program):
-    """Charts and tables that did not change are not made anew; with a new row those are that show it."""
-    rows = rows_from(FIRST, 30, lambda number: {'outTemp': 600 + number})
-    drawn = []
-    draw = page_charts.drawn
+@contextmanager
+def noted_spans():
+    """The spans whose charts are drawn, in their order."""
+    drawn, draw = [], page_charts.drawn
 
     def noted(span, *words):
         drawn.append(span)
         return draw(span, *words)
 
-    def make(of_rows, language='en'):
-        write_archive(program.folder / ARCHIVE, of_rows)
-        drawn.clear()
-        archive = page.Archive(TOOLS / 'checks/stand_in.py', program.folder / ARCHIVE)
-        with page.Folder(program.folder / FOLDER) as folder:
-            page.Page(archive, folder, Units(True, row_lines.Buckets(), language), 'Roof').write(datetime(2024, 7, 2))
-        return list(drawn)
-
     page_charts.drawn = noted
     try:
-        hold('what is drawn first', make(rows), [*page_charts.SPANS])
-        files = {file.name: file.stat().st_mtime_ns for file in (program.folder / FOLDER).glob('*.*g')}
-        hold('what is drawn of the same', make(rows), [])
-        hold('its files', {file.name: file.stat().st_mtime_ns for file in (program.folder / FOLDER).glob('*.*g')}, files)
-        hold('what is drawn of another row', make([*rows, row_at('2024-07-01 02:35', outTemp=100)]), [*page_charts.SPANS])
-        hold('what is drawn in another language', make([*rows, row_at('2024-07-01 02:35', outTemp=100)], 'de'), [*page_charts.SPANS])
-        charts = seen(program).all('img', 'src')
-        (program.folder / FOLDER / next(name for name in charts if name.startswith('week-'))).unlink()
-        hold('what is drawn of a chart that is gone', make([*rows, row_at('2024-07-01 02:35', outTemp=100)], 'de'), ['Week'])
-        hold('the charts', all((program.folder / FOLDER / name).exists() for name in charts), True)
+        yield drawn
     finally:
         page_charts.drawn = draw
 
 
+def spans_drawn(program, rows, language='en', is_metric=True, bucket=row_lines.DEFAULT_BUCKET, has_inside=False):
+    """Makes a page of some rows; gives the spans whose charts were drawn."""
+    write_archive(program.folder / ARCHIVE, rows)
+    archive = page.Archive(TOOLS / 'checks/stand_in.py', program.folder / ARCHIVE)
+    units = Units(is_metric, row_lines.Buckets(bucket), language)
+    with noted_spans() as drawn, page.Folder(program.folder / FOLDER) as folder:
+        page.Page(archive, folder, units, 'Roof', has_inside).write(datetime(2024, 7, 2))
+    return drawn
+
+
+def what_did_not_change(program):
+    """Charts and tables that did not change are not made anew; with a new row those are that show it."""
+    rows = rows_from(FIRST, 30, lambda number: {'outTemp': 600 + number})
+    more = [*rows, row_at('2024-07-01 02:35', outTemp=100)]
+    hold('what is drawn first', spans_drawn(program, rows), [*page_charts.SPANS])
+    files = {file.name: file.stat().st_mtime_ns for file in (program.folder / FOLDER).glob('*.*g')}
+    hold('what is drawn of the same', spans_drawn(program, rows), [])
+    hold('its files', {file.name: file.stat().st_mtime_ns for file in (program.folder / FOLDER).glob('*.*g')}, files)
+    hold('what is drawn of another row', spans_drawn(program, more), [*page_charts.SPANS])
+    hold('what is drawn in another language', spans_drawn(program, more, 'de'), [*page_charts.SPANS])
+    charts = seen(program).all('img', 'src')
+    (program.folder / FOLDER / next(name for name in charts if name.startswith('week-'))).unlink()
+    hold('what is drawn of a chart that is gone', spans_drawn(program, more, 'de'), ['Week'])
+    hold('the charts', all((program.folder / FOLDER / name).exists() for name in charts), True)
+
+
+def what_other_words_draw(program):
+    """Each word of the command that changes what charts show has them drawn anew."""
+    rows, words = rows_from(FIRST, 3, lambda number: {'outTemp': 600 + number, 'inTemp': 700}), {}
+    hold('what is drawn first', spans_drawn(program, rows), [*page_charts.SPANS])
+    for word, value in (('is_metric', False), ('bucket', '0.2mm'), ('has_inside', True)):
+        words[word] = value
+        hold(f'what is drawn by {words}', spans_drawn(program, rows, **words), [*page_charts.SPANS])
+    hold('what is drawn by the same words', spans_drawn(program, rows, **words), [])
+
+
 CASES = (formulas, derived_lines, rows_that_are_old, young_archives, winds_of_long_spans, panels_with_values, what_is_inside, languages,
-         last_row_as_data, files_of_others, files_of_its_own, what_did_not_change)
+         last_row_as_data, files_of_others, files_of_its_own, what_did_not_change, what_other_words_draw)
 AT_ONCE = 1  # one case changes a module
 
 if __name__ == '__main__':

@@ -28,6 +28,11 @@ def files_of_old_note(folder, years):
     return sorted(name for name in os.listdir(folder) if is_own(name))
 
 
+def names_in_folder(names):
+    """The names of a list that lead to no other folder, since a list that others have changed has nothing taken away there."""
+    return [name for name in names if isinstance(name, str) and name == os.path.basename(name)]
+
+
 class Folder:
     """The folder of a page. One run has it at a time."""
 
@@ -49,11 +54,12 @@ class Folder:
         """The note of what was made: its own files, and by the name of what was made, what of."""
         try:
             note = dict(json.loads((self.path / NOTE).read_text(encoding='utf-8')))
+            files, made = names_in_folder(note.get('files', [])), dict(note.get('made', {}))
         except (OSError, ValueError, TypeError):
             return {'files': [], 'made': {}}
         if note and all(YEAR.fullmatch(key) for key in note):
             return {'files': files_of_old_note(self.path, note), 'made': {}}
-        return {'files': list(note.get('files', [])), 'made': dict(note.get('made', {}))}
+        return {'files': files, 'made': made}
 
     def refuse_foreign(self, names):
         """Refuses names at which there are files that it did not make, unless it may replace them."""
