@@ -1,269 +1,33 @@
 #!/usr/bin/python3
-"""Tries weewx.py: what becomes of each value on either way, and what it refuses.
+"""Tries which rows weewx.py takes on either way, and what it refuses: gaps, hours that come twice, older columns, databases that
+others have open or that are damaged, second runs, and many rows.
 
     tools/checks/try_weewx.py PROGRAM [--whole]
 
-A script that prints the lines of a file is in the program's place, but for one case. WeeWX itself is not at hand: databases are
+A script that prints the lines of a file is in the program's place, but for two cases. WeeWX itself is not at hand: databases are
 made here with its columns. With --whole the way there and back takes ten years of five minutes, and else a tenth of a year. The
 last line is 'N passed, M failed', and the status is 1 if any failed.
 """
 import os
 import random
 import re
-import sqlite3
 import subprocess
 import sys
-from contextlib import closing
-from datetime import date, datetime, timedelta, timezone
-from pathlib import Path
+from datetime import datetime, timedelta
 
 sys.dont_write_bytecode = True  # nothing is left beside the scripts
 
-import field_values
-from field_values import LINES, MINUTES, NAMES, STAMPS, hold_values
+from field_values import LINES, NAMES
 from model.archive import CLOSED_GATE, THIS_VERSION, head_slot, sealed_batch, slots_to_add
-from model.records import FIELDS, KINDS
 from model.rows import Row, row_line
 from model.stamps import stamp_of_texts
 from trying import Differs, hold, try_all
+from weewx_databases import (ARCHIVE, BUCKET, COLUMNS, DATABASE, FIRST, LOST, OLD_COLUMNS, PRINTS, TOOLS, ZONE, fill, link_to,
+                             make_table, rows, run, stamp, values_in)
 
-TOOLS = Path(__file__).resolve().parent.parent
 WHOLE = '--whole'
 TEN_YEARS, TENTH_OF_A_YEAR = 10 * 365 * 288 + 2 * 288, 10_512
 MEMORY_KB = 150_000
-RANDOM_ROWS = {1: 100_000, 16: 20_000, 17: 20_000}  # by the units of the database
-ZONE = '<+01>-1'  # one hour ahead of UTC
-EPOCHS = (1706929500, 1706930100, 1706931900)  # of the worked stamps, by `date -d TIME +%s`
-DATABASE, ARCHIVE = 'weewx.sdb', 'rows'
-FIRST = 1_720_000_200  # a full minute of July 2024
-BUCKET = '0.01in'
-
-# The table as WeeWX makes it; `x1..8` stands for x1 to x8.
-KEYS = [('dateTime', 'INTEGER', 1, 1), ('usUnits', 'INTEGER', 1, 0), ('interval', 'INTEGER', 1, 0)]
-COLUMNS = '''altimeter appTemp appTemp1 barometer batteryStatus1..8 cloudbase co co2 consBatteryVoltage dewpoint dewpoint1 ET
-    extraHumid1..8 extraTemp1..8 forecast hail hailBatteryStatus hailRate heatindex heatindex1 heatingTemp heatingVoltage humidex
-    humidex1 inDewpoint inHumidity inTemp inTempBatteryStatus leafTemp1..2 leafWet1..2 lightning_distance
-    lightning_disturber_count lightning_energy lightning_noise_count lightning_strike_count luminosity maxSolarRad nh3 no2 noise
-    o3 outHumidity outTemp outTempBatteryStatus pb pm10_0 pm1_0 pm2_5 pressure radiation rain rainBatteryStatus rainRate
-    referenceVoltage rxCheckPercent signal1..8 snow snowBatteryStatus snowDepth snowMoisture snowRate so2 soilMoist1..4
-    soilTemp1..4 supplyVoltage txBatteryStatus UV uvBatteryStatus windBatteryStatus windchill windDir windGust windGustDir
-    windrun windSpeed'''
-OLD_COLUMNS = '''barometer pressure altimeter inTemp outTemp inHumidity outHumidity windSpeed windDir windGust windGustDir rainRate
-    rain dewpoint windchill heatindex ET radiation UV extraTemp1..3 soilTemp1..4 leafTemp1..2 extraHumid1..2 soilMoist1..4
-    leafWet1..2 rxCheckPercent txBatteryStatus consBatteryVoltage hail hailRate heatingTemp heatingVoltage supplyVoltage
-    referenceVoltage windBatteryStatus rainBatteryStatus outTempBatteryStatus inTempBatteryStatus'''
-LOST = {name for name, worked in field_values.FIELDS['0.01in'].items() if not worked.weewx}
-
-# What the worked values are in the units 16, if those are not the ones of 17: km/h and cm.
-KILOMETRES = {'windSpeed': 17.702784, 'windGust': 37.014912}
-CENTIMETRES = {'rain': 0.1778, 'highRainRate': 0.762, 'ET': 0.04826}
-
-# How WeeWX makes metric values of a console's, by its own constants.
-WEEWX_MBAR, WEEWX_KILOMETRES = 1 / 0.0295299875, 1.60934
-
-PRINTS = '''#!/bin/sh
-[ -e "$2" ] || { echo 'disk fault'; exit 7; }
-awk -v first="$4" '$2 >= first || $1 != "row"' "$2" | if [ -e cutting ]; then head -c -1; else cat; fi
-[ ! -e refused ] || { echo 'damaged at 352'; exit 11; }
-'''
-
-
-def names_of(text):
-    """The names of a list of columns."""
-    for word in text.split():
-        name, _, last = word.partition('1..')
-        yield from [f'{name}{number}' for number in range(1, int(last) + 1)] if last else [name]
-
-
-def run(program, *words, **options):
-    """Runs the tool in a case's folder; gives its status, and what it printed on both outputs."""
-    for option, value in (('--zone', ZONE), ('--bucket', BUCKET)):
-        if option not in words and '--station' not in words:
-            words = (*words, option, value)
-    ran = subprocess.run([TOOLS / 'product/weewx.py', *words], cwd=program.folder, capture_output=True, text=True, check=False, **options)
-    return ran.returncode, ran.stdout, ran.stderr
-
-
-def rows(program, *words, **options):
-    """Prints the rows of the database of a case; gives its status, lines and troubles."""
-    status, printed, told = run(program, 'rows', DATABASE, *words, **options)
-    return status, printed.splitlines(keepends=True), told
-
-
-def fill(program, lines, *words):
-    """Writes row lines into the database of a case; gives the status and what was told."""
-    program.write(ARCHIVE, ''.join(lines))
-    program.write('prints', PRINTS)
-    (program.folder / 'prints').chmod(0o755)
-    status, printed, told = run(program, 'database', DATABASE, '--archive', ARCHIVE, '--program', './prints', *words)
-    hold('what is printed', printed, '')
-    return status, told
-
-
-def link_to(program, name=DATABASE):
-    """A link to a database of a case."""
-    return closing(sqlite3.connect(program.folder / name, isolation_level=None))
-
-
-def make_table(program, columns, entries, name=DATABASE):
-    """Makes a database with these columns of WeeWX and these rows, whose keys are the time, the units and the interval."""
-    kinds = ['dateTime INTEGER NOT NULL UNIQUE PRIMARY KEY', 'usUnits INTEGER NOT NULL', '`interval` INTEGER NOT NULL']
-    with link_to(program, name) as link:
-        link.execute(f'CREATE TABLE archive ({", ".join([*kinds, *(f"{column} REAL" for column in names_of(columns))])})')
-        link.execute('BEGIN')
-        for moment, system, minutes, values in entries:
-            link.execute(f'INSERT INTO archive ({", ".join(["dateTime", "usUnits", "`interval`", *values])}) '
-                         f'VALUES (?, ?, ?{", ?" * len(values)})', [moment, system, minutes, *values.values()])
-        link.execute('COMMIT')
-
-
-def values_in(program, *columns):
-    """The rows of a database."""
-    with link_to(program) as link:
-        return link.execute(f'SELECT {", ".join(columns)} FROM archive ORDER BY dateTime').fetchall()
-
-
-def stamp(moment):
-    """The stamp of a moment by a clock of the zone."""
-    return f'{datetime.fromtimestamp(moment, timezone(timedelta(hours=1))):%Y-%m-%d %H:%M}'
-
-
-def taken(program, values_of_rows, system=1):
-    """What becomes of rows of these values: the words behind the period of each, what is told of them, and the status."""
-    (program.folder / DATABASE).unlink(missing_ok=True)
-    make_table(program, COLUMNS, [(FIRST + 300 * number, system, 5, values) for number, values in enumerate(values_of_rows)])
-    status, lines, told = rows(program)
-    return [line.rstrip('\n').split(' ', 4)[4:] for line in lines], told, status
-
-
-def columns_of_weewx(program):
-    """A new database has the columns of WeeWX with their types, in their order, and US units."""
-    hold('the making', fill(program, LINES)[0], 0)
-    with link_to(program) as link:
-        columns = [(name, kind, needed, key) for _, name, kind, needed, _, key in link.execute('PRAGMA table_info(archive)')]
-        text = link.execute("SELECT sql FROM sqlite_master WHERE name = 'archive'").fetchone()[0]
-    hold('its columns', columns, KEYS + [(name, 'REAL', 0, 0) for name in names_of(COLUMNS)])
-    hold('its key', 'dateTime` INTEGER NOT NULL UNIQUE PRIMARY KEY' in text, True)
-    hold('its keys', values_in(program, 'dateTime', 'usUnits', '`interval`'),
-         [(moment, 1, minutes) for moment, minutes in zip(EPOCHS, MINUTES)])
-    hold('who may read it', (program.folder / DATABASE).stat().st_mode & 0o444, 0o444 & ~umask())
-
-
-def umask():
-    """The mask of this process."""
-    mask = os.umask(0)
-    os.umask(mask)
-    return mask
-
-
-def worked_values(bucket, system):
-    """The worked values of three rows in a system of units, by field."""
-    found = field_values.values(bucket) if system == 1 else field_values.metric_values(bucket)
-    found = {name: values for name, values in found.items() if name not in LOST}
-    if system == 16:
-        found |= {name: (above, *found[name][1:]) for name, above in KILOMETRES.items()}
-        found |= {name: tuple(value and value / 10 for value in found[name]) for name in CENTIMETRES}
-    return found
-
-
-def all_fields_there(program):
-    """Each field becomes the value that was worked out by hand, in the units of the database, and by each bucket."""
-    for bucket in field_values.FIELDS:
-        for system in (1, 16, 17):
-            (program.folder / DATABASE).unlink(missing_ok=True)
-            if system != 1:
-                make_table(program, COLUMNS, [(EPOCHS[0] - 300, system, 5, {})])
-            status, told = fill(program, LINES, '--bucket', bucket)
-            hold('the status', status, 0)
-            names = worked_values(bucket, system)
-            columns = [field_values.FIELDS[bucket][name].weewx for name in names]
-            seen = values_in(program, *columns)[-3:]
-            hold_values(f'units {system}, {bucket}', dict(zip(names, zip(*seen))), names)
-            hold('what is lost', re.findall(r'(\w+) \d+(?=,|$)', told.split('database: ')[1].splitlines()[0]), sorted(LOST))
-    hold('a worked value in cm', worked_values('0.01in', 16)['rain'][0], CENTIMETRES['rain'])
-
-
-def all_fields_back(program):
-    """Each worked value becomes the count that it is of, whatever the units."""
-    for bucket in field_values.FIELDS:
-        for system in (1, 16, 17):
-            (program.folder / DATABASE).unlink(missing_ok=True)
-            worked = worked_values(bucket, system)
-            entries = [(moment, system, minutes, {field_values.FIELDS[bucket][name].weewx: values[place]
-                                                  for name, values in worked.items() if values[place] is not None})
-                       for place, (moment, minutes) in enumerate(zip(EPOCHS, MINUTES))]
-            for entry in entries:
-                if entry[3].get('barometer') == 0:
-                    del entry[3]['barometer']  # a console's mark of no value
-            make_table(program, COLUMNS, entries)
-            status, lines, _ = rows(program, '--bucket', bucket)
-            hold('the status', status, 0)
-            hold(f'units {system}, {bucket}', [without(line, LOST) for line in lines],
-                 [without(line, LOST).replace(' barometer=0 ', ' ') for line in LINES])
-
-
-def without(line, names):
-    """A row line without some fields."""
-    return ' '.join(word for word in line.rstrip('\n').split(' ') if word.split('=')[0] not in names) + '\n'
-
-
-def metric_values_of_weewx(program):
-    """Pressures and winds of a console that WeeWX made metric by its own constants are those of the console again."""
-    entries = [(FIRST + 300 * number, 16, 5, {'barometer': (20_000 + number) / 1000 * WEEWX_MBAR,
-                                             'windSpeed': number % 255 * WEEWX_KILOMETRES, 'outTemp': (number / 10 - 32) / 1.8})
-               for number in range(12_500)]
-    make_table(program, COLUMNS, entries)
-    hold('the rows', rows(program)[1], [f'row {stamp(FIRST + 300 * number)} 5 outTemp={number} barometer={20_000 + number} '
-                                        f'windSpeed={number % 255}\n' for number in range(12_500)])
-
-
-NO_TENTHS = {
-    1: ((('outTemp', 65.04), 'outTemp=650'), (('outTemp', 65.05), 'outTemp=651'), (('outTemp', 65.06), 'outTemp=651'),
-        (('outTemp', -0.05), 'outTemp=0'), (('outTemp', -0.06), 'outTemp=-1'), (('inTemp', 4.349999999), 'inTemp=43'),
-        (('windSpeed', 2.5), 'windSpeed=3'), (('outHumidity', 48.4999), 'outHumidity=48'),
-        (('barometer', 29.9214), 'barometer=29921'), (('barometer', 32.0025), 'barometer=32003'),
-        (('UV', 7.25), 'UV=73'), (('soilTemp1', 50.5), 'soilTemp1=51'),
-        (('windDir', 11), 'windDir=0'), (('windDir', 11.25), 'windDir=1'), (('windDir', 348), 'windDir=15'),
-        (('windDir', 349), 'windDir=0'), (('windDir', 360), 'windDir=0'), (('outTemp', 65), 'outTemp=650'),
-        (('outTemp', '65.1'), 'outTemp=651')),
-    17: ((('outTemp', 18.36), 'outTemp=650'), (('extraTemp1', 20.2), 'extraTemp1=68')),
-}
-
-
-def values_that_are_no_tenth(program):
-    """A value between two counts becomes the nearest one, and of two the greater."""
-    for system, cases in NO_TENTHS.items():
-        words, _, status = taken(program, [dict([pair]) for pair, _ in cases], system)
-        hold('the status', status, 0)
-        for (pair, wanted), seen in zip(cases, words, strict=True):
-            hold(f'{pair}', seen, [wanted])
-
-
-def edges_of(field):
-    """Counts at the edges of what a field can have, and whether it can."""
-    if 'Dir' in field.name:
-        return {0: True, 15: True, -1: False, 17: False}
-    _, _, least, greatest, more = KINDS[field.kind]
-    edges = {least - more: True, greatest - more: True, least - more - 1: False, greatest - more + 1: False}
-    return edges | ({field.missing - more: False} if field.missing is not None else {})
-
-
-def values_beyond_a_range(program):
-    """A value that its field cannot hold is left out and named; the edges of each range are taken, and the marks are not."""
-    cases = []
-    for field in (field for field in FIELDS if field.name not in LOST):
-        worked = field_values.FIELDS['0.01in'][field.name]
-        unit = worked.above[1] / worked.above[0]
-        cases += [(field.name, count, is_taken, {worked.weewx: count * unit}) for count, is_taken in edges_of(field).items()]
-    words, told, status = taken(program, [values for *_, values in cases])
-    hold('the status', status, 3)
-    for number, (name, count, is_taken, values) in enumerate(cases):
-        hold(f'{name} of {count}', words[number], [f'{name}={count}'] if is_taken else [])
-        named = f'left out: {next(iter(values))} .* of {stamp(FIRST + 300 * number)}: '
-        hold(f'what is told of {name} of {count}', bool(re.search(named, told)), not is_taken)
-    odd = [{'outTemp': value, 'rain': value, 'inTemp': 70} for value in ('warm', b'\1\2', float('inf'))]
-    words, told, status = taken(program, odd)
-    hold('odd values', (status, words, told.count('weewx: left out: ')), (3, [['inTemp=700']] * 3, 6))
 
 
 def rows_that_have_no_place(program):
@@ -322,6 +86,7 @@ def hours_of_the_other_way(program):
     for text in ('left out: 2024-03-31 02:30 does not come in Europe/Berlin', '1 row of an hour that comes twice in Europe/Berlin'):
         if text not in told:
             raise Differs(told)
+    hold('a second run', fill(program, lines, '--zone', 'Europe/Berlin'), (0, 'weewx: 0 rows added; left out: 0 rows\n'))
 
 
 def older_columns(program):
@@ -338,46 +103,6 @@ def older_columns(program):
     hold('what has no column', 'weewx: without a place in the database: UV 1, rain 1\n' in told, True)
 
 
-def rain_of_days(program):
-    """No day's rain is off by more than a click, whatever its amounts, and neither is its evaporation by a thousandth."""
-    draw = random.Random(7)
-    amounts = [(draw.choice((0, 0, draw.uniform(0, 0.9), 0.2)), draw.choice((0, draw.uniform(0, 0.03)))) for _ in range(20 * 288)]
-    make_table(program, COLUMNS, [(FIRST + 300 * number, 17, 5, {'rain': rain, 'ET': et})
-                                  for number, (rain, et) in enumerate(amounts)])
-    for bucket, millimetres in (('0.01in', 0.254), ('0.2mm', 0.2), ('0.1mm', 0.1)):
-        days = {}
-        for (rain, et), line in zip(amounts, rows(program, '--bucket', bucket)[1]):
-            counts = dict(word.split('=') for word in line.split()[4:])
-            day = days.setdefault(line[4:14], [0, 0])
-            day[0] += int(counts['rain']) * millimetres - rain
-            day[1] += int(counts['ET']) * 0.0254 - et
-        for day, (rain, et) in days.items():
-            if abs(rain) > millimetres * 1.000001 or abs(et) > 0.0254 * 1.000001:
-                raise Differs(f'{day} by {bucket}: the rain is off by {rain} mm, the evaporation by {et} mm')
-        if abs(sum(rain for rain, _ in days.values())) > millimetres:
-            raise Differs(f'all days by {bucket} are off')
-
-
-def bucket_that_changed(program):
-    """A station's bucket that was changed counts from the beginning of its day on, on either way."""
-    (program.folder / 'roof.env').write_text('TZ=<+01>-1\nBUCKET=0.01in\nBUCKET_FROM=2024-07-04 0.2mm\n')
-    places = ('--station', 'roof', '--settings', '.', '--archives', '.')
-    lines = ['row 2024-07-03 23:55 5 rain=3\n', 'row 2024-07-04 00:00 5 rain=2\n', 'row 2024-07-04 00:05 5 rain=5\n']
-    program.write('roof.archive', ''.join(lines))
-    program.write('prints', PRINTS)
-    (program.folder / 'prints').chmod(0o755)
-    status, _, told = run(program, 'database', DATABASE, *places, '--program', './prints')
-    hold('the status', (status, told), (0, 'weewx: 3 rows added; left out: 0 rows\n'))
-    hold('the rain', [round(rain * 25.4, 6) for rain, in values_in(program, 'rain')], [0.762, 0.508, 1.0])
-    hold('the rows', rows(program, *places)[:2], (0, lines))
-    (program.folder / 'roof.env').write_text('TZ=<+01>-1\nBUCKET=0.2mm\nBUCKET_FROM=2024-07-04 0.1mm\n')
-    (program.folder / DATABASE).unlink()
-    make_table(program, COLUMNS, [(1720047300 + 600 * number, 17, 5, {'rain': rain}) for number, rain in enumerate((0.09, 0.07))])
-    hold('a rest in clicks of half the size', rows(program, *places)[1],
-         ['row 2024-07-03 23:55 5 rain=0\n', 'row 2024-07-04 00:05 5 rain=2\n'])
-    hold('the zone of an option', rows(program, *places, '--zone', 'Etc/GMT-2')[1][0][:20], 'row 2024-07-04 00:55')
-
-
 def database_of_another_process(program):
     """Of a database that another process has open, what was committed is read, also from its log."""
     make_table(program, COLUMNS, [(FIRST, 1, 5, {'outTemp': 50})])
@@ -389,7 +114,11 @@ def database_of_another_process(program):
         hold('the rows', rows(program)[:2], (0, [f'row {stamp(FIRST + 300 * number)} 5 outTemp={500 + 10 * number}\n'
                                                 for number in range(2)]))
         other.execute('COMMIT')
+        left = {name: program.read(name) for name in (DATABASE, f'{DATABASE}-wal')}
+    for name, data in left.items():
+        program.write(name, data)  # as a process leaves them that is killed
     hold('the rows behind it', len(rows(program)[1]), 3)
+    hold('what was only read', {name: program.read(name) for name in left} == left, True)
     hold('the files beside it, but for those of the log', {*os.listdir(program.folder)} - {f'{DATABASE}-wal', f'{DATABASE}-shm'},
          {DATABASE})
     with link_to(program) as other:
@@ -485,6 +214,64 @@ def refusals(program):
         hold('a full disk', (ran.returncode, ran.stderr.splitlines()[-1]), (1, 'weewx: [Errno 28] No space left on device'))
 
 
+def last_rows_of_no_time(program):
+    """A database whose last row is of no time that a clock can show is refused in one line, and stays as it was."""
+    for moment in (1000 * FIRST, -10 ** 17):
+        make_table(program, 'outTemp', [(moment, 1, 5, {'outTemp': 50})])
+        hold(f'a last row of {moment}', fill(program, LINES), (
+            1, f'weewx: the dateTime {moment} of the last row is no time: which rows are later is not known\n'))
+        hold('what is there', values_in(program, '*'), [(moment, 1, 5, 50.0)])
+        status, lines, told = rows(program)
+        hold('its rows', (status, lines, told.splitlines()[-1]), (1, [], f'weewx: {DATABASE} has no row that can be taken'))
+        (program.folder / DATABASE).unlink()
+
+
+def first_and_last_minutes(program):
+    """The first minute of 2000 and the last one of 2127 are taken, as the import takes them, and no minute beyond."""
+    minutes = {'2000-01-01 00:00': 946_681_200, '2127-12-31 23:59': 4_985_967_540}
+    moments = [moment + step for moment, step in zip(minutes.values(), (-60, 60))]
+    make_table(program, COLUMNS, [(moment, 1, 1, {}) for moment in (*minutes.values(), *moments)])
+    status, lines, told = rows(program)
+    hold('the rows', (status, lines), (3, [f'row {minute} 1\n' for minute in minutes]))
+    hold('what is left out', re.findall(r'left out: the row of dateTime (\d+)', told), [str(moment) for moment in moments])
+    program.write('edge.rows', ''.join(lines))
+    hold('their import', program.run('import edge.rows edge.archive'), (0, 'imported 2 passed 0 rows 2\n'))
+
+
+def names_of_files(program):
+    """A database is found by its name, whatever letters that has, on either way."""
+    for name in ('my weather.sdb', 'roof#1.sdb', 'a?mode=rwc.sdb', 'b%20c.sdb'):
+        make_table(program, COLUMNS, [(FIRST, 1, 5, {'outTemp': 50})], name)
+        hold(f'the rows of {name}', run(program, 'rows', name)[:2], (0, f'row {stamp(FIRST)} 5 outTemp=500\n'))
+        program.write(ARCHIVE, f'row {stamp(FIRST + 300)} 5 outTemp=510\n')
+        program.write('prints', PRINTS)
+        (program.folder / 'prints').chmod(0o755)
+        told = run(program, 'database', name, '--archive', ARCHIVE, '--program', './prints')[2]
+        hold(f'a row more in {name}', told, 'weewx: 1 row added; left out: 0 rows\n')
+        (program.folder / name).unlink()
+    hold('what is there', sorted(os.listdir(program.folder)), sorted([ARCHIVE, 'prints']))
+
+
+def two_archives(program):
+    """The rows of an archive that was put aside go into the database too. Of two with one stamp that of the archive is taken."""
+    program.write('old', ''.join(f'row {stamp(FIRST + 300 * number)} 5 outTemp=400\n' for number in (0, 1, 3)))
+    status, told = fill(program, [f'row {stamp(FIRST + 300 * number)} 5 outTemp=500\n' for number in (1, 2)], '--also', 'old')
+    hold('the making', (status, told), (0, 'weewx: 4 rows added; left out: 0 rows\n'))
+    hold('the rows', values_in(program, 'dateTime', 'outTemp'),
+         [(FIRST + 300 * number, warmth) for number, warmth in enumerate((40.0, 50.0, 50.0, 40.0))])
+
+
+def made_meanwhile(program):
+    """A database that another process made while the rows were read is left as it is."""
+    program.write('slow', f"#!/bin/sh\necho mine >{DATABASE}\ncat \"$2\"\n")
+    (program.folder / 'slow').chmod(0o755)
+    program.write(ARCHIVE, ''.join(LINES))
+    status, printed, told = run(program, 'database', DATABASE, '--archive', ARCHIVE, '--program', './slow')
+    hold('the end', (status, printed, told.splitlines()),
+         (1, '', [f'weewx: {DATABASE} is there now: it was made meanwhile, and is left as it is']))
+    hold('what is there', (program.read(DATABASE), sorted(os.listdir(program.folder))), (b'mine\n', sorted([ARCHIVE, DATABASE, 'slow'])))
+
+
 def words_out_of_form(program):
     """Words out of form end with status 2."""
     make_table(program, COLUMNS, [(FIRST, 1, 5, {})])
@@ -496,49 +283,6 @@ def words_out_of_form(program):
     status, _, told = run(program, 'rows', DATABASE, '--station', 'roof', '--settings', '.')
     hold('a station that is none', (status, told), (1, 'weewx: ./roof.env: No such file or directory\n'))
     hold('what is there', os.listdir(program.folder), [DATABASE])
-
-
-def random_value(draw, field):
-    """A count that a console's field can have."""
-    if 'Dir' in field.name:
-        return draw.randrange(16)
-    _, _, least, greatest, more = KINDS[field.kind]
-    raw = draw.randint(least, greatest)
-    return raw - more if raw != field.missing else None
-
-
-def random_lines(count):
-    """Rows of random values, some of them missing, in random distances."""
-    draw, moment = random.Random(70), FIRST
-    for _ in range(count):
-        moment += 300 * draw.choice((1, 1, 1, 1, 7, 300))
-        values = {field.name: random_value(draw, field) for field in FIELDS
-                  if field.name not in LOST and draw.random() < 0.9}
-        words = ''.join(f' {name}={value}' for name, value in values.items() if value is not None)
-        yield f'row {stamp(moment)} {draw.choice((1, 5, 10, 15, 30, 60, 120))}{words}\n'
-
-
-def there_and_back(program):
-    """Random rows come back as they were through a database of each system of units."""
-    for system, count in RANDOM_ROWS.items():
-        lines = list(random_lines(count))
-        if system != 1:
-            make_table(program, COLUMNS, [(FIRST - 300, system, 5, {})])
-        hold('the way there', fill(program, lines), (0, f'weewx: {len(lines)} rows added; left out: 0 rows\n'))
-        status, back, _ = rows(program)
-        hold('the status', status, 0)
-        for seen, wanted in zip(back[-len(lines):], lines, strict=True):
-            hold(f'a row in units {system}', seen, wanted)
-        (program.folder / DATABASE).unlink()
-
-
-def what_is_lost(program):
-    """Of a row with all fields those without a place are missing after the way there and back, and what limits removed is."""
-    line = LINES[0].replace(' UV=73', ' UV=limit')
-    status, told = fill(program, [line])
-    hold('what is named', (status, re.search('without a place in the database: (.*)', told)[1]),
-         (0, ', '.join(f'{name} 1' for name in sorted(LOST))))
-    hold('the row', rows(program)[1], [without(line, LOST | {'UV'})])
 
 
 def measured(words, folder, output):
@@ -608,11 +352,9 @@ def from_database_to_database(program):
     hold('its values', values_in(program, *columns), wanted)
 
 
-CASES = (there_and_back, many_rows, columns_of_weewx, all_fields_there, all_fields_back, metric_values_of_weewx,
-         values_that_are_no_tenth, values_beyond_a_range, rows_that_have_no_place, gaps_and_mixed_intervals, hour_of_autumn,
-         hours_of_the_other_way, older_columns, rain_of_days, bucket_that_changed, database_of_another_process,
-         damaged_databases, second_runs, refusals, words_out_of_form, what_is_lost, archives_of_the_program,
-         from_database_to_database)
+CASES = (many_rows, rows_that_have_no_place, gaps_and_mixed_intervals, hour_of_autumn, hours_of_the_other_way, older_columns,
+         database_of_another_process, damaged_databases, second_runs, refusals, last_rows_of_no_time, first_and_last_minutes,
+         names_of_files, two_archives, made_meanwhile, words_out_of_form, archives_of_the_program, from_database_to_database)
 AT_ONCE = 2
 is_whole = WHOLE in sys.argv
 

@@ -55,16 +55,19 @@ class Entries:
             self.made[bucket] = {name: Values(fields.to_counts(name, self.system, bucket)) for name in self.names}
         return self.made[bucket]
 
-    def moment(self, stamp):
-        """The moment of a stamp, of two the first one; None if the clock of the zone does not show it."""
+    def moment(self, stamp, last):
+        """The moment of a stamp, of two the first one; None if it is not later than a last one, or no clock of the zone shows it."""
         first = stamp.replace(tzinfo=self.station.zone)
+        moment = int(first.astimezone(timezone.utc).timestamp())
+        if moment <= last:
+            return None
         ahead, behind = first.utcoffset(), first.replace(fold=1).utcoffset()
         if ahead < behind:
             self.left_out += 1
             self.tell(f'left out: {stamp:%Y-%m-%d %H:%M} does not come in {self.station.zone.key}')
             return None
         self.doubled += ahead > behind
-        return int(first.astimezone(timezone.utc).timestamp())
+        return moment
 
     def entry(self, moment, row):
         """The keys and the values of a row."""
@@ -78,8 +81,8 @@ class Entries:
     def insert(self, link, first_day, last):
         """Writes the rows that are later than a moment into the table."""
         names = [*schema.KEY_NAMES, *(fields.COLUMNS[name] for name in self.names)]
-        timed = ((self.moment(row.stamp), row) for row in self.station.rows_from(first_day))
-        entries = (self.entry(moment, row) for moment, row in timed if moment is not None and moment > last)
+        timed = ((self.moment(row.stamp, last), row) for row in self.station.rows_from(first_day))
+        entries = (self.entry(moment, row) for moment, row in timed if moment is not None)
         link.executemany(f'INSERT INTO {schema.TABLE} ({quoted(names)}) VALUES ({", ".join("?" * len(names))})', entries)
 
 
@@ -105,8 +108,11 @@ def make(name, station, tell):
 
 
 def day_before(moment, zone):
-    """The day before a moment, or the first of all."""
-    return max(FIRST_DAY, (datetime.fromtimestamp(moment, zone) - DAY).date())
+    """The day before the moment of a last row, or the first day of all."""
+    try:
+        return max(FIRST_DAY, (datetime.fromtimestamp(moment, zone) - DAY).date())
+    except (TypeError, ValueError, OverflowError, OSError):
+        raise NotTaken(f'the dateTime {moment} of the last row is no time: which rows are later is not known') from None
 
 
 def update(name, station, tell):
