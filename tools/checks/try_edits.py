@@ -1,11 +1,12 @@
 #!/usr/bin/env python3
 """Tries wrong bodies in groups: the prover has to refuse each, at a goal of the function that it changes.
 
-    tools/checks/try_edits.py [--build] [--each] [--jobs N] NAME .. | --all | --changed
+    tools/checks/try_edits.py [--build] [--each] [--jobs N] [--note] NAME .. | --all | --changed
 
 It tries those of `must-fail/` and `more-edits/`, of the crates named or with --all of all. With --changed it tries those of
-`more-edits/` alone, which the gate does not, of the crates that differ from the commit in `tools/checks/tried_edits.txt`. When --all
-saw each refused, on a checkout without a change, it writes that commit there.
+`more-edits/` alone, which the gate does not, of each crate that differs in more than comments from the commit noted of it in
+`tools/checks/tried_edits.txt`, or of which none is noted. With --note it notes the commit of each crate of which all were refused,
+on a checkout without a change.
 
 A line `# clause: NAME` in a wrong body asks that it is refused at that clause of its function, which has several. A line is
 printed for each that is not refused, with --each for all, and on standard error for each check. What was refused is not tried
@@ -20,10 +21,10 @@ import contextlib
 import hashlib
 import os
 import signal
-import subprocess
 import sys
 import tempfile
 import threading
+from collections import Counter
 from concurrent.futures import ThreadPoolExecutor, as_completed
 from pathlib import Path
 
@@ -33,20 +34,14 @@ import edit_checks
 from edit_checks import Copies, Fault, Lanes, Stopped
 from edit_groups import Edit, Sources, groups
 from edit_verdicts import BAD, REFUSED, Verdict
+from noted_edits import FURTHER, OF_THE_GATE, Unknown, commit_without_changes, crates_that_differ, note
 
 TOP = Path(__file__).resolve().parents[2]
-TRIED = TOP / "tools/checks/tried_edits.txt"  # begins with the commit at which all were refused
-OF_THE_GATE, FURTHER = "must-fail", "more-edits"
-PARTS = ("src", "specs", "proofs", OF_THE_GATE, FURTHER)  # of a crate, on which its wrong bodies rest
 SCRIPTS = ("edit_groups.py", "edit_checks.py", "edit_verdicts.py")
 KEPT = Path(os.environ.get("JOFITRANA_EDITS") or Path.home() / ".cache" / "jofitrana" / "edits")
 ALL_REFUSED, NOT_ALL, NOTHING_NAMED, NOT_BUILT = range(4)
 INTERRUPTED = 130
 MINUTE = 60
-
-
-class Unknown(Exception):
-    """What names nothing here."""
 
 
 class Refusals:
@@ -77,49 +72,24 @@ class Refusals:
 
 
 class Count:
-    """How many wrong bodies there are, were refused, and were refused before."""
+    """How many wrong bodies there are, were refused, of which crates, and were refused before."""
 
     def __init__(self, prints_each):
-        self.prints_each, self.all, self.refused, self.before = prints_each, 0, 0, 0
+        self.prints_each, self.all, self.before, self.of_crates = prints_each, 0, 0, Counter()
         self.changing = threading.Lock()
 
-    def note(self, edit, verdict, is_before=False):
-        """Counts a wrong body, and prints it unless it was refused."""
+    @property
+    def refused(self):
+        """How many were refused."""
+        return self.of_crates.total()
+
+    def note(self, crate, edit, verdict, is_before=False):
+        """Counts a wrong body of a crate, and prints it unless it was refused."""
         with self.changing:
-            self.refused += verdict.kind == REFUSED
+            self.of_crates[crate.name] += verdict.kind == REFUSED
             self.before += is_before
             if self.prints_each or verdict.kind != REFUSED:
                 print(f"{edit.label}: {verdict.kind}: {verdict.why}", flush=True)
-
-
-def git(*words):
-    """What git prints."""
-    run = subprocess.run(["git", "-C", str(TOP), *words], capture_output=True, text=True, check=False)
-    if run.returncode:
-        raise Unknown((run.stderr.strip().splitlines() or [f"git {words[0]} failed"])[-1])
-    return run.stdout
-
-
-def crates_that_differ():
-    """The commit in the file, and the crates of which a part differs from it. One that is unknown here stops the script:
-    to try none would pass what nobody tried."""
-    commit = (TRIED.read_text(encoding="utf-8").split() or ["none"])[0] if TRIED.is_file() else "none"
-    try:
-        git("cat-file", "-e", f"{commit}^{{commit}}")
-    except Unknown as error:
-        raise Unknown(f"{TRIED.relative_to(TOP)} names commit {commit}, which is not known here, so that nothing says what"
-                      " differs: fetch it (git fetch --unshallow), or name the crates") from error
-    files = git("diff", "--name-only", "--no-renames", commit, "--", "crates").splitlines()
-    files += git("ls-files", "--others", "--exclude-standard", "--", "crates").splitlines()
-    paths = [file.split("/") for file in files]
-    return commit, sorted({path[1] for path in paths if len(path) > 3 and path[2] in PARTS})
-
-
-def commit_without_changes():
-    """The commit of the checkout, or nothing if a file differs from it or it is no checkout."""
-    with contextlib.suppress(Unknown):
-        return "" if git("status", "--porcelain").strip() else git("rev-parse", "HEAD").strip()
-    return ""
 
 
 def edits_of(crate, folders):
@@ -133,9 +103,9 @@ def try_crate(kit, crate, edits, lanes, count):
     refusals, left = Refusals(crate), []
     for edit in edits:
         if edit.bad:
-            count.note(edit, Verdict(BAD, edit.bad))
+            count.note(crate, edit, Verdict(BAD, edit.bad))
         elif before := refusals.verdict(edit):
-            count.note(edit, before, is_before=True)
+            count.note(crate, edit, before, is_before=True)
         else:
             left.append(edit)
     if not left:
@@ -147,7 +117,7 @@ def try_crate(kit, crate, edits, lanes, count):
         def try_group(group):
             for edit, verdict in edit_checks.try_group(copies, group).items():
                 refusals.keep(edit, verdict)
-                count.note(edit, verdict)
+                count.note(crate, edit, verdict)
 
         with ThreadPoolExecutor(lanes.processors) as pool:
             for _ in pool.map(try_group, groups(left)):  # what one of them raises is raised here
@@ -179,13 +149,13 @@ def planned(kit, options):
     """The wrong bodies to try, by their crates."""
     crates = {crate.name: crate for crate in kit.crates_below(str(TOP))}
     names, folders = options.names or [*crates], (OF_THE_GATE, FURTHER)
-    if options.changed:
-        commit, names = crates_that_differ()
-        folders = (FURTHER,)
-        print(f"{len(names)} crates differ from commit {commit}{': ' * bool(names)}{' '.join(names)}", file=sys.stderr)
-    if unknown := [name for name in names if name not in crates and not options.changed]:
+    if unknown := [name for name in names if name not in crates]:
         raise Unknown(f"no crate: {' '.join(unknown)}")
-    plan = {crates[name]: edits_of(crates[name], folders) for name in dict.fromkeys(names) if name in crates}
+    if options.changed:
+        with_further = [name for name in names if any(Path(crates[name].folder, FURTHER).glob("*.edit"))]
+        names, folders = crates_that_differ(with_further), (FURTHER,)
+        print(f"{len(names)} crates differ from what is noted{': ' * bool(names)}{' '.join(names)}", file=sys.stderr)
+    plan = {crates[name]: edits_of(crates[name], folders) for name in dict.fromkeys(names)}
     if empty := [crate.name for crate, edits in plan.items() if options.names and not edits]:
         raise Unknown(f"without a wrong body: {' '.join(empty)}")
     return {crate: edits for crate, edits in plan.items() if edits}
@@ -206,7 +176,7 @@ def parsed():
     parser = argparse.ArgumentParser(usage=__doc__)
     parser.add_argument("names", nargs="*")
     parser.add_argument("--jobs", type=int, default=len(os.sched_getaffinity(0)))
-    for word in ("--all", "--changed", "--build", "--each"):
+    for word in ("--all", "--changed", "--build", "--each", "--note"):
         parser.add_argument(word, action="store_true")
     options = parser.parse_args()
     if bool(options.names) + options.all + options.changed != 1 or options.jobs < 1:
@@ -216,7 +186,7 @@ def parsed():
 
 def run(options):
     """Tries what the words ask for, and returns the status."""
-    commit = commit_without_changes() if options.all else ""
+    commit = commit_without_changes() if options.note else ""
     kit = edit_checks.load_kit()
     plan, lanes, count = planned(kit, options), Lanes(options.jobs), Count(options.each)
     if unbuilt := stand(kit, plan, options.build):
@@ -227,19 +197,17 @@ def run(options):
     before = f" ({count.before} of them before)" if count.before else ""
     print(f"{count.refused} of {count.all} wrong bodies of {len(plan)} crates were refused{before};"
           f" {lanes.seconds / MINUTE:.1f} minutes of processor")
-    if count.refused < count.all:
-        return NOT_ALL
-    if options.all:
-        note_all(commit, count, len(plan))
-    return ALL_REFUSED
+    if options.note:
+        note_refused(commit, plan, count, {crate.name for crate in kit.crates_below(str(TOP))})
+    return ALL_REFUSED if count.refused == count.all else NOT_ALL
 
 
-def note_all(commit, count, crates):
-    """Writes the commit at which all were refused, if nothing was changed meanwhile."""
+def note_refused(commit, plan, count, standing):
+    """Notes the commit of each crate of which all were refused, if nothing was changed meanwhile."""
     if commit and commit_without_changes() == commit:
-        TRIED.write_text(f"{commit} all {count.all} wrong bodies of {crates} crates were refused here\n", encoding="utf-8")
+        note(commit, [crate.name for crate, edits in plan.items() if count.of_crates[crate.name] == len(edits)], standing)
     else:
-        print(f"{TRIED.relative_to(TOP)} stays: the checkout has changes, or is none", file=sys.stderr)
+        print("nothing is noted: the checkout has changes, or is none", file=sys.stderr)
 
 
 def main():
