@@ -9,15 +9,15 @@ is 'N passed, M failed', and the status is 1 if any failed.
 """
 import os
 import signal
+import sqlite3
 import subprocess
 import sys
-import time
-from contextlib import contextmanager
+from contextlib import closing, contextmanager
 from pathlib import Path
 
 sys.dont_write_bytecode = True  # nothing is left beside the scripts
 
-from trying import Differs, LeftOut, hold, leave_out, try_all
+from trying import Differs, LeftOut, await_that, hold, leave_out, try_all, until_end
 
 TOOLS = Path(__file__).resolve().parent.parent
 ARCHIVE, DAYS = 'roof.archive', ('2024-07-01', '2024-07-02')
@@ -28,13 +28,14 @@ SETTINGS = 'TZ=Etc/GMT-1\nBUCKET=0.01in\n'
 SLOW = '#!/bin/sh\ntouch called\nsleep 60\n'
 WAITING = 60  # seconds that a tool may take until it calls the program
 SPACE = 'size=20k'  # of a disk that is full soon: some files of a page fit
+DATABASE = 'out/weewx.sdb'
 
 # The words of each tool that write below the folder `out`, and what each calls its input.
 WRITES = {
     'page': ('page.py', *STATION, 'out/page'),
     'chart': ('chart.py', *STATION, '--days', *DAYS, 'out/chart.png'),
     'export': ('export.py', *STATION, '--days', *DAYS, 'out/table.csv'),
-    'weewx': ('weewx.py', 'database', *STATION, 'out/weewx.sdb'),
+    'weewx': ('weewx.py', 'database', *STATION, DATABASE),
 }
 
 
@@ -59,6 +60,11 @@ def hold_refusal(what, ended, reason):
     status, printed = ended
     if status != 1 or len(printed.splitlines()) != 1 or reason not in printed or not printed.startswith(f'{what.split()[0]}: '):
         raise Differs(f'{what}: {ended}')
+
+
+def folders_made():
+    """The folders that the tools make before they ask the program."""
+    return ['page'] if 'page' in WRITES else []
 
 
 def below(folder):
@@ -86,7 +92,7 @@ def archives_that_are_missing(program):
     (program.folder / ARCHIVE).unlink()
     for tool in WRITES:
         hold_refusal(f'{tool} of no archive', run(program, tool), 'disk fault')
-    hold('what is there', below(program.folder / 'out'), ['page'])
+    hold('what is there', below(program.folder / 'out'), folders_made())
 
 
 def folders_that_cannot_be_written(program):
@@ -116,6 +122,20 @@ def disks_that_are_full(program):
             hold('what was there', (out / 'mine').read_text(), 'x' * 8000)
 
 
+def updates_on_a_full_disk(program):
+    """An update for which a disk has no room leaves the database as it was, and nothing beside it."""
+    prepare(program)
+    hold('a database', run(program, 'weewx')[0], 0)
+    with closing(sqlite3.connect(program.folder / DATABASE, isolation_level=None)) as link:
+        link.execute('DELETE FROM archive WHERE dateTime > (SELECT min(dateTime) FROM archive)')
+        link.execute('VACUUM')
+    data = program.read(DATABASE)
+    with mounted(program.folder / 'out', '-o', SPACE):
+        program.write(DATABASE, data)
+        hold_refusal('weewx in an update on a full disk', run(program, 'weewx'), 'database or disk is full')
+        hold('what is left of it', (program.read(DATABASE) == data, below(program.folder / 'out')), (True, ['weewx.sdb']))
+
+
 def stopped(program, tool):
     """Stops a tool as it waits for the program; gives its status, and what it printed."""
     called = program.folder / 'called'
@@ -123,11 +143,11 @@ def stopped(program, tool):
     name, *words = WRITES[tool]
     process = subprocess.Popen([TOOLS / 'product' / name, *words, '--program', './slow'], cwd=program.folder, stdout=subprocess.PIPE,
                                stderr=subprocess.STDOUT, stdin=subprocess.DEVNULL, text=True, start_new_session=True)
-    end = time.monotonic() + WAITING
-    while not called.exists() and time.monotonic() < end:
-        time.sleep(0.05)
-    os.killpg(process.pid, signal.SIGTERM)
-    printed, _ = process.communicate(timeout=WAITING)
+    try:
+        await_that('it does not call the program', called.exists, WAITING)
+    finally:
+        os.killpg(process.pid, signal.SIGTERM)
+    printed, _ = until_end(process, WAITING)
     return process.returncode, printed
 
 
@@ -138,9 +158,12 @@ def tools_that_are_stopped(program):
     (program.folder / 'slow').chmod(0o755)
     for tool in WRITES:
         hold_refusal(f'{tool} that is stopped', stopped(program, tool), 'stopped by SIGTERM')
-    hold('what is there', below(program.folder / 'out'), ['page'])
+    hold('what is there', below(program.folder / 'out'), folders_made())
     for tool in WRITES:
         hold(f'{tool} behind it', run(program, tool)[0], 0)
+    data = program.read(DATABASE)
+    hold_refusal('weewx that is stopped in an update', stopped(program, 'weewx'), 'stopped by SIGTERM')
+    hold('the database', (program.read(DATABASE) == data, [name for name in below(program.folder / 'out') if '.sdb-' in name]), (True, []))
 
 
 def is_there(library):
@@ -148,7 +171,8 @@ def is_there(library):
     return subprocess.run(['/usr/bin/python3', '-c', f'import {library}'], capture_output=True, check=False).returncode == 0
 
 
-CASES = (archives_that_are_missing, folders_that_cannot_be_written, disks_that_are_full, tools_that_are_stopped)
+CASES = (archives_that_are_missing, folders_that_cannot_be_written, disks_that_are_full, updates_on_a_full_disk,
+         tools_that_are_stopped)
 AT_ONCE = 2
 
 if __name__ == '__main__':

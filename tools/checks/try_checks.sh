@@ -1,8 +1,8 @@
 #!/usr/bin/env bash
 # Tries that no wrong body passes try_edits.py unless it was refused, with a script in the toolchain's place; that one which
 # cannot be made is named; that what the gate does is told apart; that a case of a table fails where it has to, with a script
-# in the program's place; and that a page which is not what the definitions make it is refused. The last line is
-# 'N passed, M failed', and the status is 1 if any failed.
+# in the program's place; that a page which is not what the definitions make it is refused; and that a script is named whose
+# files are not there, and a list of laws whose module is gone. The last line is 'N passed, M failed', and the status is 1 if any failed.
 set -u
 tools=$(cd "$(dirname "$0")/.." && pwd)
 work=$(mktemp -d)
@@ -87,7 +87,7 @@ chmod +x bin/rt kit/bin/rattle
 
 # A tree in which low is below high, high has a function that calls another, and apart a constant.
 mkdir -p tree/tools/{checks,build} tree/crates/{low,high,apart}/{src,must-fail,more-edits} tree/crates/high/specs
-cp "$tools"/checks/{rooms,try_edits,edit_groups,edit_checks,edit_verdicts,applied_edits}.py tree/tools/checks
+cp "$tools"/checks/{rooms,try_edits,noted_edits,edit_groups,edit_checks,edit_verdicts,applied_edits}.py tree/tools/checks
 cp "$tools"/build/{build_plan,crate_list}.py tree/tools/build
 printf 'low:\nhigh: low\napart:\n' >tree/crates.txt
 echo '/crates/*/out/' >tree/.gitignore
@@ -210,17 +210,37 @@ in_git() {
 in_git init -q
 in_git add .
 in_git commit -qm one
-expect 'a file that names no commit' 2 '*names commit none, which is not known here*' try_edits --changed
-touch tree/new
-expect 'all wrong bodies of a checkout with a change' 0 $'*8 of 8 wrong bodies of 3 crates were refused*\n*tried_edits.txt stays*' \
-    try_edits --all
-rm tree/new
-expect 'all wrong bodies of a checkout' 0 '8 of 8 wrong bodies of 3 crates were refused*before)*' try_edits --all
-expect 'the commit of that checkout' 0 "$(git -C tree rev-parse HEAD) all 8 *" cat tree/tools/checks/tried_edits.txt
-expect 'no change since that commit' 0 $'0 crates differ*\n0 of 0 wrong bodies of 0 crates were refused*' try_edits --changed
-wrong_body high/more-edits/not_four src/lib.rt '    + four' '    '
-expect 'one crate with a wrong body more' 1 $'1 crates differ from commit *: high\n*: NOT REFUSED: *\n3 of 4 wrong bodies of 1 crates *' \
+echo 'high none' >tree/tools/checks/tried_edits.txt
+expect 'a commit that is not known' 2 '*names commit none, which is not known here*' try_edits --changed
+in_git commit -q --allow-empty -m left
+echo "high $(git -C tree rev-parse HEAD)" >tree/tools/checks/tried_edits.txt
+in_git reset -q --soft HEAD~
+expect 'a commit that was left out of the history' 2 '*names commit *, which is not known here or not in the history of this one*' \
     try_edits --changed
+rm tree/tools/checks/tried_edits.txt
+touch tree/new
+expect 'all wrong bodies of a checkout with a change' 0 $'*8 of 8 wrong bodies of 3 crates were refused*\nnothing is noted*' \
+    try_edits --all --note
+rm tree/new
+expect 'all wrong bodies of a checkout' 0 '8 of 8 wrong bodies of 3 crates were refused*before)*' try_edits --all --note
+expect 'the commit of that checkout' 0 "*# *apart $(git -C tree rev-parse HEAD)
+high $(git -C tree rev-parse HEAD)
+low $(git -C tree rev-parse HEAD)" cat tree/tools/checks/tried_edits.txt
+expect 'no change since that commit' 0 $'0 crates differ*\n0 of 0 wrong bodies of 0 crates were refused*' try_edits --changed
+printf '\n    // in other words\n' >>tree/crates/apart/src/lib.rt
+expect 'a change of comments alone' 0 $'0 crates differ*\n0 of 0 *' try_edits --changed
+echo 'u8' >>tree/crates/apart/src/lib.rt
+expect 'a change of another line too' 0 '1 crates differ from what is noted: apart*' try_edits --changed
+git -C tree checkout -q -- crates/apart
+sed -i '/^apart/d' tree/tools/checks/tried_edits.txt
+expect 'a crate of which none is noted' 0 '1 crates differ from what is noted: apart*' try_edits --changed --note
+expect 'its commit' 0 "apart $(git -C tree rev-parse HEAD)" grep apart tree/tools/checks/tried_edits.txt
+wrong_body high/more-edits/not_four src/lib.rt '    + four' '    '
+in_git add crates
+in_git commit -qm two
+expect 'one crate with a wrong body more' 1 $'1 crates differ from what is noted: high\n*: NOT REFUSED: *\n3 of 4 wrong bodies of 1 crates *' \
+    try_edits --changed --note
+expect 'its commit, which stays' 0 "high $(git -C tree rev-parse HEAD~)" grep high tree/tools/checks/tried_edits.txt
 
 # What the gate does, by the words of a process and the folder that it runs in: of the crate, of a copy, or of one with a wrong body.
 mkdir -p gate/{crates/a,copy,wrong}/src
@@ -255,6 +275,33 @@ mv edits/crates/a/more-edits/x.{edit,edt}
 expect 'a wrong body with another name' 1 'a/more-edits/x.edt: its name does not end in .edit, so that nothing tries it' \
     edits/tools/checks/applied_edits.py
 rm edits/crates/a/more-edits/x.edt
+
+# Laws that a crate above cites, and modules that a list of them names.
+mkdir -p laws/tools/checks laws/crates/{low,high}/proofs
+cp "$tools/checks/cited_laws.py" laws/tools/checks
+echo 'use Rattle.low.proofs.Sums.{sum_rises}' >laws/crates/high/proofs/Uses.antt
+touch laws/crates/low/proofs/Sums.antt
+# shellcheck disable=SC2016  # the text has these signs
+printf '%s\n' '## Laws for the crates above' '`proofs::Sums` (`sum_rises`)' >laws/crates/low/README.md
+expect 'a law that is listed' 0 '' laws/tools/checks/cited_laws.py
+mv laws/crates/low/proofs/{Sums,Totals}.antt
+expect 'a list of laws of a module that is gone' 1 'crates/low/README.md names proofs::Sums, which is not there' \
+    laws/tools/checks/cited_laws.py
+mv laws/crates/low/proofs/{Totals,Sums}.antt
+sed -i 's/(.*)//' laws/crates/low/README.md
+expect 'a law that is not listed' 1 'crates/low/README.md does not list Sums.sum_rises, which a crate above cites' \
+    laws/tools/checks/cited_laws.py
+
+# A script that was moved, and names files by its own place.
+mkdir -p moved/tools/checks/deep
+touch moved/tools/checks/there.sh
+# shellcheck disable=SC2016  # the script expands it
+printf '%s\n' '#!/usr/bin/env bash' 'here=$(cd "$(dirname "$0")/.." && pwd)' '. "$here/checks/there.sh"' >moved/tools/checks/script.sh
+expect 'a script in its place' 0 '' "$tools/checks/named_files.py" moved/tools/checks/script.sh
+mv moved/tools/checks/{,deep/}script.sh
+# shellcheck disable=SC2016  # it is printed so
+expect 'a script that was moved' 1 '*/deep/script.sh: $here/checks/there.sh is not there' \
+    "$tools/checks/named_files.py" moved/tools/checks/deep/script.sh
 
 cat >stand_in <<'PROGRAM'
 #!/usr/bin/env bash
@@ -418,6 +465,31 @@ sed -i '/most_lines/d' pages/tools/pages/headline/pages.toml
 : >pages/docs/headline/OLD.md
 expect 'a page that no plan has' 1 'docs/headline/OLD.md is no page of tools/pages/headline/pages.toml' on_pages headline --check
 rm pages/docs/headline/OLD.md
+expect 'a comment that leans on its neighbour' 1 'station_top Run Ends: its comment leans on another: -- the same*' \
+    made_page headline pages/crates/station_top/specs/Run.antt 's/^-- ends so/-- the same/'
+sed -i 's/^-- the same/-- ends so/' pages/crates/station_top/specs/Run.antt
+cat >>pages/crates/station_top/specs/Run.antt <<'RUN'
+
+-- tells a number
+pub record Tells : Type 1 where
+  pub goes : N → Type 0
+  pub goes_none : goes none
+
+-- what is told
+abbrev pub told : Tells
+told = record {
+  goes = λ n. two;
+  goes_none = proof;
+}
+
+-- a proof
+pub proof : N
+proof = none
+RUN
+sed -i 's/^Ends replay way = none/Ends replay way = told/' pages/crates/station_top/specs/Run.antt
+on_pages headline
+expect 'a value without the proofs of its laws' 0 '  ..' grep -x '  \.\.' pages/docs/headline/TOP.md
+expect 'a proof of a law, which no page needs' 1 '' grep 'a proof' pages/docs/headline/TOP.md
 expect 'a comment that says another thing' 1 '*DEFINITIONS.md is not what*' \
     made_page definitions pages/crates/station_top/specs/Run.antt 's/^-- ends so/-- ends well/'
 on_pages headline && on_pages definitions

@@ -25,6 +25,7 @@ from trying import LONGEST, Ended, hold, need, try_all
 
 HERE = "127.0.0.1"
 HALF_CALLS = Path(__file__).resolve().parent / "half_calls.c"
+MADE_ARCHIVE = Path(__file__).resolve().parents[2] / "bench" / "made_archive.py"
 INPUT, OUTPUT, ERRORS = 0, 1, 2
 BETWEEN_LOOKS = 0.05  # seconds
 LATE_OPENING = 2000000  # microseconds
@@ -43,6 +44,7 @@ ENDS = {
 }
 DISK_FAULT = Ended(7, "disk fault\n")
 WRITE_FAULT = Ended(9, "")
+USAGE = 1  # the status without a word
 
 # What a copy or an import of one batch of two rows asks of the disk for the new archive: its making, and then the batch.
 CALLS = ("fsync", "fdatasync", "flock", "pwrite64")
@@ -51,8 +53,14 @@ COPY_ASKS = ["flock new LOCK_EX|LOCK_NB", "fsync .", "fdatasync new", "pwrite64 
 CALLED = [call for call, *_ in map(str.split, COPY_ASKS)]
 OF_MAKING = 5  # of these calls
 READS = "pread64"
+ALL_READS = "read,readv,pread64,preadv,preadv2"
 ERRORS = {"flock": ["EIO", "ENOLCK"], "fsync": ["EIO"], "fdatasync": ["EIO", "ENOSPC"], "pwrite64": ["EIO", "ENOSPC"]}
+OPENINGS = {"report old days 2127-12-31 2127-12-31": Ended(0, ""), ROUND: ENDS[ROUND]}  # that ask for no row
+MADE_ROWS = "10000"
+MOST_READ, BYTES_OF_A_READ = 1.05, 12_000  # of each byte of an archive, and of one read at least, on average
 MASK, MODE = 0o022, "0o100644"  # of a new file: all may read it, and its owner may write it
+NOBODY = 65534  # who owns no file, and has no right of root's
+FOR_ALL, NOT_READ, ALL_RIGHTS = 0o755, 0o333, 0o777
 
 
 def row_slot(gate, rows, minute, tenths):
@@ -199,6 +207,27 @@ def read_that_fails(program):
             hold(f"{words} with {inject}", ended, DISK_FAULT)
 
 
+def reads_of_opening(program, words):
+    """How a command ends, and the sizes of its reads of the archive."""
+    of_archive = ("-P", str(program.folder.resolve() / "old"), "-e", f"trace={ALL_READS}")
+    ended, trace = traced(program, words, *of_archive)
+    return ended, [int(size) for size in re.findall(r" = (\d+)$", trace, re.M)]
+
+
+def archive_that_is_read_once(program):
+    """An archive that is opened, be it to read or to write, is read once, and many slots at once."""
+    for batch in ("1", "5"):
+        for words, wanted in OPENINGS.items():
+            subprocess.run([MADE_ARCHIVE, MADE_ROWS, batch, program.folder / "old"], check=True)
+            program.write("settings", "")
+            size = (program.folder / "old").stat().st_size
+            ended, sizes = reads_of_opening(program, words)
+            hold(words, ended, wanted)
+            seen = f"{sum(sizes)} bytes of {size} in {len(sizes)} reads, in batches of {batch}: {words}"
+            hold(f"{seen}: all and once", size - len(NEW_ARCHIVE) <= sum(sizes) <= MOST_READ * size, True)
+            hold(f"{seen}: many at once", len(sizes) * BYTES_OF_A_READ <= size, True)
+
+
 def making_that_is_killed(program):
     """An archive whose making was killed at any call is made by the next copy."""
     with_archive(program)
@@ -318,6 +347,29 @@ def file_that_was_replaced(program):
         hold("the report", run.end(), DISK_FAULT)
 
 
+def without_rights(program):
+    """The command under which a run has no right of root's, if this script has them, and yet reads what a case has written."""
+    for path in (program.folder, program.folder / "settings"):
+        path.chmod(FOR_ALL)
+    if os.geteuid():
+        return []
+    under = ["setpriv", f"--reuid={NOBODY}", f"--regid={NOBODY}", "--clear-groups"]
+    need(*under, "sh", "-c", f'"$0" >&2; [ $? = {USAGE} ]', program.path)
+    return under
+
+
+def folder_that_is_not_read(program):
+    """In a folder that may be written and not read a round leaves an empty file. Once it may be read the next round takes that."""
+    with_archive(program)
+    under = without_rights(program)
+    (program.folder / "below").mkdir()
+    words = ROUND.replace("old", "below/new")
+    for mode, ended, left in ((NOT_READ, DISK_FAULT, b""), (ALL_RIGHTS, ENDS[ROUND], NEW_ARCHIVE)):
+        (program.folder / "below").chmod(mode)
+        hold(f"a round with a folder of mode {mode:o}", program.run(words, under=under), ended)
+        hold(f"what it leaves in a folder of mode {mode:o}", program.read("below/new"), left)
+
+
 def archive_of_another(program):
     """An archive that another process has open to write, or has locked in whichever way, can be read alone."""
     with_archive(program)
@@ -355,8 +407,9 @@ def held_streams(program):
 
 
 CASES = (calls_in_order, calls_of_import_in_order, calls_for_another_folder, call_that_fails, read_that_fails,
-         making_that_is_killed, import_that_fails, import_that_is_killed, short_archives, short_files, files_of_one_number,
-         calls_in_part, no_plain_file, pipe_is_not_opened, file_that_was_replaced, archive_of_another, closed_streams, held_streams)
+         archive_that_is_read_once, making_that_is_killed, import_that_fails, import_that_is_killed, short_archives, short_files,
+         files_of_one_number, calls_in_part, no_plain_file, pipe_is_not_opened, file_that_was_replaced, folder_that_is_not_read,
+         archive_of_another, closed_streams, held_streams)
 
 if __name__ == "__main__":
     sys.exit(try_all(sys.argv, __doc__, CASES, 1))

@@ -5,7 +5,7 @@
 #
 #     tools/checks/try_limits.sh PROGRAM
 set -u
-stack=1024 # KiB
+stack=768 # KiB
 space=4000 # KiB
 top=$(cd "$(dirname "$0")/../.." && pwd)
 program=$(readlink -f "$1")

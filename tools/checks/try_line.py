@@ -70,6 +70,9 @@ ROWS = 1000
 FIRST_STAMP, PERIOD = 12_000_000, 5  # minutes from 2000-01-01, and minutes
 ALL_ROWS = b"rows 1999-12-31 2127-12-31\n"
 ANSWERS = 250  # to so many requests, of some 40 bytes a row: more than twice what Linux keeps for a line
+FEW_ROWS = 300  # of an answer whose messages are counted
+LEAST_MESSAGE = 4096  # bytes of it that are said together, but for its last ones
+END_OF_ROWS = b"\nend\n"
 TO_SERVE = 25  # seconds of a case: more than twice as long as a message has if nothing of it is taken
 PAUSE = 0.1  # seconds between two takings
 # What a caller takes a second, and the buffer and the segments that its system has for the line: with small ones the system says
@@ -383,6 +386,24 @@ def archive_of_rows(count):
     return head_slot(THIS_VERSION) + b"".join(batches) + CLOSED_GATE
 
 
+def answer_in_few_messages(program):
+    """The lines of an answer are said many together, and not line by line or byte by byte."""
+    need("strace", "-o", "/dev/null", "true")
+    program.write("archive", archive_of_rows(FEW_ROWS))
+    under = ["strace", "-f", "-o", "trace", "-e", "trace=write,writev,sendto,sendmsg"]
+    with listening(program, f"serve archive {{}} {MANY_TURNS}", under=under) as (run, port), call(HERE, port) as line:
+        line.sendall(ALL_ROWS)
+        said = b""
+        while not said.endswith(END_OF_ROWS):
+            said += hear(line, 1)
+        line.close()
+        hold("the service", run.end(), LINK_FAULT)
+    messages = [int(size) for size in re.findall(rb" = (\d+)$", program.read("trace"), re.MULTILINE)]
+    most = len(said) // LEAST_MESSAGE + 3  # the last lines, `end`, and what is printed
+    if len(messages) > most or sum(messages) < len(said):
+        raise Differs(f"{len(said)} bytes were said in {len(messages)} messages, in place of {most} at most")
+
+
 @contextmanager
 def asked(program, buffer, segment=None):
     """A service that was asked for more than the system keeps, and a line with such a buffer, of which nothing is taken yet."""
@@ -443,7 +464,8 @@ def caller_over_a_slow_line(program):
 CASES = (task_at_a_silent_console, round_at_a_silent_console, task_that_is_disturbed, console_that_hangs_up,
          call_that_is_not_answered, call_where_nobody_listens, call_by_a_name, call_by_a_name_that_is_not_answered,
          call_to_itself, turns_of_a_console, caller_elsewhere, messages_in_a_row, message_that_is_not_taken,
-         message_that_is_disturbed, caller_who_takes_slowly, message_that_is_taken_slowly, caller_over_a_slow_line)
+         message_that_is_disturbed, answer_in_few_messages, caller_who_takes_slowly, message_that_is_taken_slowly,
+         caller_over_a_slow_line)
 
 if __name__ == "__main__":
     sys.exit(try_all(sys.argv, __doc__, CASES, len(CASES)))

@@ -13,7 +13,6 @@ import select
 import socket
 import subprocess
 import sys
-import time
 import tomllib
 from contextlib import contextmanager
 from pathlib import Path
@@ -23,12 +22,11 @@ sys.dont_write_bytecode = True  # nothing is left beside the scripts
 import rooms  # first: the imports below are of other rooms too
 from rows import FIELDS
 from run_unit import Unit, words_of
-from trying import LONGEST, SLEEPER, Differs, hold, need, try_all
+from trying import LONGEST, NAP, SLEEPER, Differs, await_that, hold, need, try_all
 
 TOOLS = Path(__file__).resolve().parent.parent
 UNIT = TOOLS.parent / 'systemd/jofitrana-line@.service'
 GOOD, TROUBLE, USAGE = 0, 1, 2
-NAP = 0.05
 MEMORY_BYTES, FIRST_PLACE, SUMMER_BY_HAND, SETUP_BITS, PERIOD = 29, 0x11, 0x12, 0x2B, 0x2D
 
 # A program that answers setup as a console without records does, and leaves all else to the program itself.
@@ -251,15 +249,6 @@ def running(what, *command, cwd, **options):
             process.terminate()
 
 
-def await_that(what, happens):
-    """Waits until something happens."""
-    began = SLEEPER.now()
-    while not happens():
-        if began.is_over(LONGEST):
-            raise Differs(f'{what} does not come')
-        time.sleep(NAP)
-
-
 def listens(port):
     """Whether somebody listens at a port. It does not call there, since a console takes one caller."""
     return f':{port:04X} 00000000:0000 0A' in Path('/proc/net/tcp').read_text(encoding='ascii')
@@ -283,9 +272,9 @@ def console_on_a_serial_line(program):
     program.write('etc/barn.env', 'ADDRESS=127.0.0.1:22222\nDEVICE=/dev/ttyUSB7\n')
     device, port = str(program.folder / 'adapter'), free_port()
     with running('console', TOOLS / 'checks/fake_console.py', str(port), cwd=program.folder):
-        await_that('the console', lambda: listens(port))
+        await_that('the console does not come', lambda: listens(port), LONGEST)
         with running('adapter', 'socat', f'PTY,link={device},rawer', f'TCP:127.0.0.1:{port},nodelay', cwd=program.folder):
-            await_that('the adapter', lambda: os.path.exists(device))
+            await_that('the adapter does not come', lambda: os.path.exists(device), LONGEST)
             path = f'{program.folder}/commands:{os.environ["PATH"]}'
             status, printed = set_up(program, '--program', program.path, address=device, env={'PATH': path})
             hold(f'a setup: {printed}', status, GOOD)
@@ -302,8 +291,9 @@ def line_of_the_unit(program, own):
     unit = Unit(UNIT, 'roof')
     command, = unit.all('ExecStart')
     with running('line', *words_of(command, own), cwd=program.folder, env=os.environ | own) as line:
-        await_that('the line', lambda: listens(int(own['ADDRESS'].split(':')[1])))
-        hold('the console behind it', program.run(f'task {own["ADDRESS"]} kind'), (GOOD, 'kind 16\n'))
+        await_that('the line does not come', lambda: listens(int(own['ADDRESS'].split(':')[1])), LONGEST)
+        await_that('the console behind it does not say its kind',
+                   lambda: program.run(f'task {own["ADDRESS"]} kind') == (GOOD, 'kind 16\n'), LONGEST)
         line.terminate()
         hold('its status', str(line.wait(LONGEST)), unit.last('SuccessExitStatus', '0'))
 

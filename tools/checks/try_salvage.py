@@ -21,7 +21,7 @@ import signal
 import subprocess
 import sys
 import tempfile
-import time
+from contextlib import suppress
 from unittest import mock
 
 sys.dont_write_bytecode = True
@@ -29,6 +29,7 @@ import rooms  # first: the imports below are of other rooms too
 import archive_slots
 import salvage
 from model import archive, outcomes, rows, stamps
+from trying import Differs, await_that, until_end
 
 PERIOD = 5
 FIRST_STAMP = (2024, 7, 1, 23, 20)
@@ -57,7 +58,6 @@ CHANGES_OF_PERIOD = 2
 
 TOOL = str(rooms.TOOLS / 'product/salvage.py')
 LONGEST = 60  # seconds
-BETWEEN_LOOKS = 0.02
 SMALL_DISK = 1024  # bytes of a file
 FUTURE = 2099
 ENDLESS = '#!/bin/sh\nwhile echo row; do :; done\n'
@@ -338,10 +338,10 @@ class ToolTrial:
         """Holds how a run ends, what it says, and whether there is a new archive."""
         with run:
             try:
-                _, said = run.communicate(timeout=LONGEST)
-            except subprocess.TimeoutExpired:
+                _, said = until_end(run, LONGEST)
+            except Differs as reason:
                 run.kill()
-                said = f'it still runs after {LONGEST} s'
+                said = str(reason)
         seen = run.returncode, words in said and 'Traceback' not in said, os.path.exists(self.path('new'))
         if is_made and seen[2]:
             os.remove(self.path('new'))
@@ -355,9 +355,8 @@ class ToolTrial:
     def stopped(self):
         """A run that is stopped while the program judges the new archive."""
         run = self.started('cut', self.path('endless'))
-        until = time.monotonic() + LONGEST
-        while not os.path.exists(self.path('new')) and time.monotonic() < until:
-            time.sleep(BETWEEN_LOOKS)
+        with suppress(Differs):  # what it says then is not that it was stopped
+            await_that('no new archive is there', lambda: os.path.exists(self.path('new')), LONGEST)
         run.send_signal(signal.SIGTERM)
         return run
 

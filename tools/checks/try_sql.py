@@ -20,10 +20,11 @@ import rooms  # first: the imports below are of other rooms too
 import field_values
 from sql_rows import MOST_ROWS
 from sql_server import Server, newest
-from trying import LONGEST, MOST_TEXT, NAP, Differs, hold, leave_out
+from trying import LONGEST, MOST_TEXT, Differs, await_that, hold, leave_out
 
 try:
     import psycopg2
+    from sql_database import Database
 except ImportError:
     leave_out('python3-psycopg2 is missing: no sql was tried')
     sys.exit(0)
@@ -43,27 +44,12 @@ row 2024-10-27 03:00 5 outTemp=504
 """
 
 
-class Database:
-    """A database of the server, which is new for each case."""
-
-    def __init__(self, server, name):
-        self.place, self.name = server.place, name
-        self.ask(f'CREATE DATABASE {name}', 'postgres')
-
-    def ask(self, question, name=None):
-        """The rows that a question is answered by."""
-        link = psycopg2.connect(self.place(name or self.name))
-        link.autocommit = True
-        try:
-            with link.cursor() as cursor:
-                cursor.execute(question)
-                return cursor.fetchall() if cursor.description else []
-        finally:
-            link.close()
+class Filled(Database):
+    """A database of the server, which is new for each case, and the runs that fill it."""
 
     def words(self, *words, station='roof', zone=BERLIN):
         """The words of a run."""
-        return [TOOLS / 'product/sql.py', *(['--station', station] if station else []), '--zone', zone, *words, self.place(self.name)]
+        return [TOOLS / 'product/sql.py', *(['--station', station] if station else []), '--zone', zone, *words, self.place]
 
     def run(self, lines, *words, **options):
         """Brings it up to date from row lines; gives status, output and what was printed of trouble."""
@@ -86,15 +72,6 @@ def of_stations(rows):
 def counts(rows, added, changed, left_out=0, station='roof'):
     """What a run prints of these counts."""
     return f'station {station} rows {rows} added {added} changed {changed} left out {left_out}\n'
-
-
-def wait_for(what, happens):
-    """Waits until something happens, for some seconds at most."""
-    until = time.monotonic() + LONGEST
-    while not happens():
-        if time.monotonic() > until:
-            raise Differs(f'{what} did not come within {LONGEST} s')
-        time.sleep(NAP)
 
 
 def same_rows_twice(database):
@@ -209,18 +186,18 @@ def rows_of_two_years(database):
 def run_that_is_killed(database):
     """Of a run that is killed nothing is written, and the next run writes all."""
     database.run(row_lines(1))
-    lock = psycopg2.connect(database.place(database.name))
+    lock = psycopg2.connect(database.place)
     lock.cursor().execute('LOCK TABLE weather_2024 IN SHARE MODE')  # who writes waits here
     with subprocess.Popen(database.words(), stdin=subprocess.PIPE, stdout=subprocess.DEVNULL, text=True) as run:
         run.stdin.write(row_lines(400))
         run.stdin.close()
         try:
-            wait_for('a run that waits', lambda: database.ask(f"{WRITER} AND wait_event_type = 'Lock'"))
+            await_that('no run waits', lambda: database.ask(f"{WRITER} AND wait_event_type = 'Lock'"), LONGEST)
         finally:
             run.send_signal(signal.SIGKILL)
     lock.rollback()
     lock.close()
-    wait_for('the end of it', lambda: not database.ask(f"{WRITER} AND state <> 'idle'"))
+    await_that('it has not ended', lambda: not database.ask(f"{WRITER} AND state <> 'idle'"), LONGEST)
     hold('rows', database.ask('SELECT count(*) FROM weather'), [(1,)])
     hold('the next run', database.run(row_lines(400))[1], counts(400, 399, 0))
 
@@ -311,7 +288,7 @@ def stations_in_other_orders(database):
     """Runs at once that bring the same stations in other orders wait for one another, and both write."""
     database.run(row_lines(1))
     names = [f's{number:02}' for number in range(20)]
-    lock = psycopg2.connect(database.place(database.name))
+    lock = psycopg2.connect(database.place)
     lock.cursor().execute(f"INSERT INTO station (name, zone) VALUES ('{names[9]}', '{BERLIN}')")  # who names it waits here
     pipes = dict.fromkeys(('stdin', 'stdout', 'stderr'), subprocess.PIPE)
     runs = [subprocess.Popen(database.words(station=None), text=True, **pipes) for _ in range(2)]
@@ -320,7 +297,7 @@ def stations_in_other_orders(database):
         run.stdin.close()
     waiting = "SELECT 1 FROM pg_stat_activity WHERE wait_event_type = 'Lock'"
     try:
-        wait_for('runs that wait', lambda: len(database.ask(waiting)) == len(runs))
+        await_that('not all runs wait', lambda: len(database.ask(waiting)) == len(runs), LONGEST)
     finally:
         lock.rollback()
         lock.close()
@@ -376,7 +353,7 @@ def try_all(server):
     failed = 0
     for case in CASES:
         try:
-            case(Database(server, case.__name__))
+            case(Filled(server, case.__name__))
         except Exception as reason:  # whatever it is, the other cases go on
             failed += 1
             print(f'{case.__name__} failed: {reason!r:.{MOST_TEXT}}', file=sys.stderr)

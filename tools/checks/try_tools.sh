@@ -46,6 +46,9 @@ round_and_check() {
     "$tools/product/check.py" -p "$program" --console "$1" back.archive
 }
 
+# Matplotlib lists the fonts of a machine once, and reports it if that takes long. So it is done before it is in the way of a case.
+/usr/bin/python3 -c 'import matplotlib.font_manager' 2>/dev/null
+
 # These take some seconds each, in which the rest is tried.
 odd_console late --clock '2020-01-01 00:00' --byte 2B=10
 begin setup "$tools/product/setup.py" --program "$program" --set-clock --settings talk --archives talk roof "127.0.0.1:$port"
@@ -65,11 +68,13 @@ begin new_station "$tools/checks/try_new_station.py" "$program"
 begin again "$tools/checks/try_again.py" "$program"
 begin use_it "$tools/checks/try_use_it.py" "$program"
 begin page "$tools/checks/try_page.py" "$program"
+begin shown "$tools/checks/try_page_shown.py" "$program"
 begin values "$tools/checks/try_page_values.py" "$program"
 begin views "$tools/checks/try_page_views.py" "$program"
 begin year "$tools/checks/try_page_year.py" "$program"
 begin bad "$tools/checks/try_bad_input.py" "$program"
 begin weewx "$tools/checks/try_weewx.py" "$program"
+begin weewx_values "$tools/checks/try_weewx_values.py" "$program"
 begin sql "$tools/checks/try_sql.py"
 mkdir shown path
 ln -s "$program" path/jofitrana
@@ -311,13 +316,16 @@ expect_end again 0 '*[1-9]* passed, 0 failed'
 expect_end use_it 0 '*'
 expect_end bad 0 '*[1-9]* passed, 0 failed'
 expect_end weewx 0 '*[1-9]* passed, 0 failed'
+expect_end weewx_values 0 '*[1-9]* passed, 0 failed'
 if /usr/bin/python3 -c 'import jinja2, matplotlib' 2>/dev/null; then
     expect_end page 0 '*[1-9]* passed, 0 failed'
+    expect_end shown 0 '*[1-9]* passed, 0 failed'
     expect_end values 0 '*[1-9]* passed, 0 failed'
     expect_end views 0 '*[1-9]* passed, 0 failed'
     expect_end year 0 '*[1-9]* passed, 0 failed'
 else
     expect_end page 0 '*is missing*'
+    expect_end shown 0 '*is missing*'
     expect_end values 0 '*is missing*'
     expect_end views 0 '*is missing*'
     expect_end year 0 '*is missing*'
@@ -331,7 +339,7 @@ expect_end demo 0 $'*
 \$ jofitrana console week.toml week.schedule 127.0.0.1:* 1000000 &
 *
 \$ jofitrana station week.toml week.archive 127.0.0.1:*
-round ok attempts 1 pages 513 skipped 0 acked 2560 rows 2560
+round ok attempts [1-3] pages 513 skipped 0 acked 2560 rows 2560
 *
 \$ jofitrana report week.archive days *
 day 2024-10-11 outTemp *

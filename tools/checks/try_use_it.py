@@ -106,13 +106,14 @@ def make_root(folder, program):
     run('mount', '-t', 'overlay', 'none', '-o', f'lowerdir=/,upperdir={over}/upper,workdir={over}/work', root)
     run('mount', '--rbind', '/proc', root / 'proc')
     run('mount', '--rbind', '/dev', root / 'dev')
-    for gone in ('etc/jofitrana', 'var/lib/jofitrana', 'var/cache/jofitrana', OBSERVER[1:]):
+    for gone in ('etc/jofitrana', 'var/lib/jofitrana', 'var/cache/jofitrana', 'var/lib/weewx', OBSERVER[1:]):
         shutil.rmtree(root / gone, ignore_errors=True)
     (root / 'noting').mkdir()
     for name, text in (('sudo', SUDO), ('systemctl', SYSTEMCTL)):
         (root / 'noting' / name).write_text(text)
         (root / 'noting' / name).chmod(0o755)
     (root / OBSERVER[1:]).mkdir(parents=True)
+    (root / 'var/lib/weewx').symlink_to(OBSERVER)  # where the database of README's commands stands
     run(TOOLS / 'build/install.sh', 'install', '--prefix', root / 'usr', '--program', program)
     subprocess.run(['chroot', root, 'useradd', '--system', '--no-create-home', 'jofitrana'], capture_output=True, check=False)
     return root

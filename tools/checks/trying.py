@@ -1,5 +1,5 @@
-"""Cases over a built program, for the scripts try_disk, try_line, try_beside, try_stay and try_packets: each passes, fails, or is
-left out on this machine."""
+"""Cases over a built program, for the scripts try_disk, try_line, try_beside, try_stay, try_packets and more: each passes, fails,
+or is left out on this machine."""
 import os
 import shutil
 import signal
@@ -91,6 +91,26 @@ class Sleeper:
 SLEEPER = Sleeper()
 
 
+def until_end(process, limit):
+    """Waits for the end of a process, no longer than a limit stretched by how busy the machine is; gives what it said."""
+    asked = SLEEPER.now()
+    while True:
+        try:
+            return process.communicate(timeout=GLANCE)
+        except subprocess.TimeoutExpired:
+            if asked.is_over(limit):
+                raise Differs(f"it still runs after {asked.seconds():.0f} s") from None
+
+
+def await_that(what, is_so, limit):
+    """Waits until something is so, no longer than a limit stretched by how busy the machine is."""
+    asked = SLEEPER.now()
+    while not is_so():
+        if asked.is_over(limit):
+            raise Differs(f"{what} after {asked.seconds():.0f} s")
+        time.sleep(NAP)
+
+
 class Run:
     """A run of the program, which has begun. Neither it nor what it runs under outlives its `with`."""
 
@@ -112,14 +132,8 @@ class Run:
 
     def end(self):
         """Waits for its end, and gives its status and what it printed."""
-        asked = SLEEPER.now()
-        while True:
-            try:
-                printed, _ = self.process.communicate(timeout=GLANCE)
-                return Ended(self.process.returncode, printed.decode())
-            except subprocess.TimeoutExpired:
-                if asked.is_over(LONGEST):
-                    raise Differs(f"it still runs after {self.seconds():.0f} s") from None
+        printed, _ = until_end(self.process, LONGEST)
+        return Ended(self.process.returncode, printed.decode())
 
 
 class Program:

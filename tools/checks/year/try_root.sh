@@ -1,7 +1,7 @@
 #!/usr/bin/env bash
-# Boots a Debian of its own, and tries the package there under its systemd: rounds over a serial line, timers, checks, alerts, the
-# page, stays, a start of the machine, an upgrade, a removal and a purge. It is run by hand, by root, and takes a quarter of an
-# hour.
+# Boots a Debian of its own, and tries the package there under its systemd: rounds over a serial line, timers, the page, both ways to
+# WeeWX, checks, alerts, stays, a start of the machine, an upgrade, a removal and a purge. It is run by hand, by root, and takes a
+# quarter of an hour.
 # The last line is 'N passed, M failed', and the status is 1 if any failed.
 #
 #     tools/checks/year/try_root.sh PROGRAM [DEBIAN]
@@ -11,7 +11,7 @@
 # machine's systemd is asked for nothing, and nothing is left.
 set -u
 here=$(cd "$(dirname "$0")" && pwd)
-tools=$(dirname "$here")
+tools=$(dirname "$(dirname "$here")")
 PACKAGES=systemd-sysv,dbus,procps,socat,tzdata,python3,python3-jinja2,python3-matplotlib
 LONGEST_SECONDS=240
 ADAPTER=/dev/serial/by-id/usb-Modelled_Adapter-if00-port0
@@ -162,7 +162,7 @@ make_root() {
     mount -t tmpfs none "$folder/over" && mkdir "$folder/over/upper" "$folder/over/work"
     mount -t overlay none -o "lowerdir=$debian,upperdir=$folder/over/upper,workdir=$folder/over/work" "$folder/root" || exit 1
     local root=$folder/root number=0 unit
-    mkdir -p "$root/opt/tools/checks/year" && cp "$tools"/*.py "$root/opt/tools" && cp "$here"/*.py "$root/opt/tools/checks/year"
+    mkdir -p "$root/opt/tools/checks/year" && cp "$tools"/checks/*.py "$root/opt/tools/checks" && cp "$here"/*.py "$root/opt/tools/checks/year"
     (cd "$folder" && "$tools/build/package.sh" --program "$program" >/dev/null) || exit 1
     # Two packages, of which the second has a higher version.
     dpkg-deb -R "$folder"/jofitrana_*.deb "$folder/package"
@@ -222,6 +222,30 @@ try_timer() {
     expect_soon 'no round goes on' 'inactive' active jofitrana@roof.service
 }
 
+# The station's rows go into a database of WeeWX, come back and are imported, and those of a second database are the same.
+try_weewx() {
+    local rows='rows; left out: 0 rows and 0 values'
+    expect 'a database of WeeWX' 0 '*weewx: 14?? rows added; left out: 0 rows' inside jofitrana-weewx database --station roof /tmp/first.sdb
+    expect 'its rows' 0 "weewx: 14?? $rows" sh_inside 'jofitrana-weewx rows /tmp/first.sdb --station roof >/tmp/first.rows'
+    expect 'their import' 0 'imported 14?? passed 0 rows 14??' inside jofitrana import /tmp/first.rows /tmp/second.archive
+    expect 'a database of that archive' 0 'weewx: 14?? rows added; left out: 0 rows' \
+        inside jofitrana-weewx database --station roof --archive /tmp/second.archive /tmp/second.sdb
+    expect 'its rows again' 0 "weewx: 14?? $rows" sh_inside 'jofitrana-weewx rows /tmp/second.sdb --station roof >/tmp/second.rows'
+    expect 'both are alike' 0 '' inside cmp /tmp/first.rows /tmp/second.rows
+    expect 'a second run adds nothing' 0 '*weewx: 0 rows added; left out: 0 rows' inside jofitrana-weewx database --station roof /tmp/first.sdb
+}
+
+# The page of a station: by its unit in its own folder, and by its command in another one and in German.
+try_page() {
+    expect 'a page by its unit' 0 '' sh_inside 'rm -r /var/lib/jofitrana/roof.page; systemctl start jofitrana-page@roof'
+    expect 'whose page it is' 0 'jofitrana' inside stat -c %U /var/lib/jofitrana/roof.page/index.html
+    expect 'a page in another folder' 0 '?(Matplotlib is building the font cache; this may take a moment.)' \
+        inside jofitrana-page --station roof --language de /tmp/roof
+    expect 'its words' 0 '*<html lang="de">*<p>Letzte Messung: *' inside cat /tmp/roof/index.html
+    expect 'a folder of others' 1 'page: /tmp/index.html is there, and was not made by this tool: *' \
+        sh_inside 'echo mine >/tmp/index.html; jofitrana-page --station roof /tmp'
+}
+
 # A check, and what the observer is told of a failed round, a line that is out, and a mailer that fails.
 try_alerts() {
     expect 'a check' 0 '' inside systemctl start jofitrana-check@roof
@@ -239,8 +263,9 @@ try_alerts() {
     inside systemctl stop jofitrana-line@roof
     expect_soon 'a mailer that fails' 'failed' \
         sh_inside 'systemctl start jofitrana-check@roof 2>/dev/null; sleep 3; systemctl is-active jofitrana-alert@roof'
-    expect 'a look without the line is left out' 0 '*Skipped due to*exec-condition*' \
-        sh_inside 'systemctl start jofitrana-clock@roof; journalctl -u jofitrana-clock@roof --no-pager -n 3'
+    inside systemctl start jofitrana-clock@roof
+    expect_soon 'a look without the line is left out' '*Skipped due to*exec-condition*' \
+        inside journalctl -u jofitrana-clock@roof --no-pager -n 3
     sh_inside "sed -i 's/^ALERT=.*/ALERT=sendmail/' $ENV"
     expect_soon 'a mailer that is back' '*roof: JOFITRANA WARNING - last row *' \
         sh_inside "systemctl start jofitrana-check@roof; sleep 2; cat $MAIL"
@@ -257,8 +282,8 @@ try_stay() {
     expect 'it stops the timer and has checks' 0 'active active inactive inactive inactive' active jofitrana-stay@roof \
         jofitrana-stay-check@roof.timer jofitrana@roof.timer jofitrana-check@roof.timer jofitrana-clock@roof.timer
     expect_soon 'its rounds' '*round ok*round ok*' inside journalctl -u jofitrana-stay@roof --no-pager -o cat
-    expect 'a round beside it is left out' 0 '*exec-condition*' \
-        sh_inside 'systemctl start jofitrana@roof; journalctl -u jofitrana@roof --no-pager -n 3'
+    inside systemctl start jofitrana@roof
+    expect_soon 'a round beside it is left out' '*exec-condition*' inside journalctl -u jofitrana@roof --no-pager -n 3
     try_page_of_a_stay
     inside systemctl kill -s KILL jofitrana-stay@roof
     expect_soon 'a stay that was killed' '1 0 active running' state_of jofitrana-stay@roof
@@ -361,6 +386,8 @@ make_root
 boot
 try_line
 try_timer
+try_page
+try_weewx
 try_alerts
 try_stay
 try_again
