@@ -19,7 +19,7 @@ import kit_files
 import page_plan
 import reading_page
 import spec_files
-from printed import Printed
+from printed import GAP, Printed
 from reading_counts import amount, counts_of, joined, of_kit, of_repository
 from reading_list import Reached
 
@@ -30,6 +30,7 @@ README = spec_files.TOP / 'README.md'
 EXAMPLE = spec_files.TOP / 'examples/headline'
 COUNTED = re.compile(r'(<!-- counts of (\w+) by (\w+): tools/pages/headline.py -->\n).*?(<!-- end of counts -->)', re.S)
 DIRECTIVE = re.compile(r'\{\{(\w+)(?: (\w+))?\}\}')
+LEANING = re.compile(r'-- (?:the same|and|so (?!many|often)|its?|each of them|with|of an?)\b')  # on what stands beside it
 UP = '../../'
 
 
@@ -74,7 +75,7 @@ def listed_pages(files):
 
 def parts_table(listed):
     """How much each part of a page has."""
-    rows = ['| Part | Definitions here | Lines | Types and constants of the code | Their lines | In all | Lines |',
+    rows = ['| Part | Definitions here | Lines | Types and constants of the code | Code lines | In all | All lines |',
             '|---|---|---|---|---|---|---|']
     for one in listed.parts:
         here, all_of_it = counts_of(one.fresh), counts_of(of_repository(one.whole))
@@ -113,6 +114,13 @@ def beginning(listed, first):
     return f'It begins with {clauses}' + ('. ' if listed.opens else f', which stand on [{first}.md]({first}.md). ')
 
 
+def without_proofs(listed):
+    """The values of records that the page prints without the proofs of their laws."""
+    words = [name.word for name, one in listed.fresh.definitions.items()
+             if name not in page_plan.BY_COMMAND and any(line.strip() == GAP for line in one.lines)]
+    return ' and in '.join(f'`{word}`' for word in words)
+
+
 def opening(listed, first):
     """What stands first on a page."""
     page, here, whole = listed.page, counts_of(listed.fresh), counts_of(of_repository(listed.whole))
@@ -124,6 +132,8 @@ def opening(listed, first):
     if any('on earlier pages' in one.text for one in listed.parts):
         said.append('What a part cites and this page does not print stands on an earlier page. Its last heading lists that, but '
                     'for what a part before it lists.')
+    if cut := without_proofs(listed):
+        said.append(f'`{GAP}` stands in {cut} for the proofs of the laws of its record, which the checker has read.')
     blocks = [reading_page.filled(text) for text in said]
     if listed.opens:
         blocks.append(reading_page.block('', page.contract.text))
@@ -138,8 +148,8 @@ def page_text(listed, first):
 
 def counts_table(lists):
     """How much must be read of each page."""
-    rows = ['| Page | Of what | Definitions | Lines with comments | Types and constants of the code | Their lines '
-            '| In all: definitions | Lines | Of the toolchain | Lines |', '|---|---|---|---|---|---|---|---|---|---|']
+    rows = ['| Page | Of what | Definitions | Lines | Types and constants of the code | Code lines '
+            '| In all | All lines | Of the toolchain | Toolchain lines |', '|---|---|---|---|---|---|---|---|---|---|']
     for one in lists:
         here, whole, kit = counts_of(one.fresh), counts_of(of_repository(one.whole)), counts_of(one.kit)
         numbers = (here.definitions, here.lines, here.types, here.type_lines, whole.definitions, whole.lines,
@@ -194,8 +204,11 @@ def counted_readme(text, lists):
 
 
 def faults(lists):
-    """The pages that have more lines of definitions than they may have, and those of which the plan does not know."""
+    """The pages with more lines than they may have, those of which the plan does not know, and comments that lean on others."""
     for one in lists:
+        for name, definition in one.fresh.definitions.items():
+            if definition.comment and LEANING.match(definition.comment[0]):
+                yield f'{name.crate} {name.module} {name.word}: its comment leans on another: {definition.comment[0]}'
         lines = counts_of(one.fresh).lines
         if one.page.most_lines and lines > one.page.most_lines:
             yield f'{one.page.name}.md has {lines:,} lines of definitions: more than {one.page.most_lines:,}'

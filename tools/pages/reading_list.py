@@ -3,6 +3,7 @@ import re
 from typing import NamedTuple
 
 import kit_files
+import laws_of_values
 import rust_types
 from spec_files import Name
 
@@ -10,7 +11,6 @@ STRING = re.compile(r'"(?:[^"\\]|\\.)*"')
 COMMENT = re.compile(r'--[^\n]*|//[^\n]*')
 TOKEN = re.compile(r"[A-Za-z_][\w'-]*(?:\.[A-Za-z_][\w'-]*|\.\d+)*|[(){}\[\]]|λ|\n|[^\s\w(){}\[\]λ]+|\d+")
 WORD = re.compile(r'[A-Za-z_]')
-PLAIN_WORD = re.compile(r"[A-Za-z_][\w'-]*")
 BINDER = re.compile(r"[({]\s*((?:[A-Za-z_][\w'-]*\s+)+):\s")
 FIELD = re.compile(r"^\s+(?:pub )?([A-Za-z_][\w'-]*) :(?=\s|$)")
 EQUATION = re.compile(r'^(?!pub |abbrev |unfoldable |record |data |infix)\S')
@@ -112,11 +112,20 @@ class Walk:
         definition = file.definitions[owner.word]
         if owner in self.narrowed:
             definition = self.narrowed[owner](definition)
+        if record := self.record_given(file, definition):
+            definition = laws_of_values.without_laws(definition, record)
         self.reached.definitions[owner] = definition
         if definition not in CITED:
             CITED[definition] = tuple(dict.fromkeys(self.cited(file, definition)))
         for cited in CITED[definition]:
             self.visit(cited)
+
+    def record_given(self, file, definition):
+        """The record of which a definition is a value, if it is one."""
+        name = self.resolved(file, laws_of_values.result_of(definition)) if definition.kind == 'function' else None
+        owner = self.files.get((name.crate, name.module)) if name and name.word else None
+        found = owner.definitions.get(name.word) if owner else None
+        return found if found and found.kind == 'record' else None
 
     def owner(self, name):
         """The definition that a name means, of its module or of one that this brings in; none of the standard library."""
@@ -149,7 +158,7 @@ class Walk:
         for field in rust_types.fields_of(item):
             self.visit_type(field, None)
         imports = rust_types.imports_of(item)
-        for word in dict.fromkeys(PLAIN_WORD.findall(COMMENT.sub('', item.text))):
+        for word in item.words:
             if word in imports and not imports[word].module.startswith('declared.'):
                 self.visit(imports[word])
 

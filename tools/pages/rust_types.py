@@ -9,11 +9,14 @@ import spec_files
 
 ITEM = r'^((?:[ \t]*(?:///|//|#\[)[^\n]*\n)*)((?:pub(?:\([a-z]+\))? )?(?:%s) %s\b)'
 MODEL = re.compile(r'^impl(?:<[^\n]*>)? Model for (\w+)[^\n]*\{\n.*?^\}', re.M | re.S)
+INVERSE = re.compile(r'\n(?: *\n)? *ghost inverse(?:_ok)? = .*?\} *\};', re.S)  # how a value goes back into its bytes
 USE = re.compile(r'^(?:pub )?use (\w+)::([\w:]*?)(?:\{([^}]*)\}|(\w+));', re.M)
 WORD = re.compile(r'\b[A-Z]\w*')
 KINDS = 'struct|enum|const'
 CONSTANTS = 'TheConstants'
 COMMENT = re.compile(r'//[^\n]*')
+BRINGS_IN = re.compile(r'^ *(?:ghost )?use .*;$', re.M)
+NAME = re.compile(r"[A-Za-z_][\w'-]*")
 
 
 class RustItem(NamedTuple):
@@ -32,6 +35,11 @@ class RustItem(NamedTuple):
     def text(self):
         """Its lines."""
         return '\n'.join(self.lines)
+
+    @property
+    def words(self):
+        """The names that it has, but for comments and for what it brings in."""
+        return dict.fromkeys(NAME.findall(BRINGS_IN.sub('', COMMENT.sub('', self.text))))
 
 
 @cache
@@ -59,6 +67,12 @@ def _body_end(text, start):
     return len(text)
 
 
+def _is_idle(line, words):
+    """Whether a line brings in names, and none of these words."""
+    names = spec_files.imports_of(line) if BRINGS_IN.match(line) else {}
+    return bool(names) and not any(name in words or name.startswith('◌') for name in names)
+
+
 def item_in(crate, path, word):
     """The type or constant of this name in a file, with what stands for it in a proof, or None."""
     text = _text(path)
@@ -68,8 +82,9 @@ def item_in(crate, path, word):
     lines = text[found.start():_body_end(text, found.start(2))].split('\n')
     for model in MODEL.finditer(text):
         if model[1] == word:
-            lines += [''] + model[0].split('\n')
-    return RustItem(crate, path, word, tuple(lines))
+            lines += [''] + INVERSE.sub('', model[0]).split('\n')
+    words = RustItem(crate, path, word, tuple(lines)).words
+    return RustItem(crate, path, word, tuple(line for line in lines if not _is_idle(line, words)))
 
 
 def declared(crate, module, word):
