@@ -1,7 +1,7 @@
 # Sourced by bench/driver.sh, which measures crates through a program of its own.
 
 # Copies the crates to out/bench/NAME, with a crate `measure` over the crates named that takes the place of
-# `station_replay` and of those that stand on it, and sets `copy` to that folder. Of an earlier copy only what was proved
+# `replay_laws` and of those that stand on it, and sets `copy` to that folder. Of an earlier copy only what was proved
 # stays. With a third word the crates are those of that folder.
 copy_crates() {
     local from=${3:-.}
@@ -10,7 +10,7 @@ copy_crates() {
     find "$copy"/crates/* -mindepth 1 -maxdepth 1 ! -name out -exec rm -r {} +
     mkdir "$copy/crates/measure/src"
     cp HANDLES "$copy"
-    sed -e "s/^station_replay:.*/measure: $2/" -e '/^[a-z_]*:.* station_replay\b/d' -e '/^station_top:/d' -e '/^station_program:/d' -e '/^[a-z_]*_tests:/d' "$from/crates.txt" >"$copy/crates.txt"
+    sed -e "s/^replay_laws:.*/measure: $2/" -e '/^[a-z_]*:.* replay_laws\b/d' -e '/^station_top:/d' -e '/^station_program:/d' -e '/^[a-z_]*_tests:/d' "$from/crates.txt" >"$copy/crates.txt"
     local name
     for name in $(sed -n 's/^\([a-z_]*\):.*/\1/p' "$copy/crates.txt"); do
         [ "$name" = measure ] || tar -C "$from/crates" --exclude=out -c "$name" | tar -C "$copy/crates" -x

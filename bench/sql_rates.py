@@ -24,8 +24,7 @@ sys.dont_write_bytecode = True  # nothing is left beside the scripts
 TOOLS = Path(__file__).resolve().parent.parent / 'tools'
 sys.path.insert(0, str(TOOLS / 'checks'))
 
-import psycopg2
-
+from sql_database import Database
 from sql_server import Server, newest
 
 OPTIONS = ('max_connections=100',)
@@ -73,23 +72,11 @@ class Rates:
 
     def __init__(self, server, chosen, folder, writers):
         self.server, self.chosen, self.folder, self.writers = server, chosen, Path(folder), writers
-        self.place = server.place(f'by_{writers}')
-        self.ask(f'CREATE DATABASE by_{writers}', server.place('postgres'))
-
-    def ask(self, question, place=None):
-        """The rows that a question is answered by."""
-        link = psycopg2.connect(place or self.place)
-        link.autocommit = True
-        try:
-            with link.cursor() as cursor:
-                cursor.execute(question)
-                return cursor.fetchall() if cursor.description else []
-        finally:
-            link.close()
+        self.database = Database(server, f'by_{writers}')
 
     def bring(self, text, *words):
         """A run over the row lines of a text."""
-        given = [self.chosen.tool, '--zone', ZONE, *words, self.place]
+        given = [self.chosen.tool, '--zone', ZONE, *words, self.database.place]
         subprocess.run(given, input=text, text=True, stdout=subprocess.DEVNULL, check=True)
 
     def at_once(self, rows, runs):
@@ -128,8 +115,8 @@ class Rates:
 
     def row_bytes(self):
         """The bytes of a row with its key."""
-        size, rows = self.ask('SELECT pg_total_relation_size(oid), (SELECT count(*) FROM weather) FROM pg_class '
-                              "WHERE relname = 'weather_2023'")[0]
+        size, rows = self.database.ask('SELECT pg_total_relation_size(oid), (SELECT count(*) FROM weather) FROM pg_class '
+                                       "WHERE relname = 'weather_2023'")[0]
         return size / rows
 
 
@@ -142,7 +129,7 @@ def measure(server, chosen, folder):
         for name, work in works.items():
             print('|', ' | '.join((str(writers), name, *work().cells())), '|', flush=True)
         print(f'{rates.row_bytes():.0f} bytes a row', file=sys.stderr)
-        rates.ask(f'DROP DATABASE by_{writers}', server.place('postgres'))
+        rates.database.drop()
 
 
 def main():
