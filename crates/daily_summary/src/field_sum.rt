@@ -12,6 +12,8 @@ const SECONDS_OF_MINUTE: u32 = 60;
 /// What the values of one field come to.
 #[derive(Clone, Copy, Debug, PartialEq, Eq)]
 pub struct FieldSum {
+    /// The sum of the values, each times the seconds of its row's interval.
+    pub wsum: i64,
     /// The least value.
     pub least: i32,
     /// The earliest stamp that has it.
@@ -24,9 +26,7 @@ pub struct FieldSum {
     pub sum: i64,
     /// How many values there are.
     pub count: u32,
-    /// The sum of the values, each times the seconds of its row's interval.
-    pub wsum: i64,
-    /// The sum of these seconds.
+    /// The sum of the seconds of their rows' intervals.
     pub sumtime: u64,
 }
 
@@ -129,8 +129,18 @@ pub(crate) fn add(sum: &mut Option<FieldSum>, row: &Row, value: Option<i32>)
     };
     match sum {
         Some(sum) => sum.push(row, value),
-        None => *sum = Some(sum_of_row(row, value)),
+        None => begin(sum, row, value),
     }
+}
+
+// Begins the sum of a field with its first value.
+#[cold]
+fn begin(sum: &mut Option<FieldSum>, row: &Row, value: i32)
+    requires printable { IsPrintable (Some value) }
+    ensures exact { sum.new ≡ Some (sum_of_row row.now value) }
+    ensures bounds { IfSome sum.new (IsSumOf 1) }
+{
+    *sum = Some(sum_of_row(row, value));
 }
 
 // Adds what later values come to, if there are any.

@@ -52,7 +52,7 @@ fn push_row(slots: &mut ArrayVec<u8, LONGEST_BATCH>, tail: &Tail, row: &Row)
     ensures length { array_vec_len slots.new ≤ array_vec_len slots.old + 14 * slot_size }
     ensures read_back { IsReadBack row.now }
 {
-    for k in 0..tail.closings(row.stamp) {
+    for k in 0..tail.closings(&row.stamp) {
         let slot = tail.closing_slot(k);
         push_bytes(slots, &slot);
     }

@@ -58,32 +58,34 @@ impl Tail {
     }
 
     /// Whether a row of this stamp begins a later day than the last row's.
-    pub fn begins_day(&self, stamp: Stamp) -> bool
-        ensures begins { result ≡ begins_day self.now.last stamp }
-        ensures range { IsDayNumber (pos (archive_day_of stamp)) }
-        ensures some { 1 ≤ minutes_into (Some stamp) }
+    pub fn begins_day(&self, stamp: &Stamp) -> bool
+        ensures begins { result ≡ begins_day self.now.last stamp.now }
+        ensures range { IsDayNumber (pos (archive_day_of stamp.now)) }
+        ensures some { 1 ≤ minutes_into (Some stamp.now) }
     {
-        let date = stamp.date_word();
-        match self.last {
-            Some(last) if last.date_word() == date => !last.shares_day(stamp),
-            Some(last) => last.archive_day() != stamp.archive_day(),
-            None => false,
+        let is_midnight = stamp.is_midnight();
+        let Some(last) = &self.last else {
+            return false;
+        };
+        if last.has_date_of(stamp) && !is_midnight && !last.is_midnight() {
+            return false;
         }
+        !last.shares_day(stamp)
     }
 
     /// How many summary slots stand before a row of this stamp.
-    pub fn closings(&self, stamp: Stamp) -> u8
-        ensures { result ≡ closings (begins_day self.now.last stamp) }
+    pub fn closings(&self, stamp: &Stamp) -> u8
+        ensures { result ≡ closings (begins_day self.now.last stamp.now) }
     {
         if self.begins_day(stamp) { CLOSING } else { 0 }
     }
 
     // Makes the summary ready for a row of this stamp: none of the rows so far, where it begins a later day.
-    fn turn_to(&mut self, stamp: Stamp)
+    fn turn_to(&mut self, stamp: &Stamp)
         ensures last { self.new.last ≡ self.old.last }
-        ensures same { begins_day self.old.last stamp ≡ false → self.new.running ≡ self.old.running }
-        ensures later { begins_day self.old.last stamp ≡ true → self.new.running ≡ summary_of [] }
-        ensures some { 1 ≤ minutes_into (Some stamp) }
+        ensures same { begins_day self.old.last stamp.now ≡ false → self.new.running ≡ self.old.running }
+        ensures later { begins_day self.old.last stamp.now ≡ true → self.new.running ≡ summary_of [] }
+        ensures some { 1 ≤ minutes_into (Some stamp.now) }
     {
         if self.begins_day(stamp) {
             self.running = DaySummary::new();
@@ -97,7 +99,7 @@ impl Tail {
         ensures ends { (rows : List Row) → EndsRows self.old rows → EndsRows self.new (rows ++ row.now ∷ []) }
         ensures last { self.new.last ≡ Some row.now.stamp }
     {
-        self.turn_to(row.stamp);
+        self.turn_to(&row.stamp);
         self.running.add(row);
         self.last = Some(row.stamp);
     }
@@ -122,7 +124,7 @@ impl Tail {
             Some(last) => last < row.stamp,
             None => true,
         };
-        rises && shown == self.closings(row.stamp)
+        rises && shown == self.closings(&row.stamp)
     }
 
     // Whether the slot is the next of those that close the day, its gate and the number of its batch's slots aside.

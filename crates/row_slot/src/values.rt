@@ -1,4 +1,4 @@
-ghost use Rattle.std.specs.Prelude.{◌≡◌, ◌+◌, ◌*◌, ◌<◌, drop, length};
+ghost use Rattle.std.specs.Prelude.{◌≡◌, ◌+◌, ◌*◌, ◌<◌, drop, length, true};
 ghost use Rattle.std.specs.Bool.{then_some};
 ghost use Rattle.station_base.specs.FieldSet.{are_missing};
 ghost use Rattle.row_slot.specs.Slot.{limited_in, presence_in, values_in};
@@ -9,6 +9,9 @@ use byteorder::{ByteOrder, LittleEndian};
 use station_base::{FARTHEST_VALUE, FIELD_COUNT, FieldSet};
 
 const NUMBER_SIZE: usize = 4;
+
+// How far a value may be from 0.
+const FARTHEST: i32 = FARTHEST_VALUE as i32;
 
 // The bits that say which fields have a value, the lowest for the first.
 pub fn presence_of(values: &[Option<i32>; FIELD_COUNT]) -> u64
@@ -45,10 +48,9 @@ pub fn read_values(slot: &[u8; ROW_SIZE], values: &mut [Option<i32>; FIELD_COUNT
     for field in 0..FIELD_COUNT {
         let has_value = presence >> field & 1 == 1;
         let number = number_of(slot, field);
-        if !is_allowed(has_value, number) {
+        if !read_value(has_value, number, &mut values[field]) {
             return false;
         }
-        values[field] = has_value.then_some(number);
     }
     if presence >> FIELD_COUNT != 0 {
         return false;
@@ -88,13 +90,18 @@ fn number_of(slot: &[u8; ROW_SIZE], field: usize) -> i32
     LittleEndian::read_i32(&slot[VALUES + NUMBER_SIZE * field..])
 }
 
-// Whether the number may stand at a field that has a value, or has none.
-fn is_allowed(has_value: bool, number: i32) -> bool
-    ensures { result ≡ is_allowed has_value number }
+// Reads the value of a field, if it has one. Whether its number may stand there; if not, what was read means nothing.
+fn read_value(has_value: bool, number: i32, value: &mut Option<i32>) -> bool
+    ensures allowed { result ≡ is_allowed has_value number }
+    ensures value { result ≡ true → value.new ≡ then_some has_value number }
 {
-    if has_value {
-        number.unsigned_abs() <= FARTHEST_VALUE
-    } else {
-        number == 0
+    if !has_value {
+        *value = None;
+        return number == 0;
     }
+    if number < -FARTHEST || FARTHEST < number {
+        return false;
+    }
+    *value = Some(number);
+    true
 }

@@ -1,12 +1,12 @@
 -- What words name is a civil minute, and no minute comes after the last.
-use Rattle.std.proofs.Common.{◌≡◌, ℕ, ◌≤◌, ◌<◌, Bool, true, false, pos, cond, refl, subst, arith, Some, None}
+use Rattle.std.proofs.Common.{◌≡◌, ℕ, ◌≤◌, Bool, true, false, pos, cond, refl, subst, arith, Some, None}
 use Rattle.std.specs.Prelude.{nat_le, nat_lt}
 use Rattle.std.proofs.lemmas.Bool.{and_parts, leb-true, ltb-true}
 use Rattle.jiff_core.specs.Calendar.{days_in_month, days_from_civil}
 use Rattle.jiff_core.proofs.SignedLemmas.{signed_arith}
 use Rattle.station_base.specs.CivilMinute.{CivilMinute, IsCivilMinute, is_civil_minute, archive_day_of, day_of, minute_of}
 use Rattle.station_base.specs.DayText.{IsDayNumber}
-use Rattle.station_base.specs.Stamp.{stamp_of_words, spelled_stamp, time_word_of}
+use Rattle.station_base.specs.Stamp.{stamp_of_words, spelled_stamp}
 use Rattle.station_base.proofs.Days.{epoch_day_from, epoch_day_to, unsigned_between}
 use Rattle.station_base.proofs.Order.{date_of}
 
@@ -25,13 +25,6 @@ pub archive_day_within : (c : CivilMinute) → IsCivilMinute c → IsDayNumber (
 archive_day_within c civil =
     let day = day_within c civil in
     (omega (arith, signed_arith, day.0), omega (arith, signed_arith, minute_within c civil))
-
--- two minutes of one date, of which none is its first, have one archive day
-pub archive_day_of_date : (a b : CivilMinute) → IsCivilMinute a → IsCivilMinute b → a.year ≡ b.year → a.month ≡ b.month → a.day ≡ b.day
-    → 0 < time_word_of a → 0 < time_word_of b → archive_day_of a ≡ archive_day_of b
-archive_day_of_date a b a_civil b_civil year month day a_later b_later =
-    let same : day_of a ≡ day_of b = rw (year, month, day) refl in
-    omega (arith, a_civil.hour_to, a_civil.minute_to, b_civil.hour_to, b_civil.minute_to)
 
 pub test_tells : (c : CivilMinute) → is_civil_minute c ≡ true → IsCivilMinute c
 test_tells c e =

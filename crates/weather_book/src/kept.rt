@@ -50,7 +50,7 @@ impl Kept {
         ensures begins { result ≡ (begins_day self.now.tail.last row.now.stamp || (self.now.count == 0)) }
         ensures range { IsDayNumber (pos (archive_day_of row.now.stamp)) }
     {
-        self.tail.begins_day(row.stamp) || self.count == 0
+        self.tail.begins_day(&row.stamp) || self.count == 0
     }
 
     // One row more.

@@ -8,13 +8,13 @@ use Rattle.row_slot.proofs.Fields.{fields_read, none_read, told, tells_more}
 use Rattle.row_slot.proofs.values.read_values.Goals as goal
 use Rattle.station_base.specs.Fields.{field_count}
 
-pub returns-then-not-is_allowed : goal.returns-then-not-is_allowed
-returns-then-not-is_allowed c =
+pub returns-then-not-read_value : goal.returns-then-not-read_value
+returns-then-not-read_value c =
     let slot = c.args.slot.now in
     let presence = c.presence_in-presence.result in
     let field = c.loop-field.field in
     let fits : FitsSigned w32 c.number_of-number.result = search rules in
-    let refused = sym (told is_allowed presence field slot c.number_of-number.result fits c.number_of-number.ensures) ∙ sym c.is_allowed.ensures ∙ c.if-not-is_allowed.true in
+    let refused = sym (told is_allowed presence field slot c.number_of-number.result fits c.number_of-number.ensures) ∙ sym c.read_value.ensures.allowed ∙ c.if-not-read_value.true in
     ap (λ n. slot_values_in field_count n (drop 20 slot)) (sym c.presence_in-presence.ensures)
     ∙ none_read field_count presence (drop 20 slot) (λ are. false≢true (sym refused ∙ are.allowed field c.loop-field-test.true))
 
@@ -24,12 +24,12 @@ loop-field-preserved c =
     let presence = c.presence_in-presence.result in
     let field = c.loop-field.field in
     let fits : FitsSigned w32 c.number_of-number.result = search rules in
-    let allowed = sym (told is_allowed presence field slot c.number_of-number.result fits c.number_of-number.ensures) ∙ sym c.is_allowed.ensures ∙ c.if-not-is_allowed.false in
-    let value = c.then_some.ensures ∙ told (λ b z. then_some b z) presence field slot c.number_of-number.result fits c.number_of-number.ensures in
+    let allowed = sym (told is_allowed presence field slot c.number_of-number.result fits c.number_of-number.ensures) ∙ sym c.read_value.ensures.allowed ∙ c.if-not-read_value.false in
+    let value = c.read_value.ensures.value c.if-not-read_value.false ∙ told (λ b z. then_some b z) presence field slot c.number_of-number.result fits c.number_of-number.ensures in
     record {
       long = length-set _ _ _ ∙ c.loop-field.invariant.long;
       allowed = below_more _ _ c.loop-field.invariant.allowed allowed;
-      tells = tells_more presence field (drop 20 slot) c.loop-field.values c.then_some.result (omega arith) value c.loop-field.invariant.tells;
+      tells = tells_more presence field (drop 20 slot) c.loop-field.values c.read_value.new.value (omega arith) value c.loop-field.invariant.tells;
     }
 
 pub returns-then-presence-ne0 : goal.returns-then-presence-ne0

@@ -11,14 +11,17 @@ some_minutes stamp civil =
     let late : 10956 ≤ archive_day_of stamp = (unsigned_between 10956 57707 (pos (archive_day_of stamp)) day.0 day.1).0 in
     omega (arith, late)
 
-pub returns-in-Some-clause-range : goal.returns-in-Some-clause-range
-returns-in-Some-clause-range c = archive_day_within c.args.stamp c.date_word-date.ensures.civil
+pub returns-in_default-clause-range : goal.returns-in_default-clause-range
+returns-in_default-clause-range c = archive_day_within c.args.stamp.now c.is_midnight-is_midnight.ensures.civil
 
-pub returns-in-Some-clause-some : goal.returns-in-Some-clause-some
-returns-in-Some-clause-some c = some_minutes c.args.stamp c.date_word-date.ensures.civil
+pub returns-in_default-clause-some : goal.returns-in_default-clause-some
+returns-in_default-clause-some c = some_minutes c.args.stamp.now c.is_midnight-is_midnight.ensures.civil
 
-pub returns-in-None-clause-range : goal.returns-in-None-clause-range
-returns-in-None-clause-range c = archive_day_within c.args.stamp c.date_word-date.ensures.civil
+pub returns-then-not-is_midnight-2-clause-range : goal.returns-then-not-is_midnight-2-clause-range
+returns-then-not-is_midnight-2-clause-range c = archive_day_within c.args.stamp.now c.is_midnight-is_midnight.ensures.civil
 
-pub returns-in-None-clause-some : goal.returns-in-None-clause-some
-returns-in-None-clause-some c = some_minutes c.args.stamp c.date_word-date.ensures.civil
+pub returns-clause-range : goal.returns-clause-range
+returns-clause-range c = archive_day_within c.args.stamp.now c.is_midnight-is_midnight.ensures.civil
+
+pub returns-clause-some : goal.returns-clause-some
+returns-clause-some c = some_minutes c.args.stamp.now c.is_midnight-is_midnight.ensures.civil
