@@ -1,6 +1,5 @@
 -- Numbers in text: their digits, and how long they are.
-use lib.IntN.{nat_abs}
-use Rattle.std.proofs.Common.{◌≡◌, ℕ, suc, ℤ, pos, negsuc, codes, ◌≤ℤ◌, ◌<ℤ◌, ◌++◌, ◌+◌, ◌/◌, ◌^◌, ◌<◌, ◌≤◌, length, refl, arith, lit<, to_z, of_z, w32}
+use Rattle.std.proofs.Common.{◌≡◌, ℕ, suc, ℤ, pos, negsuc, ◌+◌, ◌/◌, ◌^◌, ◌<◌, ◌≤◌, length, refl, arith, lit<, to_z, of_z, w32}
 use Rattle.itoa.proofs.Decimal.{length_one, length_two, length_pair, length_four}
 use Rattle.std.proofs.lemmas.Fmt.{length-decimal-le}
 use Rattle.std.specs.Fmt.{signed_decimal}
@@ -14,15 +13,6 @@ pub signed_text_is : (z : ℤ) → signed_text z ≡ signed_decimal z
 unfolding number_text
 signed_text_is (pos n) = refl
 signed_text_is (negsuc n) = refl
-
--- a value below 0 is written with `-` before its number without a sign, and another one as this number alone
-pub text_below : (z : ℤ) → z <ℤ pos 0 → codes "-" ++ number_text (nat_abs z) ≡ signed_text z
-text_below (pos n) below = absurd (omega (arith, signed_arith))
-text_below (negsuc n) below = refl
-
-pub text_from : (z : ℤ) → pos 0 ≤ℤ z → number_text (nat_abs z) ≡ signed_text z
-text_from (pos n) above = refl
-text_from (negsuc n) above = absurd (omega (arith, signed_arith))
 
 -- how many digits a number has, by where it lies
 pub width_one : (n : ℕ) → n < 10 → length (number_text n) ≡ 1

@@ -1,4 +1,4 @@
-ghost use Rattle.std.specs.Prelude.{◌≡◌, ◌+◌, ◌≤◌, ◌++◌, [], length, take};
+ghost use Rattle.std.specs.Prelude.{◌≡◌, ◌+◌, ◌≤◌, ◌++◌, [], length, take, unsigned_abs};
 ghost use Rattle.station_base.specs.Line.{line_so_far};
 ghost use Rattle.station_base.specs.NumberText.{number_text, signed_text};
 
@@ -73,9 +73,20 @@ impl Line {
         ensures text { line_so_far self.new ≡ line_so_far self.old ++ signed_text value }
         ensures length { self.new.end ≡ self.old.end + length (signed_text value) }
     {
+        self.put_sign(value);
+        self.put_number(value.unsigned_abs());
+    }
+
+    // Appends the sign of a value, `-` before a negative one.
+    fn put_sign(&mut self, value: i32)
+        requires { self.old.end + length (signed_text value) ≤ LINE_ROOM }
+        ensures text { line_so_far self.new ++ number_text (unsigned_abs value)
+            ≡ line_so_far self.old ++ signed_text value }
+        ensures length { self.new.end + length (number_text (unsigned_abs value))
+            ≡ self.old.end + length (signed_text value) }
+    {
         if value < 0 {
             self.put(b"-");
         }
-        self.put_number(value.unsigned_abs());
     }
 }
