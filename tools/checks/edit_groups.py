@@ -119,7 +119,8 @@ class Edit:
     """A wrong body: the texts that it makes, and what it changes.
 
     `functions` are those by whose goals it is judged; with none it is judged by the verdict on the whole crate. `callers` are
-    those whose goals it may change besides. `is_alone` has it tried by itself.
+    those whose goals it may change besides. `is_alone` has it tried by itself. `is_stated` is of a constant that a clause or a
+    definition has too, so that a law may be what refuses it.
     """
 
     def __init__(self, path, sources):
@@ -127,7 +128,7 @@ class Edit:
         self.folder, self.text = path.parent.parent, path.read_text(encoding="utf-8")
         self.changes, self.bad = [*changes(path)], trouble(path)
         self.clause = next(iter(CLAUSE.findall(self.text)), "")
-        self.functions, self.callers, self.is_alone = set(), set(), False
+        self.functions, self.callers, self.is_alone, self.is_stated = set(), set(), False, False
         is_of_crate = any(not file.startswith(f"{CODE}/") for file, *_ in self.changes)
         for file, old, _ in [] if self.bad or is_of_crate else self.changes:
             is_of_crate |= self.changes_contract(sources, file, old)
@@ -158,7 +159,8 @@ class Edit:
         users = sources.users(name)
         self.functions |= users
         self.callers |= {caller for user in users for caller in sources.functions_with(user.name)}
-        self.is_alone |= sources.is_stated(name)
+        self.is_stated |= sources.is_stated(name)
+        self.is_alone |= self.is_stated
 
     def is_near(self, other):
         """Whether one of two edits changes what goals of the other one's functions are made from."""

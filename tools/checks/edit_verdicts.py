@@ -98,7 +98,9 @@ def judge(edit, said):
         return Verdict(UNSURE, f"the prover ended with status {said.status}")
     if said.status == PROVED:
         return Verdict(ACCEPTED, "its crate is still proved with it")
-    return judge_functions(edit, said) if edit.functions else judge_crate(edit, said)
+    verdict = judge_functions(edit, said) if edit.functions else None
+    is_of_crate = not verdict or edit.is_stated and verdict.kind == ELSEWHERE
+    return judge_crate(edit, said) if is_of_crate else verdict
 
 
 def judge_crate(edit, said):

@@ -56,11 +56,13 @@ crate, text = sys.argv[sys.argv.index("--crate-name") + 1], pathlib.Path("src/li
 specs = pathlib.Path("specs/Word.antt").read_text().split() if os.path.isdir("specs") else []
 if "--incremental" in sys.argv:
     os.makedirs(sys.argv[sys.argv.index("--incremental") + 1], exist_ok=True)
+constants = dict(re.findall(r"const (\w+): u8 = (\w+);", text))
+specs = [constants.get(word, word) for word in specs]
 if "compiles not" in text:
     sys.exit(print("src/lib.rt:1:1: error[E0]: it compiles not") or 1)
 unproved = set()
 for name, clauses, body in re.findall(r"fn (\w+)\(\)\n((?: [^\n]*\n)*)\{\n(.*?)\n\}", text, re.S):
-    body += "".join(value for constant, value in re.findall(r"const (\w+): u8 = (\w+);", text) if constant in body)
+    body += "".join(value for constant, value in constants.items() if constant in body)
     asked = dict(re.findall(r"ensures (\w+) \{ (\w+) \}", clauses))
     asked = {clause: specs[0] if specs and word == "Word" else word for clause, word in asked.items()}
     goals = ", ".join(f"`returns-clause-{clause}`" for clause, word in asked.items() if word not in body)
@@ -201,6 +203,16 @@ expect 'a constant, and a caller of the function that has it' 0 $'*: another_lea
 apart/more-edits/another_least.edit: refused: at returns-clause-is_seven\n*apart: * s: not_eight\n*3 of 3 *' try_edits --each apart
 sed -i 's/is_seven { seven }/is_seven { seven }\n    ensures is_least { LEAST }/' tree/crates/apart/src/lib.rt
 expect 'a constant that a clause has' 0 $'*: another_least\napart: * s: not_eight not_ten\n3 of 3 *' try_edits apart
+cp tree/crates/apart/src/lib.rt apart.kept
+mkdir tree/crates/apart/specs
+printf 'LEAST\n-- TheConstants.{LEAST}\n' >tree/crates/apart/specs/Word.antt
+sed -i '/is_seven/d; s/is_eight { eight }/is_eight { Word }/; s/least() + eight/seven + eight/' tree/crates/apart/src/lib.rt
+wrong_body apart/more-edits/not_eight src/lib.rt 'seven + eight' 'eight'
+expect 'a constant that only a definition has' 0 \
+    $'*apart/more-edits/another_least.edit: refused: at returns-clause-is_eight\n*3 of 3 *' try_edits --each apart
+mv apart.kept tree/crates/apart/src/lib.rt
+rm -r tree/crates/apart/specs
+wrong_body apart/more-edits/not_eight src/lib.rt '+ eight' ''
 expect 'a crate that is none' 2 'no crate: none' try_edits none
 
 # A checkout, in which the file names a commit.
