@@ -237,7 +237,9 @@ try_weewx() {
 
 # The page of a station: by its unit in its own folder, and by its command in another one and in German.
 try_page() {
-    expect 'a page by its unit' 0 '' sh_inside 'rm -r /var/lib/jofitrana/roof.page; systemctl start jofitrana-page@roof'
+    # A round may have begun the page just now: the first start waits for that one.
+    expect 'a page by its unit' 0 '' sh_inside 'systemctl start jofitrana-page@roof && rm -r /var/lib/jofitrana/roof.page &&
+        systemctl start jofitrana-page@roof'
     expect 'whose page it is' 0 'jofitrana' inside stat -c %U /var/lib/jofitrana/roof.page/index.html
     expect 'a page in another folder' 0 '?(Matplotlib is building the font cache; this may take a moment.)' \
         inside jofitrana-page --station roof --language de /tmp/roof
