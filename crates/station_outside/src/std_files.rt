@@ -9,8 +9,8 @@ use std::alloc::{AllocError, Global};
 use std::io::{self, Read};
 use std::{fs, rt};
 
-/// How many bytes are asked for at a time: so few that they are still in the processor's nearest cache as they are copied.
-const CHUNK: usize = 16_384;
+/// How many bytes are asked for at a time.
+const CHUNK: usize = 65_536;
 
 /// The files of the system. What they hold is not told.
 #[derive(Drop)]
