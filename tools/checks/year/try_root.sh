@@ -235,6 +235,24 @@ try_weewx() {
     expect 'a second run adds nothing' 0 '*weewx: 0 rows added; left out: 0 rows' inside jofitrana-weewx database --station roof /tmp/first.sdb
 }
 
+# The lines of NETWORK that put an archive aside, from one of them to the one before another, as root and for all years.
+lines_on_archives() {
+    sed -n '/^### Put an archive aside/,/^## /s/^    //p' "$(dirname "$tools")/docs/NETWORK.md" |
+        sed -n "/$1/,/$2/{/$2/!p}" | sed 's/sudo //; s/ 2024-01-01 2025-12-31/ 2024-01-01 2099-12-31/'
+}
+
+# An archive is put aside. A round makes a new one, and the page and an export have the rows of both.
+try_aside() {
+    expect 'an archive is put aside' 0 'copied 14??' sh_inside "set -e; $(lines_on_archives 'systemctl stop' 'systemctl start')"
+    expect 'the round behind it' 0 '' inside systemctl start jofitrana@roof
+    expect 'the archive that it makes' 0 'jofitrana 644' inside stat -c '%U %a' "$ARCHIVE"
+    expect 'the page of both' 0 '*' sh_inside "$(lines_on_archives '^echo' '^{')"
+    expect 'that page' 0 '' inside systemctl start jofitrana-page@roof
+    expect 'an export of both' 0 '' sh_inside "cd /tmp; $(lines_on_archives '^{' '^$')"
+    expect 'its rows' 0 '14??' sh_inside 'wc -l </tmp/roof.csv'
+    sh_inside "sed -i '/^PAGE=/d' $ENV"
+}
+
 # The page of a station: by its unit in its own folder, and by its command in another one and in German.
 try_page() {
     # A round may have begun the page just now: the first start waits for that one.
@@ -389,6 +407,7 @@ boot
 try_line
 try_timer
 try_page
+try_aside
 try_weewx
 try_alerts
 try_stay
