@@ -31,16 +31,17 @@ fn after_chunks(chunks: &[[u8; 8]]) -> u16
 // Puts a chunk behind four words and takes the first word away. The remainder stays.
 //
 // A square over two elements has no mixed terms, so the sixteenth power of the polynomial is x^256 + x^192 + x^80 + 1.
-// The first word stands at x^256. It is added at x^192, x^80 and 1 instead.
+// The first word stands at x^256. It is added at x^192, x^80 and 1 instead. At x^80 its first two bytes meet the last two
+// of the third word, and its other six the first six of the fourth. The first byte of a word is its lowest.
 fn fold_in(words: &mut [u64; 4], chunk: &[u8; 8])
     ensures { fold after_word 0 words.new ≡ fold divided (fold after_word 0 words.old) (message_bits chunk.now) }
 {
     let [first, second, third, fourth] = *words;
-    let next = u64::from_be_bytes(*chunk);
+    let next = u64::from_le_bytes(*chunk);
     *words = [
         second ^ first,
-        third ^ (first >> 48),
-        fourth ^ (first << 16),
+        third ^ (first << 48),
+        fourth ^ (first >> 16),
         next ^ first,
     ];
 }
@@ -60,7 +61,7 @@ fn after_words(words: &[u64; 4]) -> u16
 fn after_word(rest: u16, word: u64) -> u16
     ensures { result ≡ after_word rest word }
 {
-    after_chunk(rest, &word.to_be_bytes())
+    after_chunk(rest, &word.to_le_bytes())
 }
 
 // The remainder after more bytes.
