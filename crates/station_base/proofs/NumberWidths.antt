@@ -1,18 +1,11 @@
 -- Numbers in text: their digits, and how long they are.
-use Rattle.std.proofs.Common.{◌≡◌, ℕ, suc, ℤ, pos, negsuc, ◌+◌, ◌/◌, ◌^◌, ◌<◌, ◌≤◌, length, refl, arith, lit<, to_z, of_z, w32}
+use Rattle.std.proofs.Common.{◌≡◌, ℕ, suc, ℤ, pos, negsuc, ◌+◌, ◌/◌, ◌^◌, ◌<◌, ◌≤◌, length, arith, lit<, to_z, of_z, w32}
 use Rattle.itoa.proofs.Decimal.{length_one, length_two, length_pair, length_four}
 use Rattle.std.proofs.lemmas.Fmt.{length-decimal-le}
-use Rattle.std.specs.Fmt.{signed_decimal}
 use Rattle.jiff.specs.Words.{IsWithin}
 use Rattle.jiff_core.proofs.SignedLemmas.{signed_arith, back_small}
 use Rattle.station_base.specs.NumberText.{number_text, signed_text}
 use Rattle.station_base.specs.Limits.{farthest_value}
-
--- the text of a signed number is the one that std prints
-pub signed_text_is : (z : ℤ) → signed_text z ≡ signed_decimal z
-unfolding number_text
-signed_text_is (pos n) = refl
-signed_text_is (negsuc n) = refl
 
 -- how many digits a number has, by where it lies
 pub width_one : (n : ℕ) → n < 10 → length (number_text n) ≡ 1

@@ -16,13 +16,13 @@ static PAIRS: [u8; 200] = *b"\
     90919293949596979899";
 
 // The least numbers of two, three, four and five digits.
-const TWO_DIGITS: u32 = 10;
+pub const TWO_DIGITS: u32 = 10;
 
-const THREE_DIGITS: u32 = 100;
+pub const THREE_DIGITS: u32 = 100;
 
-const FOUR_DIGITS: u32 = 1_000;
+pub const FOUR_DIGITS: u32 = 1_000;
 
-const FIVE_DIGITS: u32 = 10_000;
+pub const FIVE_DIGITS: u32 = 10_000;
 
 /// The two decimal digits of a number below 100.
 #[tactic(auto, using(crate::proofs::Pairs::pair_at))]
