@@ -31,7 +31,7 @@ pub struct FieldSum {
 }
 
 // How many seconds a value of a row weighs.
-fn seconds_of(row: &Row) -> u32
+pub(crate) fn seconds_of(row: &Row) -> u32
     ensures seconds { result ≡ 60 * row.now.interval }
     ensures period { IsPeriod row.now.interval }
 {
@@ -82,15 +82,16 @@ impl FieldSum {
         }
     }
 
-    // Adds a value of a row behind those that were added.
-    fn push(&mut self, row: &Row, value: i32)
+    // Adds a value of a row, which weighs so many seconds, behind those that were added.
+    fn push(&mut self, row: &Row, seconds: u32, value: i32)
+        requires seconds { seconds ≡ 60 * row.now.interval }
+        requires period { IsPeriod row.now.interval }
         requires earlier { IsSum self.old }
         requires fewer { self.old.count < most_rows }
         requires printable { IsPrintable (Some value) }
         ensures exact { self.new ≡ joined self.old (sum_of_row row.now value) }
         ensures bounds { IsSumOf (self.old.count + 1) self.new }
     {
-        let seconds = seconds_of(row);
         self.lower_to(value, &row.stamp);
         self.raise_to(value, &row.stamp);
         self.sum += i64::from(value);
@@ -116,8 +117,10 @@ impl FieldSum {
     }
 }
 
-// Adds a value of a row behind those that were added, if the row has it.
-pub(crate) fn add(sum: &mut Option<FieldSum>, row: &Row, value: Option<i32>)
+// Adds a value of a row, which weighs so many seconds, behind those that were added, if the row has it.
+pub(crate) fn add(sum: &mut Option<FieldSum>, row: &Row, seconds: u32, value: Option<i32>)
+    requires seconds { seconds ≡ 60 * row.now.interval }
+    requires period { IsPeriod row.now.interval }
     requires earlier { IfSome sum.old IsSum }
     requires fewer { value_count sum.old < most_rows }
     requires printable { IsPrintable value }
@@ -128,7 +131,7 @@ pub(crate) fn add(sum: &mut Option<FieldSum>, row: &Row, value: Option<i32>)
         return;
     };
     match sum {
-        Some(sum) => sum.push(row, value),
+        Some(sum) => sum.push(row, seconds, value),
         None => begin(sum, row, value),
     }
 }

@@ -5,7 +5,7 @@ ghost use Rattle.daily_summary.specs.Bounds.{IsInBounds, IsSum};
 ghost use Rattle.daily_summary.specs.Summary.{summary_of, tenths};
 ghost use Rattle.station_base.specs.Limits.{most_rows};
 
-use crate::field_sum::{FieldSum, add, merge};
+use crate::field_sum::{FieldSum, add, merge, seconds_of};
 use station_base::{FIELD_COUNT, FieldId, Row};
 
 /// What rows come to in each field: those of a day, or of the days of a month (after the daily summaries of WeeWX).
@@ -41,8 +41,9 @@ impl DaySummary {
         ensures bounds { IsInBounds self.new }
         ensures rows { self.new.rows ≡ self.old.rows + 1 }
     {
+        let seconds = seconds_of(row);
         for (field, value) in row.values.iter().enumerate() {
-            add(&mut self.fields[field], row, *value);
+            add(&mut self.fields[field], row, seconds, *value);
         }
         self.rows += 1;
     }
