@@ -4,6 +4,7 @@ ghost use Rattle.crc_ccitt.specs.Check.{check, is_good, sealed};
 use crate::sliced::crc;
 
 /// Whether the bytes end with the check of those before, the high byte first.
+#[inline(always)]
 #[tactic(auto, unfolding(crate::specs::Check::is_good))]
 pub fn is_good(frame: &[u8]) -> bool
     ensures exact { result ≡ is_good frame.now }

@@ -8,6 +8,7 @@ use crate::table::TABLES;
 
 /// The check of the bytes: CRC-CCITT of polynomial 0x1021, start value 0, most significant bit first and no final
 /// change (Davis serial manual, "CRC calculation").
+#[inline(always)]
 pub fn crc(bytes: &[u8]) -> u16
     ensures check { result ≡ check bytes.now }
     ensures remainder { IsRemainder (message_bits bytes.now) result }
@@ -18,6 +19,7 @@ pub fn crc(bytes: &[u8]) -> u16
 }
 
 // The remainder after chunks of eight bytes.
+#[inline(always)]
 fn after_chunks(chunks: &[[u8; 8]]) -> u16
     ensures { result ≡ check (concat chunks.now) }
 {
