@@ -61,6 +61,7 @@ pub fn read(bytes: &[u8; RECORD_SIZE], interval: Period) -> RecordRead
 }
 
 /// What a slot is. Its row can then be read by `row_in`, or a value alone by `value_in`.
+#[inline(always)]
 #[tactic(auto, unfolding(crate::specs::Reading::reading))]
 pub fn kind_of(bytes: &[u8; RECORD_SIZE]) -> SlotKind
     ensures { (interval : ℕ) → reading bytes.now interval ≡ reading_of result bytes.now interval }
