@@ -1,5 +1,5 @@
 -- The fields of a summary, one after another.
-use Rattle.std.proofs.Common.{◌≡◌, ◌≢◌, ◌⊎◌, inl, inr, replicate, zero, suc, ℕ, ℤ, ◌+◌, ◌≤◌, ◌<◌, List, [], ◌∷◌, ◌++◌, length, map, get_or, set, Option, Some, None, refl, ap, sym, subst, ◌∙◌, arith, length-append, length-set, below_more, get_or-set_other, get_or-set_same}
+use Rattle.std.proofs.Common.{◌≡◌, ◌≢◌, ◌⊎◌, inl, inr, replicate, zero, suc, ℕ, ℤ, ◌+◌, ◌≤◌, ◌<◌, List, ◌++◌, length, map, get_or, set, Option, Some, None, refl, ap, sym, subst, ◌∙◌, arith, length-append, length-set, below_more, get_or-set_other, get_or-set_same}
 use Rattle.std.proofs.Math.ListN.{get_or-eq_default}
 use Rattle.std.proofs.lemmas.Bool.{cases_lt}
 use Rattle.std.specs.List.{range_with_len}
@@ -12,10 +12,10 @@ use Rattle.station_base.specs.declared.row.Row.{Row}
 use Rattle.daily_summary.specs.declared.field_sum.FieldSum.{FieldSum}
 use Rattle.daily_summary.specs.declared.summary.DaySummary.{DaySummary}
 use Rattle.daily_summary.specs.Bounds.{IsSum, IsSumOf, IsInBounds}
-use Rattle.daily_summary.specs.Joined.{merged, value_count, sum_of_value}
+use Rattle.daily_summary.specs.Joined.{merged, value_count}
 use Rattle.daily_summary.specs.Readings.{readings}
 use Rattle.daily_summary.specs.Summary.{field_sum, summary_of}
-use Rattle.daily_summary.proofs.JoinedSums.{field-append, field_more}
+use Rattle.daily_summary.proofs.JoinedSums.{field-append}
 use Rattle.station_base.specs.Limits.{most_rows}
 use Rattle.station_base.specs.Fields.{field_count}
 
@@ -104,15 +104,6 @@ bounds_merged total rows old now more same few is = record { rows = omega arith;
     by : (k : ℕ) → (k < field_count) ⊎ (field_count ≤ k) → IfSome (get_or now k None) (IsSumOf rows)
     by k (inl h) = subst (λ (n : ℕ). IfSome (get_or now k None) (IsSumOf n)) (sym same) (is.bounds k h)
     by k (inr h) = rw (get_or-eq_default now None {n = k} (omega (arith, is.long))) tt
-
-pub rows_added : (total rows : ℕ) (old : DaySummary) (now : List (Option FieldSum)) (row : Row) (before : List Row) → rows ≡ old.rows + 1 → old ≡ summary_of before →
-    IsMerged field_count total old.fields now (λ k. sum_of_value row (get_or row.values k None)) → record { fields = now; rows = rows } ≡ summary_of (before ++ row ∷ [])
-unfolding summary_of
-rows_added total rows old now row before count was is =
-    summary_is (record { fields = now; rows = rows }) (before ++ row ∷ []) is.long
-    (let e : old.rows ≡ length before = ap (λ (s : DaySummary). s.rows) was in omega (arith, length-append before (row ∷ [])))
-    (λ field within. is.done field within ∙ ap (λ (o : Option FieldSum). merged o (sum_of_value row (get_or row.values field None))) (field_of old before field was within)
-    ∙ sym (field_more field before row))
 
 pub rows_joined : (total rows : ℕ) (old later : DaySummary) (now : List (Option FieldSum)) (before more : List Row) → rows ≡ old.rows + later.rows → old ≡ summary_of before → later ≡ summary_of more →
     IsMerged field_count total old.fields now (λ k. get_or later.fields k None) → record { fields = now; rows = rows } ≡ summary_of (before ++ more)

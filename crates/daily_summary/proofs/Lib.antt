@@ -6,3 +6,5 @@ pub mod Entries
 pub mod PartsLaws
 pub mod Extremes
 pub mod Typed
+pub mod RunningSums
+pub mod RunningRows

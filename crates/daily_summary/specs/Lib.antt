@@ -6,3 +6,4 @@ pub mod Joined
 pub mod Measured
 pub mod Parts
 pub mod WellFormed
+pub mod Running

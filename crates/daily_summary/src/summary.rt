@@ -5,8 +5,8 @@ ghost use Rattle.daily_summary.specs.Bounds.{IsInBounds, IsSum};
 ghost use Rattle.daily_summary.specs.Summary.{summary_of, tenths};
 ghost use Rattle.station_base.specs.Limits.{most_rows};
 
-use crate::field_sum::{FieldSum, add, merge, seconds_of};
-use station_base::{FIELD_COUNT, FieldId, Row};
+use crate::field_sum::{FieldSum, merge};
+use station_base::{FIELD_COUNT, FieldId};
 
 /// What rows come to in each field: those of a day, or of the days of a month (after the daily summaries of WeeWX).
 #[derive(Clone, Copy, Debug, PartialEq, Eq)]
@@ -28,24 +28,6 @@ impl DaySummary {
             fields: [None; FIELD_COUNT],
             rows: 0,
         }
-    }
-
-    /// Adds a row behind those that were added. A value weighs as many seconds as the row's interval has, and a missing
-    /// one does not count. Of equal extremes the first is kept.
-    pub fn add(&mut self, row: &Row)
-        requires bounds { IsInBounds self.old }
-        requires fewer { self.old.rows < most_rows }
-        requires printable { All IsPrintable row.now.values }
-        ensures summary { (rows : List Row) → self.old ≡ summary_of rows
-            → self.new ≡ summary_of (rows ++ row.now ∷ []) }
-        ensures bounds { IsInBounds self.new }
-        ensures rows { self.new.rows ≡ self.old.rows + 1 }
-    {
-        let seconds = seconds_of(row);
-        for (field, value) in row.values.iter().enumerate() {
-            add(&mut self.fields[field], row, seconds, *value);
-        }
-        self.rows += 1;
     }
 
     /// Adds the rows of another summary behind those that were added, as those of a day to the earlier days of its month.

@@ -7,7 +7,10 @@ use Rattle.std.proofs.lemmas.List.Elements.{filter-append}
 use Rattle.std.proofs.lemmas.Bool.{and_parts, ltb-true}
 use Rattle.station_base.specs.declared.row.Row.{Row}
 use Rattle.station_base.specs.CivilMinute.{CivilMinute, minute_of, archive_day_of}
+use Rattle.daily_summary.specs.declared.running.RunningSummary.{RunningSummary}
 use Rattle.daily_summary.specs.declared.summary.DaySummary.{DaySummary}
+use Rattle.daily_summary.specs.Running.{running_summary}
+use Rattle.daily_summary.proofs.RunningRows.{told_rows}
 use Rattle.daily_summary.specs.Summary.{summary_of, is_of_day}
 use Rattle.packed_rows.specs.declared.tail.Tail.{Tail}
 use Rattle.std.specs.Str.{bytes_eq}
@@ -113,8 +116,8 @@ summary_count : (s : DaySummary) (rows : List Row) → s ≡ summary_of rows →
 unfolding summary_of
 summary_count s rows is = ap (λ (t : DaySummary). t.rows) is
 
-pub none_running : (s : DaySummary) → s ≡ summary_of [] → s.rows ≡ 0
-none_running s is = summary_count s [] is
+pub none_running : (s : RunningSummary) → running_summary s ≡ summary_of [] → s.rows ≡ 0
+none_running s is = sym (told_rows s) ∙ summary_count (running_summary s) [] is
 
 some_last : (x : Row) (rows : List Row) → last_stamp_after (Some x.stamp) rows ≡ None → ⊥
 some_last x [] e = cc
@@ -125,8 +128,8 @@ none_last [] e = refl
 none_last (x ∷ rows) e = absurd (some_last x rows (sym e))
 
 -- one row more at the end
-pub ends_more : (tail new : Tail) (before : DaySummary) (row : Row) (rows : List Row) → EndsRows tail rows → stamp_exceeds tail.last row.stamp ≡ true → (begins_day tail.last row.stamp ≡ false → before ≡ tail.running) →
-    (begins_day tail.last row.stamp ≡ true → before ≡ summary_of []) → ((all : List Row) → before ≡ summary_of all → new.running ≡ summary_of (all ++ row ∷ [])) → new.last ≡ Some row.stamp →
+pub ends_more : (tail new : Tail) (before : RunningSummary) (row : Row) (rows : List Row) → EndsRows tail rows → stamp_exceeds tail.last row.stamp ≡ true → (begins_day tail.last row.stamp ≡ false → before ≡ tail.running) →
+    (begins_day tail.last row.stamp ≡ true → running_summary before ≡ summary_of []) → ((all : List Row) → running_summary before ≡ summary_of all → running_summary new.running ≡ summary_of (all ++ row ∷ [])) → new.last ≡ Some row.stamp →
     EndsRows new (rows ++ row ∷ [])
 ends_more tail new before row rows ends rises same later add last =
     record {
@@ -141,9 +144,9 @@ ends_more tail new before row rows ends rises same later add last =
     here : (b : Bool) → begins_day tail.last row.stamp ≡ b → begins_day (last_row_stamp rows) row.stamp ≡ b
     here b is = ap (λ (o : Option CivilMinute). begins_day o row.stamp) (sym ends.last) ∙ is
 
-    run : (b : Bool) → begins_day tail.last row.stamp ≡ b → new.running ≡ summary_of (last_day_rows (rows ++ row ∷ []))
+    run : (b : Bool) → begins_day tail.last row.stamp ≡ b → running_summary new.running ≡ summary_of (last_day_rows (rows ++ row ∷ []))
     run true is = add [] (later is) ∙ ap summary_of (sym (later_rows rows row ends.rising rising_here (here true is)))
-    run false is = add (last_day_rows rows) (same is ∙ ends.running) ∙ ap summary_of (sym (same_rows rows row (here false is)))
+    run false is = add (last_day_rows rows) (ap running_summary (same is) ∙ ends.running) ∙ ap summary_of (sym (same_rows rows row (here false is)))
 
 -- and its day has not too many rows
 into_step : (o : Option CivilMinute) (stamp : CivilMinute) (n : ℕ) → stamp_exceeds o stamp ≡ true → begins_day o stamp ≡ false → 1 ≤ minutes_into (Some stamp) → n ≤ minutes_into o → n + 1 ≤ minutes_into (Some stamp)
@@ -153,13 +156,13 @@ into_step (Some s) stamp n rises out some le =
     let lt : minute_of s < minute_of stamp = ltb-true (minute_of s) (minute_of stamp) rises in
     let f = into_same (minute_of s) (minute_of stamp) lt e in omega (arith, f)
 
-pub few_more : (last : Option CivilMinute) (running before after : DaySummary) (row : Row) → stamp_exceeds last row.stamp ≡ true → running.rows ≤ minutes_into last → 1 ≤ minutes_into (Some row.stamp) →
-    (begins_day last row.stamp ≡ false → before ≡ running) → (begins_day last row.stamp ≡ true → before ≡ summary_of []) → after.rows ≡ before.rows + 1 → after.rows ≤ minutes_into (Some row.stamp)
+pub few_more : (last : Option CivilMinute) (running before after : RunningSummary) (row : Row) → stamp_exceeds last row.stamp ≡ true → running.rows ≤ minutes_into last → 1 ≤ minutes_into (Some row.stamp) →
+    (begins_day last row.stamp ≡ false → before ≡ running) → (begins_day last row.stamp ≡ true → running_summary before ≡ summary_of []) → after.rows ≡ before.rows + 1 → after.rows ≤ minutes_into (Some row.stamp)
 few_more last running before after row rises few some same later one = by (begins_day last row.stamp) refl
   where
     by : (b : Bool) → begins_day last row.stamp ≡ b → after.rows ≤ minutes_into (Some row.stamp)
     by true is = let e = none_running before (later is) in omega (arith, e, one, some)
-    by false is = let e = ap (λ (s : DaySummary). s.rows) (same is) in let f = into_step last row.stamp running.rows rises is some few in omega (arith, e, f, one)
+    by false is = let e = ap (λ (s : RunningSummary). s.rows) (same is) in let f = into_step last row.stamp running.rows rises is some few in omega (arith, e, f, one)
 
 -- nothing closes where no row stands, or thirteen slots do
 pub not_closing : (rows : List Row) (shown : ℕ) (slot : List ℕ) → (rows ≡ []) ⊎ (part_count ≤ shown) → false ≡ is_closing rows shown slot

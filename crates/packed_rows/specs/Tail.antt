@@ -1,6 +1,7 @@
 -- What a book keeps of the end of its rows.
 use Rattle.std.specs.Prelude.{ℕ, ◌≡◌, true, false, List, Some, None}
 use Rattle.station_base.specs.declared.row.Row.{Row}
+use Rattle.daily_summary.specs.Running.{running_summary}
 use Rattle.daily_summary.specs.Summary.{summary_of}
 use Rattle.packed_rows.specs.declared.tail.Tail.{Tail}
 use Rattle.packed_rows.specs.declared.tail.Judged.{Judged}
@@ -14,7 +15,7 @@ use Rattle.row_slot.specs.Slot.{row_in_slot}
 pub record EndsRows (tail : Tail) (rows : List Row) : Type 0 where
   pub rising : rows_rise None rows ≡ true
   pub last : tail.last ≡ last_row_stamp rows
-  pub running : tail.running ≡ summary_of (last_day_rows rows)
+  pub running : running_summary tail.running ≡ summary_of (last_day_rows rows)
 
 -- what a slot is behind these rows and so many summary slots, and the row that was read from it
 abbrev pub Judges : Judged → Row → List Row → ℕ → List ℕ → Type 0

@@ -3,7 +3,7 @@ ghost use Rattle.station_base.specs.CivilMinute.{archive_day_of};
 ghost use Rattle.station_base.specs.DayText.{IsDayNumber};
 ghost use Rattle.station_base.specs.RowLine.{IsPrintable};
 ghost use Rattle.station_base.specs.declared.row.Row.{Row};
-ghost use Rattle.daily_summary.specs.Bounds.{IsInBounds};
+ghost use Rattle.daily_summary.specs.Running.{AreRunning, running_summary};
 ghost use Rattle.daily_summary.specs.Summary.{summary_of};
 ghost use Rattle.packed_rows.specs.Closing.{begins_day, closings, closing_slot, last_day, summary_slot};
 ghost use Rattle.packed_rows.specs.Packed.{IsReadBack};
@@ -14,7 +14,7 @@ ghost use Rattle.packed_rows.specs.Into.{minutes_into};
 ghost use Rattle.std.proofs.Props.{props};
 
 use byteorder::{ByteOrder, LittleEndian};
-use daily_summary::{DaySummary, PART_COUNT, PART_SIZE};
+use daily_summary::{PART_COUNT, PART_SIZE, RunningSummary};
 use gated_log::{SLOT_SIZE, Version, without_marks};
 use station_base::{DayNumber, Row, Stamp};
 
@@ -28,9 +28,9 @@ pub const PART: usize = 24;
 #[derive(Clone, Copy, Debug)]
 pub struct Tail {
     pub last: Option<Stamp>,
-    pub running: DaySummary,
+    pub running: RunningSummary,
     // Bounds that keep the sums from running over: no promise speaks of them.
-    ghost bounds: { IsInBounds running } by { Prim.hlevel props },
+    ghost bounds: { AreRunning running } by { Prim.hlevel props },
     ghost few: { running.rows ≤ minutes_into last },
 }
 
@@ -53,7 +53,7 @@ impl Tail {
     {
         Tail {
             last: None,
-            running: DaySummary::new(),
+            running: RunningSummary::new(),
         }
     }
 
@@ -84,11 +84,11 @@ impl Tail {
     fn turn_to(&mut self, stamp: &Stamp)
         ensures last { self.new.last ≡ self.old.last }
         ensures same { begins_day self.old.last stamp.now ≡ false → self.new.running ≡ self.old.running }
-        ensures later { begins_day self.old.last stamp.now ≡ true → self.new.running ≡ summary_of [] }
+        ensures later { begins_day self.old.last stamp.now ≡ true → running_summary self.new.running ≡ summary_of [] }
         ensures some { 1 ≤ minutes_into (Some stamp.now) }
     {
         if self.begins_day(stamp) {
-            self.running = DaySummary::new();
+            self.running = RunningSummary::new();
         }
     }
 
@@ -194,10 +194,11 @@ pub fn is_known(version: Version, slot: &[u8; SLOT_SIZE]) -> bool
 }
 
 // The slot of part `k` of a day's summary.
-#[tactic(auto, unfolding(crate::specs::Closing::summary_slot))]
-fn summary_slot(day: DayNumber, k: u8, summary: &DaySummary) -> [u8; SLOT_SIZE]
-    requires { k < part_count }
-    ensures { result ≡ summary_slot day.0 k summary.now }
+#[tactic(auto, using(daily_summary::proofs::RunningRows::told_rows), unfolding(crate::specs::Closing::summary_slot))]
+fn summary_slot(day: DayNumber, k: u8, summary: &RunningSummary) -> [u8; SLOT_SIZE]
+    requires part { k < part_count }
+    requires running { AreRunning summary.now }
+    ensures { result ≡ summary_slot day.0 k (running_summary summary.now) }
 {
     let mut slot = [0; SLOT_SIZE];
     slot[1] = 2;

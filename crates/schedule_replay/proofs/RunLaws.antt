@@ -35,11 +35,12 @@ closed_by true settings rows None disk h is = absurd h
 closed_by true settings rows (Some x) disk h is = absurd cc
 closed_by false settings rows o disk h is = refl
 
+goes_on_by : (t : Bool) (settings : StationSettings) (rows : List Row) (session : Session) (disk : Stopping MemDisk) → HasSession t settings rows (Some session) disk → (t ≡ true) × SessionGoesOn settings rows session disk
+goes_on_by true settings rows session disk h = (refl, h)
+goes_on_by false settings rows session disk h = absurd h
+
 pub open_by : (t : Bool) (settings : StationSettings) (rows : List Row) (o : Option Session) (session : Session) (disk : Stopping MemDisk) → HasSession t settings rows o disk → o ≡ Some session → (t ≡ true) × SessionGoesOn settings rows session disk
-open_by true settings rows None session disk h is = absurd h
-open_by true settings rows (Some x) session disk h is = (refl, subst (λ (z : Session). SessionGoesOn settings rows z disk) (let e : x ≡ session = cc in e) h)
-open_by false settings rows None session disk h is = absurd cc
-open_by false settings rows (Some x) session disk h is = absurd h
+open_by t settings rows o session disk h is = goes_on_by t settings rows session disk (subst (λ (z : Option Session). HasSession t settings rows z disk) is h)
 
 -- so many openings more have room in what is left
 pub rest_on : (openings k : ℕ) (a : Archive) (disk : Stopping MemDisk) → AtRest openings a disk → AtRest (openings + k) a disk
@@ -127,10 +128,12 @@ pub holds_closed : (openings : ℕ) (settings : StationSettings) (s : Stage) (ru
     → HoldsAt openings settings (closed_stage s) (record { session = None; rounds = run.rounds; written = run.written }) disk
 holds_closed openings settings s run disk h = record { rests = h.rests; session = tt; rounds = h.rounds; written = h.written }
 
+opened_by : (t : Bool) (settings : StationSettings) (stop : Stop) (n : ℕ) (a : Archive) (session : Session) (disk : Stopping MemDisk) → OpensBy t settings stop n a (Some session) disk → (t ≡ false) × IsOpened settings n a session disk
+opened_by true settings stop n a session disk h = absurd (let e : Some session ≡ None = h.0 in cc)
+opened_by false settings stop n a session disk h = (refl, h)
+
 pub opens_some : (t : Bool) (settings : StationSettings) (stop : Stop) (n : ℕ) (a : Archive) (o : Option Session) (session : Session) (disk : Stopping MemDisk) → OpensBy t settings stop n a o disk → o ≡ Some session → (t ≡ false) × IsOpened settings n a session disk
-opens_some true settings stop n a o session disk h is = absurd (let e : None ≡ Some session = sym h.0 ∙ is in cc)
-opens_some false settings stop n a None session disk h is = absurd h
-opens_some false settings stop n a (Some x) session disk h is = (refl, subst (λ (z : Session). IsOpened settings n a z disk) (let e : x ≡ session = cc in e) h)
+opens_some t settings stop n a o session disk h is = opened_by t settings stop n a session disk (subst (λ (z : Option Session). OpensBy t settings stop n a z disk) is h)
 
 pub opens_none : (t : Bool) (settings : StationSettings) (stop : Stop) (n : ℕ) (a : Archive) (o : Option Session) (disk : Stopping MemDisk) → OpensBy t settings stop n a o disk → o ≡ None → (t ≡ true) × AtRest (n + 1) (cut_archive stop a) disk
 opens_none true settings stop n a o disk h is = (refl, h.1)

@@ -1,5 +1,6 @@
-use daily_summary::{DaySummary, FieldSum, PART_SIZE, PARTS_SIZE};
-use station_base::Stamp;
+use crate::dated_rows::measured;
+use daily_summary::{DaySummary, FieldSum, PART_SIZE, PARTS_SIZE, RunningSummary};
+use station_base::{Period, Stamp};
 use std::test::Fail;
 
 // 2024-07-01 as a word.
@@ -17,24 +18,43 @@ fn at(time: u16) -> Option<Stamp> {
     Stamp::from_words(FIRST_OF_JULY, time)
 }
 
-#[test]
-fn parts_are_read_and_written_back(rt: HostRuntime) -> Result<(), Fail> {
-    let sum = FieldSum {
+// The outside temperature of that day.
+fn sum_of_two_rows() -> Option<FieldSum> {
+    Some(FieldSum {
         least: 650,
-        least_at: at(5).ok_or("no stamp")?,
+        least_at: at(5)?,
         greatest: 671,
-        greatest_at: at(10).ok_or("no stamp")?,
+        greatest_at: at(10)?,
         sum: 1_321,
         count: 2,
         wsum: 396_300,
         sumtime: 600,
-    };
+    })
+}
+
+#[test]
+fn rows_are_added_up(rt: HostRuntime) -> Result<(), Fail> {
+    let interval = Period::from_minutes(5).ok_or("no period")?;
+    let mut day = RunningSummary::new();
+    assert!(rt; day.rows == 0);
+    day.add(&measured(&rt, (7, 1, 5), interval, 650));
+    day.add(&measured(&rt, (7, 1, 10), interval, 671));
+    let summary = day.summary();
+    assert!(rt; summary.rows == 2 && summary.fields[0] == sum_of_two_rows());
+    assert!(rt; summary.fields[1..].iter().all(|field| field.is_none()));
+    let mut first = [0; PART_SIZE];
+    first[..44].copy_from_slice(&ENTRY_OF_TWO_ROWS);
+    assert!(rt; day.part(0) == first && day.part(12) == [0; PART_SIZE]);
+    Ok(())
+}
+
+#[test]
+fn parts_are_read(rt: HostRuntime) -> Result<(), Fail> {
     let mut parts = [0; PARTS_SIZE];
     parts[..44].copy_from_slice(&ENTRY_OF_TWO_ROWS);
     let day = DaySummary::from_parts(2, &parts).ok_or("no summary")?;
-    assert!(rt; day.rows == 2 && day.fields[0] == Some(sum));
+    assert!(rt; day.rows == 2 && day.fields[0] == sum_of_two_rows());
     assert!(rt; day.fields[1..].iter().all(|field| field.is_none()));
-    assert!(rt; day.part(0)[..] == parts[..PART_SIZE] && day.part(12) == [0; PART_SIZE]);
     assert!(rt;
         DaySummary::from_parts(1, &parts).is_none(),
         "more values than rows"

@@ -1,4 +1,4 @@
-ghost use Rattle.std.specs.Prelude.{All, IfOk};
+ghost use Rattle.std.specs.Prelude.{All, IfOk, Some};
 ghost use Rattle.station_base.specs.FieldSet.{AreMissing};
 ghost use Rattle.station_base.specs.RowLine.{IsPrintable};
 ghost use Rattle.packed_rows.specs.Adding.{ArePrintable, AreLimited};
@@ -24,10 +24,19 @@ pub fn row_of(rt: &impl Abort, time: Time) -> Row
     ensures printable { All IsPrintable result.values }
     ensures limited { AreMissing result.limited result.values }
 {
+    measured(rt, time, Period::shortest(), 651)
+}
+
+// A row of so many tenths of a degree F outside.
+pub fn measured(rt: &impl Abort, time: Time, interval: Period, tenths: i32) -> Row
+    requires { IsPrintable (Some tenths) }
+    ensures printable { All IsPrintable result.values }
+    ensures limited { AreMissing result.limited result.values }
+{
     let mut row = Row::default();
     row.stamp = at(rt, time);
-    row.interval = Period::shortest();
-    row.values[OUTSIDE] = Some(651);
+    row.interval = interval;
+    row.values[OUTSIDE] = Some(tenths);
     row
 }
 

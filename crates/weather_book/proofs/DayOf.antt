@@ -11,6 +11,7 @@ use Rattle.station_base.specs.declared.row.Row.{Row}
 use Rattle.station_base.specs.declared.day.DayNumber.{DayNumber}
 use Rattle.station_base.specs.CivilMinute.{CivilMinute, archive_day_of}
 use Rattle.daily_summary.specs.Measured.{IsMeasured}
+use Rattle.daily_summary.specs.Running.{running_summary}
 use Rattle.daily_summary.specs.Summary.{is_of_day, rows_of_day, summary_of}
 use Rattle.daily_summary.proofs.Typed.{bounds_of, typed_of}
 use Rattle.packed_rows.specs.Closed.{IsClosedAt}
@@ -133,7 +134,7 @@ over day rows n up back is lt some =
 
 -- the day of the last row
 pub running_is : (entries : List DayEntry) (count : ℕ) (tail : Tail) (rows : List Row) (day : DayNumber) (end : ℕ) → KeepsOf entries count tail rows → end ≡ count_by (is_up_to day) rows → count ≤ end →
-    1 ≤ length (rows_of_day day.0 rows) → tail.running ≡ summary_of (rows_of_day day.0 rows)
+    1 ≤ length (rows_of_day day.0 rows) → running_summary tail.running ≡ summary_of (rows_of_day day.0 rows)
 running_is entries count tail rows day end keeps is all some =
     let most = count_by-le-length (is_up_to day) rows in
     let whole : count_by (is_up_to day) rows ≡ length rows = omega (arith, most, is, all, keeps.count_is) in

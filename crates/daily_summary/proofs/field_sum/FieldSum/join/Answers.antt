@@ -1,4 +1,4 @@
-use Rattle.std.proofs.Common.{rules, ◌≡◌, ◌∙◌, arith, refl, ◌+◌, ◌≤◌}
+use Rattle.std.proofs.Common.{rules, ◌≡◌, arith, refl, ◌+◌, ◌≤◌}
 use Rattle.std.specs.Prelude.{FitsSigned, ◌+ℤ◌, int_lt, if◌then◌else◌}
 use Rattle.std.specs.Int.{w32, w64}
 use Rattle.std.proofs.lemmas.Int.{to_z-of_z}
@@ -12,22 +12,17 @@ returns-clause-exact c =
     let a = c.args.self.now in let b = c.args.later.now in
     let small : a.count + b.count ≤ most_rows = c.requires.few in
     let sa = c.requires.earlier in let sb = c.requires.later in
-    let low = c.lower_to.ensures in let high = c.raise_to.ensures in
-    let sum = high.others.sum ∙ low.others.sum in
-    let count = high.others.count ∙ low.others.count in
-    let wsum = high.others.wsum ∙ low.others.wsum in
-    let sumtime = high.others.sumtime ∙ low.others.sumtime in
+    let low = c.keep_least.ensures in let high = c.keep_greatest.ensures in
     let bl : FitsSigned w32 b.least = search rules in
     let bg : FitsSigned w32 b.greatest = search rules in
-    let least : c.lower_to.new.self.least ≡ (if int_lt b.least a.least then b.least else a.least) = simp to_z-of_z at low.least in
-    let least_at : c.lower_to.new.self.least_at ≡ (if int_lt b.least a.least then b.least_at else a.least_at) = simp to_z-of_z at low.at in
-    let greatest : c.raise_to.new.self.greatest ≡ (if int_lt a.greatest b.greatest then b.greatest else a.greatest) = rw (low.others.greatest) at (simp to_z-of_z at high.greatest) in
-    let greatest_at : c.raise_to.new.self.greatest_at ≡ (if int_lt a.greatest b.greatest then b.greatest_at else a.greatest_at) = rw (low.others.greatest, low.others.greatest_at) at (simp to_z-of_z at high.at) in
+    let least : c.keep_least.new.least ≡ (if int_lt b.least a.least then b.least else a.least) = simp to_z-of_z at low.value in
+    let least_at : c.keep_least.new.least_at ≡ (if int_lt b.least a.least then b.least_at else a.least_at) = simp to_z-of_z at low.stamp in
+    let greatest : c.keep_greatest.new.greatest ≡ (if int_lt a.greatest b.greatest then b.greatest else a.greatest) = simp to_z-of_z at high.value in
+    let greatest_at : c.keep_greatest.new.greatest_at ≡ (if int_lt a.greatest b.greatest then b.greatest_at else a.greatest_at) = simp to_z-of_z at high.stamp in
     let f1 : FitsSigned w64 a.sum = fits_below a.sum _ sa.sum (omega arith) in
     let f2 : FitsSigned w64 b.sum = fits_below b.sum _ sb.sum (omega arith) in
     let f3 : FitsSigned w64 (a.sum +ℤ b.sum) = fits_below (a.sum +ℤ b.sum) _ (abs_add a.sum b.sum _ _ sa.sum sb.sum) (omega arith) in
     let g1 : FitsSigned w64 a.wsum = fits_below a.wsum _ sa.wsum (omega arith) in
     let g2 : FitsSigned w64 b.wsum = fits_below b.wsum _ sb.wsum (omega arith) in
     let g3 : FitsSigned w64 (a.wsum +ℤ b.wsum) = fits_below (a.wsum +ℤ b.wsum) _ (abs_add a.wsum b.wsum _ _ sa.wsum sb.wsum) (omega arith) in
-    same_sum _ _ (high.others.least ∙ least) (high.others.least_at ∙ least_at) greatest greatest_at
-    (rw sum (simp to_z-of_z)) (rw count refl) (rw wsum (simp to_z-of_z)) (rw sumtime refl)
+    same_sum _ _ least least_at greatest greatest_at (simp to_z-of_z) refl (simp to_z-of_z) refl

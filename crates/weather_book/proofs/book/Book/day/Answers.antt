@@ -17,6 +17,8 @@ use Rattle.weather_book.proofs.KeptLaws.{total_kept}
 use Rattle.packed_rows.specs.Rows.{as_read}
 use Rattle.std.proofs.Common.{map}
 use Rattle.gated_log.specs.Layout.{slot_size}
+use Rattle.daily_summary.proofs.RunningRows.{told_rows}
+use Rattle.packed_rows.proofs.TailLaws.{into_small}
 use Rattle.packed_rows.proofs.Versions.{closed_read}
 use Rattle.weather_book.proofs.book.Book.day.Goals as goal
 
@@ -30,7 +32,13 @@ pub returns-then-end-self-clause-summary : goal.returns-then-end-self-clause-sum
 returns-then-end-self-clause-summary g c rows stands x told =
     let day = c.args.day in let kept = c.args.self.now.kept in let keeps = stands.stands_for.keeps in
     let a = c.rows_before-first.ensures rows keeps in let b = c.rows_to-end.ensures rows keeps in let d = day_count day rows in
-    running_is kept.days.items kept.count kept.tail rows day c.rows_to-end.result keeps b c.if-end-self.true (omega (arith, a, b, d, c.if-end-first.false))
+    c.summary.ensures.summary ∙ running_is kept.days.items kept.count kept.tail rows day c.rows_to-end.result keeps b c.if-end-self.true (omega (arith, a, b, d, c.if-end-first.false))
+
+pub returns-then-end-self-clause-bounds : goal.returns-then-end-self-clause-bounds
+returns-then-end-self-clause-bounds g c =
+    let tail = c.args.self.now.kept.tail in
+    let rows = ap (λ (s : DaySummary). s.rows) c.summary.ensures.summary ∙ told_rows tail.running in
+    record { bounds = c.summary.ensures.bounds; rows = omega (arith, rows, tail.few, into_small tail.last) }
 
 pub returns-then-end-self-clause-none : goal.returns-then-end-self-clause-none
 returns-then-end-self-clause-none g c rows stands =
