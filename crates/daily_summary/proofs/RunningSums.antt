@@ -1,7 +1,8 @@
 -- A field while rows are added.
 use Rattle.std.proofs.Common.{◌≡◌, ℕ, ℤ, pos, negsuc, ◌+◌, ◌-◌, ◌*◌, ◌≤◌, Bool, true, false, Option, Some, None, refl, ap, sym, subst, ◌∙◌, arith}
-use Rattle.std.specs.Prelude.{◌+ℤ◌, ◌*ℤ◌, int_lt, nat_lt, IfSome, unsigned_abs, if◌then◌else◌}
-use Rattle.std.proofs.lemmas.Int.{ints}
+use Rattle.std.specs.Prelude.{◌+ℤ◌, ◌*ℤ◌, int_lt, nat_lt, FitsSigned, IfSome, unsigned_abs, if◌then◌else◌}
+use Rattle.std.specs.Int.{w32, w64}
+use Rattle.std.proofs.lemmas.Int.{ints, fits_signed_from_abs}
 use Rattle.std.proofs.lemmas.Bool.Decides.{nat_tests}
 use Rattle.station_base.specs.CivilMinute.{first_minute}
 use Rattle.station_base.specs.Period.{IsPeriod}
@@ -14,7 +15,7 @@ use Rattle.daily_summary.specs.Joined.{joined, merged, sum_of_row}
 use Rattle.daily_summary.specs.Running.{HasOneMore, FieldHasRoom, IsRunning, IsUnmeasured, running_sum}
 use Rattle.station_base.specs.Limits.{most_rows, farthest_value}
 use Rattle.daily_summary.proofs.JoinedSums.{same_sum}
-use Rattle.daily_summary.proofs.SumBounds.{both_sums, near, row_sum}
+use Rattle.daily_summary.proofs.SumBounds.{abs_add, both_sums, fits_below, near, row_sum}
 
 -- the field with one more value, of a row
 abbrev with_value : Row → ℤ → RunningField → RunningField
@@ -94,6 +95,31 @@ value_more row z f printable period = record {
   sum = λ rows total is. value_sum rows total row z f is printable;
   running = λ rows total is. value_running rows total row z f is printable period;
 }
+
+-- a value that is added fits 32 bits; as numbers of 64 bits it fits, and so do the seconds of its row, their product, and the sums
+pub record AreWithinWords (row : Row) (z : ℤ) (f : RunningField) : Type 0 where
+  pub narrow : FitsSigned w32 z
+  pub value : FitsSigned w64 z
+  pub seconds : FitsSigned w64 (pos (60 * row.interval))
+  pub product : FitsSigned w64 (z *ℤ pos (60 * row.interval))
+  pub sum : FitsSigned w64 f.sum
+  pub wsum : FitsSigned w64 f.wsum
+  pub sum_more : FitsSigned w64 (f.sum +ℤ z)
+  pub wsum_more : FitsSigned w64 (f.wsum +ℤ (z *ℤ pos (60 * row.interval)))
+
+pub within_words : (row : Row) (z : ℤ) (f : RunningField) → IsPrintable (Some z) → IsPeriod row.interval → FieldHasRoom f → AreWithinWords row z f
+within_words row z f printable period room =
+    let one = (row_sum row z printable period).sum_is in let n = 60 * row.interval in
+    record {
+      narrow = fits_signed_from_abs w32 z (omega (arith, one.sum));
+      value = fits_below z farthest_value one.sum (omega arith);
+      seconds = fits_below (pos n) n (omega arith) (omega (arith, one.longest));
+      product = fits_below (z *ℤ pos n) _ one.wsum (omega (arith, one.longest));
+      sum = fits_below f.sum _ room.sum (omega arith);
+      wsum = fits_below f.wsum _ room.wsum (omega arith);
+      sum_more = fits_below (f.sum +ℤ z) _ (abs_add f.sum z _ _ room.sum one.sum) (omega arith);
+      wsum_more = fits_below (f.wsum +ℤ (z *ℤ pos n)) _ (abs_add f.wsum (z *ℤ pos n) _ _ room.wsum one.wsum) (omega (arith, one.longest));
+    }
 
 near_told : (rows total : ℕ) (f : RunningField) → IsSumOf rows (told rows total f) → (unsigned_abs f.sum ≤ farthest_value * rows) × (unsigned_abs f.wsum ≤ farthest_value * total)
 unfolding told
