@@ -4,8 +4,8 @@
 
    It does by hand what `station report ARCHIVE rows FIRST LAST` does over all days: it follows the batches, judges each
    slot, and adds up each day to compare it with the slots that close it. It reads the file once, 1,024 slots at a time, and
-   so prints rows before it has judged those behind them. It is here to be measured against, and reads numbers as a
-   processor with the low byte first has them. */
+   so prints rows before it has judged those behind them. The log ends where the file does, and not at the first closed
+   gate. It is here to be measured against, and reads numbers as a processor with the low byte first has them. */
 #include <fcntl.h>
 #include <stdint.h>
 #include <string.h>
@@ -15,7 +15,7 @@
 
 enum { SLOT = 176, SLOTS = 1024, FIELDS = 37, PARTS = 13, SUMS = 3, GREATEST = 2000000 };
 enum { KIND = 1, BATCH = 2, DATE = 4, TIME = 6, MINUTES = 8, SPARE = 10, PRESENCE = 12, VALUES = 20, LIMITED = 168 };
-enum { ROW_KIND = 1, PART_KIND = 2, DAY = 4, PART = 8, ROWS = 12, PART_SUMS = 24 };
+enum { ROW_KIND = 1, PART_KIND = 2, DAY = 4, PART = 8, ROWS = 12, GAP = 16, PART_SUMS = 24, BEHIND_SUMS = 156 };
 enum { PIECE = 1 << 16, LINE = 1024 };
 enum { DONE = 0, NO_FILE = 8, WRITE_FAULT = 9, DAMAGED = 11 };
 
@@ -80,6 +80,11 @@ static int32_t day_of(unsigned date, unsigned time) {
     return 365 * year + year / 4 - year / 100 + year / 400 + from_march + (int32_t)(date % 32) - 719469 - (time == 0);
 }
 
+/* Whether a console can write a row each so many minutes. */
+static int is_period(unsigned minutes) {
+    return minutes == 5 || minutes == 1 || minutes == 10 || minutes == 15 || minutes == 30 || minutes == 60 || minutes == 120;
+}
+
 static void add_value(struct sum *sum, int32_t value, uint32_t at, uint32_t seconds) {
     if (sum->count == 0 || value < sum->least) {
         sum->least = value;
@@ -100,7 +105,7 @@ static int take_row(const uint8_t *slot) {
     unsigned date = word(slot + DATE), time = word(slot + TIME), minutes = word(slot + MINUTES);
     uint32_t stamp = (uint32_t)date << 16 | time;
     uint64_t presence = bits(slot + PRESENCE), limited = bits(slot + LIMITED);
-    if (stamp <= now.stamp || !is_stamp(date, time) || minutes == 0 || word(slot + SPARE) != 0)
+    if (stamp <= now.stamp || !is_stamp(date, time) || !is_period(minutes) || word(slot + SPARE) != 0)
         return 0;
     if (presence >> FIELDS != 0 || limited >> FIELDS != 0 || (presence & limited) != 0)
         return 0;
@@ -128,11 +133,14 @@ static int take_row(const uint8_t *slot) {
     return 1;
 }
 
-/* Whether the slot is the next of those that close the day. */
+/* Whether the slot is the next of those that close the day. A part's number has three bytes of 0 behind it. */
 static int take_part(const uint8_t *slot) {
+    static const uint8_t blank[SLOT - BEHIND_SUMS];
     const uint8_t *sums = (const uint8_t *)&now.sums[SUMS * now.parts];
-    int is_next = now.stamp != 0 && now.parts < PARTS && slot[PART] == now.parts && number(slot + DAY) == now.day
-        && (uint32_t)number(slot + ROWS) == now.rows && memcmp(slot + PART_SUMS, sums, SUMS * sizeof(struct sum)) == 0;
+    int is_next = now.stamp != 0 && now.parts < PARTS && number(slot + PART) == now.parts && number(slot + DAY) == now.day
+        && (uint32_t)number(slot + ROWS) == now.rows && memcmp(slot + GAP, blank, PART_SUMS - GAP) == 0
+        && memcmp(slot + PART_SUMS, sums, SUMS * sizeof(struct sum)) == 0
+        && memcmp(slot + BEHIND_SUMS, blank, sizeof blank) == 0;
     now.parts++;
     return is_next;
 }
