@@ -82,7 +82,7 @@ static int32_t day_of(unsigned date, unsigned time) {
 
 /* Whether a console can write a row each so many minutes. */
 static int is_period(unsigned minutes) {
-    return minutes == 5 || minutes == 1 || minutes == 10 || minutes == 15 || minutes == 30 || minutes == 60 || minutes == 120;
+    return minutes == 1 || minutes == 5 || minutes == 10 || minutes == 15 || minutes == 30 || minutes == 60 || minutes == 120;
 }
 
 static void add_value(struct sum *sum, int32_t value, uint32_t at, uint32_t seconds) {
